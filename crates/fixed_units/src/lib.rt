@@ -9,12 +9,16 @@
 //! - Change a number's rule: `specs/Numbers.antt`, then `src/numbers.rt`, then `rt check`.
 #![tactic(auto)]
 
+mod boxes;
 mod list;
 mod memory;
+mod numbers;
 mod steps;
 mod text;
 
+pub use boxes::MathBox;
 pub use list::List;
 pub use memory::Memory;
+pub use numbers::{Ratio, half, round};
 pub use steps::Steps;
 pub use text::Txt;

@@ -1,0 +1,5 @@
+pub mod Signed
+pub mod Products
+pub mod Rounding
+pub mod Within
+pub mod Worked
