@@ -1,0 +1,111 @@
+ghost use Rattle.std.specs.Prelude.{◌≡◌, ◌+◌};
+ghost use Rattle.doc_io.specs.Whole.{ConsumesAtMost, ReadsAll, ReadsRest, ReadsWithin, WritesAll};
+ghost use Rattle.doc_io.specs.declared.whole.ReadRefusal.TheVariants.{ReadFault, Memory as NoMemory};
+
+use crate::{Failed, Inputs, Sink};
+use fixed_units::{List, Memory};
+use std::alloc::Global;
+use thiserror::Error;
+
+/// Why a whole file wasn't read.
+#[derive(Clone, Copy, Debug, PartialEq, Eq, Error)]
+pub enum ReadRefusal {
+    /// A call of the inputs failed: a count of theirs rose.
+    #[error("a read failed")]
+    ReadFault,
+    /// The file has more bytes than the limit.
+    #[error("the file is too long")]
+    TooLong,
+    /// Memory was refused.
+    #[error("memory was refused")]
+    Memory,
+}
+
+impl From<Failed> for ReadRefusal {
+    ghost from_gives = { λ _ refusal. refusal ≡ ReadFault };
+
+    fn from(_: Failed) -> Self {
+        ReadRefusal::ReadFault
+    }
+}
+
+impl From<Memory> for ReadRefusal {
+    ghost from_gives = { λ _ refusal. refusal ≡ NoMemory };
+
+    fn from(_: Memory) -> Self {
+        ReadRefusal::Memory
+    }
+}
+
+/// A piece wasn't written whole: the sink's count of faults rose.
+#[derive(Clone, Copy, Debug, PartialEq, Eq, Error)]
+#[error("a write failed")]
+pub struct WriteFault;
+
+/// How many bytes one read asks for.
+const BLOCK: usize = 16384;
+
+/// The whole file of a name, which may have at most `limit` bytes.
+///
+/// It reads at most `limit + 1` bytes of the file, however long that is.
+pub fn read_all<I: Inputs>(
+    alloc: Global,
+    inputs: &mut I,
+    name: &str,
+    limit: usize,
+) -> Result<List<u8>, ReadRefusal>
+    ensures files { I.files inputs.new ≡ I.files inputs.old }
+    ensures reads { ReadsAll (I.files inputs.old) (I.faults inputs.old) (I.faults inputs.new)
+        (I.missing inputs.old) (I.missing inputs.new) name.now limit result }
+    ensures within { ReadsWithin (limit + 1) (I.files inputs.old) (I.rest inputs.new) name.now result }
+{
+    match inputs.select(name) {
+        Ok(()) => read_rest(alloc, inputs, limit),
+        Err(_) => Err(ReadRefusal::ReadFault),
+    }
+}
+
+/// Appends a whole piece to what was written. After a fault a front of it was written.
+pub fn write_all<O: Sink>(out: &mut O, bytes: &[u8]) -> Result<(), WriteFault>
+    ensures writes { WritesAll (O.written out.old) (O.written out.new)
+        (O.faults out.old) (O.faults out.new) bytes.now result }
+{
+    let mut at = 0;
+    while at < bytes.len() {
+        match out.write(&bytes[at..]) {
+            Ok(count) => at += count,
+            Err(_) => return Err(WriteFault),
+        }
+    }
+    Ok(())
+}
+
+/// What is left of the selected file, which may be at most `limit` bytes.
+fn read_rest<I: Inputs>(
+    alloc: Global,
+    inputs: &mut I,
+    limit: usize,
+) -> Result<List<u8>, ReadRefusal>
+    ensures files { I.files inputs.new ≡ I.files inputs.old }
+    ensures missing { I.missing inputs.new ≡ I.missing inputs.old }
+    ensures reads { ReadsRest (I.rest inputs.old) (I.faults inputs.old) (I.faults inputs.new) limit result }
+    ensures within { ConsumesAtMost (limit + 1) (I.rest inputs.old) (I.rest inputs.new) }
+{
+    let mut bytes = List::make(alloc);
+    let mut block = [0u8; BLOCK];
+    while bytes.len() < limit {
+        let want = (limit - bytes.len()).min(BLOCK);
+        let count = inputs.read(&mut block[..want])?;
+        if count == 0 {
+            return Ok(bytes);
+        }
+        bytes.push_all(&block[..count])?;
+    }
+    // Only one byte more tells a file of the limit's length from a longer one.
+    let mut one = [0u8; 1];
+    if inputs.read(&mut one)? == 0 {
+        Ok(bytes)
+    } else {
+        Err(ReadRefusal::TooLong)
+    }
+}
