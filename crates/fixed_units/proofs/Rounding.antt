@@ -33,6 +33,18 @@ floor_unique a q r k ql qh rl rh =
     (λ le. by_lt_z r q (λ l. let m : up r + down q + 1 ≤ up q + down r = omega (arith, signed) in absurd (omega (arith, mul-le-mul_right k m)))
     (λ ge. omega (arith, signed)))
 
+pub int_div_euclid_bounds : (a b : ℤ) → pos 0 <ℤ b → ((int_div_euclid a b *ℤ b) ≤ℤ a) × (a <ℤ (int_div_euclid a b *ℤ b +ℤ b))
+int_div_euclid_bounds a (pos k) h =
+    let p = int_div_euclid-parts a k (omega (arith, signed)) in
+    (omega (arith, signed, p), omega (arith, signed, p))
+int_div_euclid_bounds a (negsuc k) h = absurd (omega (arith, signed))
+
+pub int_div_euclid_unique : (a b q : ℤ) → pos 0 <ℤ b → (q *ℤ b) ≤ℤ a → a <ℤ (q *ℤ b +ℤ b) → q ≡ int_div_euclid a b
+int_div_euclid_unique a (pos k) q h low high =
+    let p = int_div_euclid-parts a k (omega (arith, signed)) in
+    floor_unique a q (int_div_euclid a (pos k)) k (omega (arith, signed)) (omega (arith, signed)) p.0 p.1
+int_div_euclid_unique a (negsuc k) q h low high = absurd (omega (arith, signed))
+
 -- ---- halves
 pub halved-parts : (n : ℤ)
     → (up (halved n) * 2 + down n ≤ down (halved n) * 2 + up n)
@@ -48,6 +60,9 @@ halved_unique n h is = omega (arith, signed, halved-parts)
 
 pub halved_only : (n h : ℤ) → IsHalf n h ↔ (h ≡ halved n)
 halved_only n h = (halved_unique n h, λ e. subst (IsHalf n) (sym e) (halved_is_half n))
+
+pub halved_at_most : (m n : ℤ) → m ≤ℤ n → halved m ≤ℤ halved n
+halved_at_most m n l = omega (arith, signed, halved-parts m, halved-parts n)
 
 -- ---- the nearest number
 pub rounded-parts : (a : ℤ) (k : ℕ) → 0 < k
@@ -83,6 +98,17 @@ rounded_only a b n h = (rounded_unique a b n h, λ e. subst (IsRound a b) (sym e
 pub rounded-*ℤ : (n b : ℤ) → pos 0 <ℤ b → rounded (n *ℤ b) b ≡ n
 rounded-*ℤ n (pos k) h = sym (rounded_unique_at (n *ℤ pos k) n k (omega (arith, signed)) (omega (arith, signed)) (omega (arith, signed)))
 rounded-*ℤ n (negsuc k) h = absurd (omega (arith, signed))
+
+-- what is larger is not rounded to less
+pub rounded_at_most : (m n k : ℤ) → pos 0 <ℤ k → m ≤ℤ n → rounded m k ≤ℤ rounded n k
+rounded_at_most a c (pos k) h le =
+    let p = rounded-parts a k (omega (arith, signed)) in
+    let q = rounded-parts c k (omega (arith, signed)) in
+    by_lt_z (rounded c (pos k)) (rounded a (pos k))
+    (λ l. let m : up (rounded c (pos k)) + down (rounded a (pos k)) + 1 ≤ up (rounded a (pos k)) + down (rounded c (pos k)) = omega (arith, signed) in
+    absurd (omega (arith, signed, p, q, mul-le-mul_right (2 * k) m)))
+    (λ enough. enough)
+rounded_at_most a c (negsuc k) h le = absurd (omega (arith, signed))
 
 -- ---- the way of the code: from the quotient rounded down and its remainder
 pub rounded_down : (a b q r : ℤ) → pos 0 <ℤ b → q ≡ int_div_euclid a b → r ≡ int_rem_euclid a b → r <ℤ (b -ℤ r) → q ≡ rounded a b

@@ -10,6 +10,7 @@
 #![tactic(auto)]
 
 mod boxes;
+pub mod laws;
 mod list;
 mod memory;
 mod numbers;

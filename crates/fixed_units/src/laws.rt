@@ -1,0 +1,52 @@
+// The laws of numbers that layout rests on. Each is a contract, so that it is proved; the functions
+// compute nothing. Proofs cite the lemmas of proofs/ from which they follow.
+ghost use Rattle.std.specs.Prelude.{◌≡◌, ◌↔◌, ℕ, ◌+◌, ◌*◌, ◌^◌, ◌<◌, max, ℤ, pos, ◌+ℤ◌, ◌-ℤ◌, ◌*ℤ◌, ◌≤ℤ◌, ◌<ℤ◌, FitsSigned};
+ghost use Rattle.std.specs.Int.{w64, w128, int_max, int_min};
+ghost use Rattle.fixed_units.specs.Numbers.{IsRound, IsHalf, IsWithin, rounded, halved};
+
+/// `rounded a b` is nearest to `a / b`, and no other number is.
+pub fn rounded_is_the_nearest()
+    ensures { (a b n : ℤ) → pos 0 <ℤ b → IsRound a b n ↔ (n ≡ rounded a b) }
+{}
+
+/// `halved n` is half of `n` rounded down, and no other number is.
+pub fn halved_is_the_half()
+    ensures { (n h : ℤ) → IsHalf n h ↔ (h ≡ halved n) }
+{}
+
+/// Rounding keeps order, and a quotient that is whole.
+pub fn rounding_keeps_order()
+    ensures rounded { (m n k : ℤ) → pos 0 <ℤ k → m ≤ℤ n → rounded m k ≤ℤ rounded n k }
+    ensures halved { (m n : ℤ) → m ≤ℤ n → halved m ≤ℤ halved n }
+    ensures whole { (n k : ℤ) → pos 0 <ℤ k → rounded (n *ℤ k) k ≡ n }
+{}
+
+/// Products distribute over sums and differences, and associate.
+pub fn products_distribute()
+    ensures sum { (k m n : ℤ) → k *ℤ (m +ℤ n) ≡ k *ℤ m +ℤ k *ℤ n }
+    ensures difference { (k m n : ℤ) → k *ℤ (m -ℤ n) ≡ k *ℤ m -ℤ k *ℤ n }
+    ensures associate { (k m n : ℤ) → k *ℤ m *ℤ n ≡ k *ℤ (m *ℤ n) }
+{}
+
+/// A positive factor keeps the order of two numbers and gives it back.
+pub fn products_keep_order()
+    ensures at_most { (m n k : ℤ) → pos 0 <ℤ k → (m ≤ℤ n) ↔ ((m *ℤ k) ≤ℤ (n *ℤ k)) }
+    ensures below { (m n k : ℤ) → pos 0 <ℤ k → (m <ℤ n) ↔ ((m *ℤ k) <ℤ (n *ℤ k)) }
+{}
+
+/// How far a result reaches, from how far its parts reach.
+pub fn results_stay_within()
+    ensures sum { (m n : ℕ) (a b : ℤ) → IsWithin m a → IsWithin n b → IsWithin (m + n) (a +ℤ b) }
+    ensures difference { (m n : ℕ) (a b : ℤ) → IsWithin m a → IsWithin n b → IsWithin (m + n) (a -ℤ b) }
+    ensures product { (m n : ℕ) (a b : ℤ) → IsWithin m a → IsWithin n b → IsWithin (m * n) (a *ℤ b) }
+    ensures larger { (m n : ℕ) (a b : ℤ) → IsWithin m a → IsWithin n b → IsWithin (max m n) (int_max a b) }
+    ensures smaller { (m n : ℕ) (a b : ℤ) → IsWithin m a → IsWithin n b → IsWithin (max m n) (int_min a b) }
+    ensures halved { (m : ℕ) (a : ℤ) → IsWithin m a → IsWithin m (halved a) }
+    ensures rounded { (m : ℕ) (a b : ℤ) → pos 0 <ℤ b → IsWithin m a → IsWithin m (rounded a b) }
+{}
+
+/// What reaches less far than a type's range fits the type.
+pub fn what_is_within_fits()
+    ensures fits_i64 { (m : ℕ) (a : ℤ) → IsWithin m a → m < 2 ^ 63 → FitsSigned w64 a }
+    ensures fits_i128 { (m : ℕ) (a : ℤ) → IsWithin m a → m < 2 ^ 127 → FitsSigned w128 a }
+{}
