@@ -1,0 +1,5 @@
+pub mod Kinds
+pub mod Trees
+pub mod Elements
+pub mod Short
+pub mod Reads
