@@ -1,1 +1,3 @@
 mod Worked
+mod Keys
+mod Shapes

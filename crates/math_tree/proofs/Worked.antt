@@ -4,7 +4,8 @@ use Rattle.std.specs.Prelude.{⊤}
 use Rattle.std.specs.Option.{option_and_then}
 use Rattle.serde_json.specs.Read.{read}
 use Rattle.serde_json.proofs.OnLiterals.{serde_json_on_literals}
-use Rattle.math_tree.specs.Elements.{name_in, text_in, children_in, has_only}
+use Rattle.math_tree.specs.Elements.{name_in, kind_in, text_in, children_in, has_only}
+use Rattle.math_tree.specs.Kinds.{kind_of}
 use Rattle.math_tree.specs.Short.{short_tree, short_number, is_short_text}
 use Rattle.math_tree.specs.Trees.{TreeValue, element}
 use Rattle.math_tree.specs.declared.kind.Kind.TheVariants.{Math, Mn}
@@ -15,7 +16,7 @@ tree_of_text text = option_and_then short_tree (read text)
 
 -- what a tree is computed by, from a literal text
 unfoldable on_literals : ⊤
-unfolding serde_json_on_literals name_in text_in children_in has_only short_tree short_number is_short_text
+unfolding serde_json_on_literals kind_of name_in kind_in text_in children_in has_only short_tree short_number is_short_text
 on_literals = tt
 
 -- a `math` alone has the id 1, and 2 comes next

@@ -5,10 +5,16 @@ use Rattle.std.specs.Option.{option_and_then, option_map_or}
 use Rattle.std.specs.Str.{bytes_eq}
 use Rattle.serde_json.specs.Data.{Data, null, boolean, number, string, array, object, Items, no_items, Members, no_members, member}
 use Rattle.serde_json.specs.Find.{get, as_str, as_array}
+use Rattle.math_tree.specs.Kinds.{kind_of}
+use Rattle.math_tree.specs.declared.kind.Kind.{Kind}
 
 -- the name, where it is a text
 unfoldable pub name_in : Data → Option (List ℕ)
 name_in value = option_and_then as_str (get (codes "name") value)
+
+-- the kind that the name decides, where there is a name and it is known
+unfoldable pub kind_in : Data → Option Kind
+kind_in value = option_and_then kind_of (name_in value)
 
 -- the text, where it is one; where the key is absent, the empty text
 unfoldable pub text_in : Data → Option (List ℕ)
@@ -34,4 +40,4 @@ keys_in (object members) = keys_of members
 
 -- each key of the value is one of these
 unfoldable pub has_only : List (List ℕ) → Data → Bool
-has_only known value = list_all (λ key. list_any (bytes_eq key) known) (keys_in value)
+has_only known value = list_all (λ key. list_any (λ name. bytes_eq name key) known) (keys_in value)

@@ -1,5 +1,5 @@
 -- The kinds of elements, which their names decide.
-use Rattle.std.specs.Prelude.{ℕ, List, [], ◌∷◌, Option, codes}
+use Rattle.std.specs.Prelude.{ℕ, List, [], ◌∷◌, Option, Bool, true, false, codes}
 use Rattle.std.specs.List.{find}
 use Rattle.std.specs.Option.{option_map}
 use Rattle.std.specs.Str.{bytes_eq}
@@ -15,3 +15,11 @@ kinds = (codes "math", Math)
 -- the kind that a name decides, where it is known; names are compared exactly
 unfoldable pub kind_of : List ℕ → Option Kind
 kind_of name = option_map (λ row. row.1) (find (λ row. bytes_eq row.0 name) kinds)
+
+abbrev pub is_math : Kind → Bool
+is_math Math = true
+is_math Mn = false
+
+abbrev pub is_number : Kind → Bool
+is_number Math = false
+is_number Mn = true

@@ -1,19 +1,20 @@
 -- The short trees: which JSON values they are, and the tree that each stands for.
 use Rattle.std.specs.Prelude.{ℕ, ◌+◌, ◌&&◌, nat_le, List, [], ◌∷◌, length, Bool, true, false, Option, Some, None, codes, if◌then◌else◌}
 use Rattle.std.specs.Option.{option_and_then, option_map, option_map_or}
-use Rattle.std.specs.Str.{bytes_eq}
 use Rattle.serde_json.specs.Data.{Data, Items, no_items, item}
-use Rattle.math_tree.specs.Elements.{name_in, text_in, children_in, has_only}
+use Rattle.math_tree.specs.Elements.{kind_in, text_in, children_in, has_only}
+use Rattle.math_tree.specs.Kinds.{is_math, is_number}
 use Rattle.math_tree.specs.Trees.{TreeValue, element}
+use Rattle.math_tree.specs.declared.kind.Kind.{Kind}
 use Rattle.math_tree.specs.declared.kind.Kind.TheVariants.{Math, Mn}
 use Rattle.math_tree.specs.declared.node.Node.{Node}
 
 -- ---- the values
 
--- an element of that name, with no key beside its name but this one
-abbrev pub is_element : List ℕ → List ℕ → Data → Bool
-is_element name key value =
-    option_map_or (bytes_eq name) (name_in value) false && has_only (codes "name" ∷ key ∷ []) value
+-- an element of such a kind, with no key beside its name but this one
+abbrev pub is_element : (Kind → Bool) → List ℕ → Data → Bool
+is_element is_such key value =
+    option_map_or is_such (kind_in value) false && has_only (codes "name" ∷ key ∷ []) value
 
 -- no character, or one from ! (U+0021) to ~ (U+007E)
 unfoldable pub is_short_text : List ℕ → Bool
@@ -43,7 +44,7 @@ short_number_with text = if is_short_text text then Some (number text) else None
 -- the `mn` that a value stands for: it may have a text, and has no other key beside its name
 unfoldable pub short_number : Data → Option Node
 short_number value =
-    if is_element (codes "mn") (codes "text") value
+    if is_element is_number (codes "text") value
     then option_and_then short_number_with (text_in value)
     else None
 
@@ -56,6 +57,6 @@ short_children (item child (item next more)) = None
 -- the tree that a value stands for: its `math` may have children, and has no other key beside its name
 unfoldable pub short_tree : Data → Option TreeValue
 short_tree value =
-    if is_element (codes "math") (codes "children") value
+    if is_element is_math (codes "children") value
     then option_map tree_over (option_and_then short_children (children_in value))
     else None

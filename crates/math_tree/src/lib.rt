@@ -11,6 +11,7 @@
 //! - Change what is a tree: `specs/Short.antt`, then `src/read.rt`, then `rt check`.
 #![tactic(auto)]
 
+mod element;
 mod kind;
 mod node;
 mod read;

@@ -1,5 +1,8 @@
+ghost use Rattle.std.specs.Prelude.{◌≡◌, IfOk};
+
 use crate::Kind;
-use fixed_units::{List, Txt};
+use fixed_units::{List, Memory, Txt};
+use std::alloc::Global;
 
 /// An element with its children, in document order.
 ///
@@ -25,3 +28,24 @@ pub struct Head {
 /// The number of an element in its tree. The root has 1, and no number is given twice.
 #[derive(Clone, Copy, Debug, PartialEq, Eq)]
 pub struct NodeId(pub u32);
+
+impl Head {
+    /// A head of copies of the texts.
+    pub(crate) fn make(
+        alloc: Global,
+        id: NodeId,
+        name: &str,
+        kind: Kind,
+        text: &str,
+    ) -> Result<Head, Memory>
+        ensures { IfOk result (λ head. head
+            ≡ record { id = id; name = name.now; kind = kind; text = text.now }) }
+    {
+        Ok(Head {
+            id,
+            name: Txt::make(alloc, name)?,
+            kind,
+            text: Txt::make(alloc, text)?,
+        })
+    }
+}

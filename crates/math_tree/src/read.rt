@@ -1,8 +1,12 @@
-ghost use Rattle.serde_json.specs.View.{view};
-ghost use Rattle.math_tree.specs.Short.{short_tree};
+ghost use Rattle.std.specs.Prelude.{◌≡◌, codes};
+ghost use Rattle.serde_json.specs.View.{view, items_view};
+ghost use Rattle.math_tree.specs.Kinds.{is_math, is_number};
 ghost use Rattle.math_tree.specs.Reads.{Reads};
+ghost use Rattle.math_tree.specs.Short.{short_tree, short_children, short_number, is_element, is_short_text};
 
-use crate::{Tree, TreeRefusal};
+use crate::element::{children_in, has_only, kind_in, text_in};
+use crate::{Head, Kind, Node, NodeId, Tree, TreeRefusal};
+use fixed_units::List;
 use serde_json::Value;
 use std::alloc::Global;
 
@@ -10,8 +14,72 @@ use std::alloc::Global;
 /// each before its children.
 ///
 /// It answers `Later` exactly where the value isn't a short tree.
+#[tactic(auto, unfolding(crate::specs::Short::short_tree))]
 pub fn read_tree(alloc: Global, value: &Value) -> Result<Tree, TreeRefusal>
     ensures reads { Reads (short_tree (view value.now)) result }
 {
-    Err(TreeRefusal::Memory)
+    if !is_plain_math(value) {
+        return Err(TreeRefusal::Later);
+    }
+    let Some(values) = children_in(value) else {
+        return Err(TreeRefusal::Later);
+    };
+    let children = read_children(alloc, values)?;
+    let next_id = 2 + children.len() as u64;
+    let head = Head::make(alloc, NodeId(1), "math", Kind::Math, "")?;
+    Ok(Tree::whole(Node { head, children }, next_id))
+}
+
+/// Reads the children of the root, of which there may be one.
+fn read_children(alloc: Global, values: &[Value]) -> Result<List<Node>, TreeRefusal>
+    ensures { Reads (short_children (items_view values.now)) result }
+{
+    let mut children = List::make(alloc);
+    match values {
+        [] => Ok(children),
+        [value] => {
+            children.push(read_number(alloc, value)?)?;
+            Ok(children)
+        }
+        _ => Err(TreeRefusal::Later),
+    }
+}
+
+/// Reads the root's child, which is an `mn` with a text of one character at most.
+#[tactic(auto, unfolding(crate::specs::Short::short_number))]
+fn read_number(alloc: Global, value: &Value) -> Result<Node, TreeRefusal>
+    ensures { Reads (short_number (view value.now)) result }
+{
+    if !is_plain_number(value) {
+        return Err(TreeRefusal::Later);
+    }
+    match text_in(value) {
+        Some(text) if is_short(text) => Ok(Node {
+            head: Head::make(alloc, NodeId(2), "mn", Kind::Mn, text)?,
+            children: List::make(alloc),
+        }),
+        _ => Err(TreeRefusal::Later),
+    }
+}
+
+/// Whether the value is a `math` with no key beside its name but that of its children.
+fn is_plain_math(value: &Value) -> bool
+    ensures { result ≡ is_element is_math (codes "children") (view value.now) }
+{
+    matches!(kind_in(value), Some(Kind::Math)) && has_only(value, &["name", "children"])
+}
+
+/// Whether the value is an `mn` with no key beside its name but that of its text.
+fn is_plain_number(value: &Value) -> bool
+    ensures { result ≡ is_element is_number (codes "text") (view value.now) }
+{
+    matches!(kind_in(value), Some(Kind::Mn)) && has_only(value, &["name", "text"])
+}
+
+/// Whether the text is empty or one character from `!` to `~`.
+#[tactic(auto, unfolding(crate::specs::Short::is_short_text))]
+fn is_short(text: &str) -> bool
+    ensures { result ≡ is_short_text text.now }
+{
+    matches!(text.as_bytes(), [] | [b'!'..=b'~'])
 }

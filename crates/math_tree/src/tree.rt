@@ -1,5 +1,5 @@
 ghost use Rattle.std.specs.Prelude.{◌≡◌};
-ghost use Rattle.math_tree.specs.Trees.{IsShortRoot};
+ghost use Rattle.math_tree.specs.Trees.{IsShortRoot, IsShortTree};
 
 use crate::Node;
 use std::marker::Model;
@@ -28,6 +28,14 @@ impl Model for Tree {
 }
 
 impl Tree {
+    /// The tree of a root and the next id, which fit each other.
+    pub(crate) fn whole(root: Node, next_id: u64) -> Tree
+        requires { IsShortTree (record { root = root; next_id = next_id }) }
+        ensures { result ≡ record { root = root; next_id = next_id } }
+    {
+        Tree { root, next_id }
+    }
+
     /// The `math` element at the top.
     pub fn root(&self) -> &Node
         ensures exact { result.now ≡ self.now.root }
