@@ -1,0 +1,9 @@
+use Rattle.std.proofs.Common.{◌∙◌, ap}
+use Rattle.font_metrics.specs.Metrics.{place_of_name}
+use Rattle.font_metrics.proofs.Tables.{key_place}
+use Rattle.font_metrics.proofs.glyphs.GlyphTable.place.Goals as goal
+
+pub returns : goal.returns
+returns c =
+    c.get_index_of.ensures.index ∙ key_place c.args.name.now c.self.inside.measures.entries
+    ∙ ap (λ l. place_of_name l c.args.name.now) c.self.view_is

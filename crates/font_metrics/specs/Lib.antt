@@ -1,0 +1,6 @@
+pub mod Metrics
+pub mod Words
+pub mod Short
+pub mod Reads
+pub mod Kept
+pub mod Whole
