@@ -96,3 +96,6 @@ impl<T: Copy> List<T> {
         Ok(List { items })
     }
 }
+
+#[cfg(test)]
+mod tests;
