@@ -10,8 +10,10 @@
 //! - Change what inputs promise: `specs/Causes.antt`, then `src/traits.rt`, then `rt check`.
 #![tactic(auto)]
 
+mod edge;
 mod traits;
 mod whole;
 
+pub use edge::{FileInputs, StdSink};
 pub use traits::{Failed, Inputs, Sink};
 pub use whole::{ReadRefusal, WriteFault, read_all, write_all};
