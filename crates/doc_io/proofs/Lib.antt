@@ -1,2 +1,5 @@
 pub mod Known
 pub mod Within
+pub mod Cuts
+pub mod MemoryFiles
+pub mod MemoryCalls

@@ -1,3 +1,5 @@
 pub mod Causes
 pub mod Whole
+pub mod MemoryInputs
+pub mod MemorySink
 pub mod Edge

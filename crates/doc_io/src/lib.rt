@@ -11,9 +11,13 @@
 #![tactic(auto)]
 
 mod edge;
+mod memory_inputs;
+mod memory_sink;
 mod traits;
 mod whole;
 
 pub use edge::{FileInputs, StdSink};
+pub use memory_inputs::MemoryInputs;
+pub use memory_sink::MemorySink;
 pub use traits::{Failed, Inputs, Sink};
 pub use whole::{ReadRefusal, WriteFault, read_all, write_all};

@@ -1,0 +1,103 @@
+-- Inputs in memory: what they hold, and what a select and a read do to it.
+use Rattle.std.specs.Prelude.{◌≡◌, ℕ, ◌+◌, ◌-◌, ◌<◌, ◌≤◌, ◌==◌, min, nat_lt, if◌then◌else◌, Bool, true, false, List, [], ◌∷◌, ◌++◌, length, take, drop, slice_get, Result, Option, Some, None, IsOk, IsErr, unwrap_or, refl}
+use Rattle.std.specs.Coded.{Coded, code_by, coded×, coded_ℕ, coded_list, coded_option}
+use Rattle.std.specs.Option.{option_map, option_and_then}
+use Rattle.std.specs.Ordering.{nat_cmp}
+use Rattle.std.specs.declared.cmp.Ordering.{Ordering}
+use Rattle.std.specs.Cmp.Lexicographic.{slice_cmp}
+use Rattle.std.specs.List.{AllByRecursion, list_any}
+use Rattle.std.specs.Result.{IsOkAnd}
+use Rattle.std.specs.FinMap.{FinMap, code, get, insert}
+use Rattle.doc_io.specs.Causes.{raised}
+use Rattle.doc_io.specs.declared.memory_inputs.Named.{Named}
+
+-- names are told apart by their bytes
+abbrev pub name_cmp : List ℕ → List ℕ → Ordering
+name_cmp = slice_cmp nat_cmp
+
+-- bytes by name
+abbrev pub FileMap : Type 0
+FileMap = FinMap name_cmp (List ℕ)
+
+-- the files by name; where a read stops, and the numbers of the calls that fail; the calls so far;
+-- the bytes of the selected file, and how many of them were read; the two counts
+pub record FilesInMemory : Type 0 where
+  pub files : FileMap
+  pub cuts : List ℕ
+  pub failing : List ℕ
+  pub calls : ℕ
+  pub selected : Option (List ℕ)
+  pub place : ℕ
+  pub faults : ℕ
+  pub missing : ℕ
+
+abbrev pub inputs_code : Coded FilesInMemory
+inputs_code =
+    code_by _ (coded× (code (coded_list coded_ℕ) (coded_list coded_ℕ)) (coded× (coded_list coded_ℕ) (coded× (coded_list coded_ℕ) (coded× coded_ℕ
+    (coded× (coded_option (coded_list coded_ℕ)) (coded× coded_ℕ (coded× coded_ℕ coded_ℕ)))))))
+    (λ m. (m.files, (m.cuts, (m.failing, (m.calls, (m.selected, (m.place, (m.faults, m.missing))))))))
+    (λ p. record {
+      files = p.0;
+      cuts = p.1.0;
+      failing = p.1.1.0;
+      calls = p.1.1.1.0;
+      selected = p.1.1.1.1.0;
+      place = p.1.1.1.1.1.0;
+      faults = p.1.1.1.1.1.1.0;
+      missing = p.1.1.1.1.1.1.1;
+    })
+    (λ _. refl)
+
+-- files put in one after another, each in place of an earlier one of its name
+abbrev pub put_in : FileMap → List Named → FileMap
+put_in files [] = files
+put_in files (file ∷ later) = put_in (insert files file.name file.bytes) later
+
+-- the bytes of the file that stands at a place, if one does
+abbrev pub bytes_at : List Named → Option ℕ → Option (List ℕ)
+bytes_at files place = option_and_then (λ index. option_map (λ file. file.bytes) (slice_get files index)) place
+
+-- what is left of the selected file; nothing, where none is selected
+abbrev pub left_in : FilesInMemory → List ℕ
+left_in m = drop m.place (unwrap_or m.selected [])
+
+-- whether the next call has a number that fails
+abbrev pub fails_next : List ℕ → ℕ → Bool
+fails_next failing calls = list_any (λ number. number == raised calls) failing
+
+-- after one call more
+abbrev pub called : FilesInMemory → FilesInMemory
+called m = record m { calls = raised m.calls }
+
+-- after one call more, and with no file selected
+abbrev pub deselected : FilesInMemory → FilesInMemory
+deselected m = record (called m) { selected = None; place = 0 }
+
+-- a name that no file has is missing, whatever the call's number; else the call fails by its number
+pub record SelectsInMemory {E : Type 0} (old new : FilesInMemory) (name : List ℕ) (result : Result (Unit {0}) E) : Type 0 where
+  pub absent : get old.files name ≡ None → IsErr result × (new ≡ record (deselected old) { missing = raised old.missing })
+  pub failing : (bytes : List ℕ) → get old.files name ≡ Some bytes → fails_next old.failing old.calls ≡ true →
+      IsErr result × (new ≡ record (deselected old) { faults = raised old.faults })
+  pub found : (bytes : List ℕ) → get old.files name ≡ Some bytes → fails_next old.failing old.calls ≡ false →
+      IsOk result × (new ≡ record (called old) { selected = Some bytes; place = 0 })
+
+-- the greatest number that has a property
+pub record IsGreatest (P : ℕ → Type 0) (n : ℕ) : Type 0 where
+  pub holds : P n
+  pub above : (m : ℕ) → P m → m ≤ n
+
+-- no cut lies strictly inside the n bytes from a place on
+abbrev pub IsUncut : List ℕ → ℕ → ℕ → Type 0
+IsUncut cuts place n = AllByRecursion (λ cut. place < cut → place + n ≤ cut) cuts
+
+-- a call fails by its number; else a read gives the longest front of what is left that fits and is uncut
+pub record ReadsInMemory {E : Type 0} (old new : FilesInMemory) (into into' : List ℕ) (result : Result ℕ E) : Type 0 where
+  pub failing : fails_next old.failing old.calls ≡ true → IsErr result × (new ≡ record (called old) { faults = raised old.faults })
+  pub longest : fails_next old.failing old.calls ≡ false →
+      IsOkAnd result (IsGreatest (λ n. (n ≤ min (length (left_in old)) (length into)) × IsUncut old.cuts old.place n))
+  pub given : fails_next old.failing old.calls ≡ false → IsOkAnd result (λ n. into' ≡ take n (left_in old) ++ drop n into)
+  pub moved : fails_next old.failing old.calls ≡ false → IsOkAnd result (λ n. new ≡ record (called old) { place = old.place + n })
+
+-- as many bytes from a place on as there are before a cut that lies ahead, and at most so many
+abbrev pub before_cut_of : ℕ → ℕ → ℕ → ℕ
+before_cut_of place most cut = if nat_lt place cut then min most (cut - place) else most

@@ -1,0 +1,35 @@
+-- A sink in memory: what it holds, and what a write does to it.
+use Rattle.std.specs.Prelude.{◌≡◌, ℕ, ◌-◌, ◌||◌, min, nat_le, Bool, true, false, List, ◌++◌, length, take, Result, Ok, IsErr, refl}
+use Rattle.std.specs.Coded.{Coded, code_by, coded×, coded_ℕ, coded_list}
+use Rattle.doc_io.specs.Causes.{raised}
+use Rattle.doc_io.specs.MemoryInputs.{fails_next}
+
+-- the bytes written, and how many there is room for; the numbers of the calls that fail; the calls
+-- so far, and how many of them failed
+pub record BytesInMemory : Type 0 where
+  pub bytes : List ℕ
+  pub room : ℕ
+  pub failing : List ℕ
+  pub calls : ℕ
+  pub faults : ℕ
+
+abbrev pub sink_code : Coded BytesInMemory
+sink_code =
+    code_by _ (coded× (coded_list coded_ℕ) (coded× coded_ℕ (coded× (coded_list coded_ℕ) (coded× coded_ℕ coded_ℕ))))
+    (λ s. (s.bytes, (s.room, (s.failing, (s.calls, s.faults)))))
+    (λ p. record { bytes = p.0; room = p.1.0; failing = p.1.1.0; calls = p.1.1.1.0; faults = p.1.1.1.1 })
+    (λ _. refl)
+
+-- whether the next call fails: by its number, or since no room is left
+abbrev pub write_fails : BytesInMemory → Bool
+write_fails s = fails_next s.failing s.calls || nat_le s.room (length s.bytes)
+
+-- how many bytes of a piece still fit
+abbrev pub fitting : BytesInMemory → List ℕ → ℕ
+fitting s piece = min (length piece) (s.room - length s.bytes)
+
+-- a call that must fail raises the faults; any other appends as many bytes of the piece as fit
+pub record WritesInMemory {E : Type 0} (old new : BytesInMemory) (piece : List ℕ) (result : Result ℕ E) : Type 0 where
+  pub failing : write_fails old ≡ true → IsErr result × (new ≡ record old { calls = raised old.calls; faults = raised old.faults })
+  pub taken : write_fails old ≡ false → (result ≡ Ok (fitting old piece))
+      × (new ≡ record old { calls = raised old.calls; bytes = old.bytes ++ take (fitting old piece) piece })
