@@ -14,10 +14,7 @@ use serde_json::Value;
 pub fn kind_in(value: &Value) -> Option<Kind>
     ensures { result ≡ kind_in (view value.now) }
 {
-    match name_in(value) {
-        Some(name) => Kind::of_name(name),
-        None => None,
-    }
+    name_in(value).and_then(Kind::of_name)
 }
 
 /// The name, where it is a text.
@@ -25,10 +22,7 @@ pub fn kind_in(value: &Value) -> Option<Kind>
 fn name_in(value: &Value) -> Option<&str>
     ensures { option_map (λ name. name.now) result ≡ name_in (view value.now) }
 {
-    match value.get("name") {
-        Some(name) => name.as_str(),
-        None => None,
-    }
+    value.get("name").and_then(Value::as_str)
 }
 
 /// The text, where it is one; where the key is absent, the empty text.
@@ -36,10 +30,7 @@ fn name_in(value: &Value) -> Option<&str>
 pub fn text_in(value: &Value) -> Option<&str>
     ensures { option_map (λ text. text.now) result ≡ text_in (view value.now) }
 {
-    match value.get("text") {
-        Some(text) => text.as_str(),
-        None => Some(""),
-    }
+    value.get("text").map_or(Some(""), Value::as_str)
 }
 
 /// The children, where they are an array; where the key is absent, none.

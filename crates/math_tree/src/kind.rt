@@ -14,7 +14,7 @@ pub enum Kind {
 impl Kind {
     /// The kind that a name decides, where the name is known. Names are compared exactly.
     #[tactic(auto, unfolding(crate::specs::Kinds::kind_of))]
-    pub fn of_name(name: &str) -> Option<Kind>
+    pub(crate) fn of_name(name: &str) -> Option<Kind>
         ensures { result ≡ kind_of name.now }
     {
         match name {

@@ -16,6 +16,8 @@ mod kind;
 mod node;
 mod read;
 mod refusal;
+#[cfg(test)]
+mod tests;
 mod tree;
 
 pub use kind::Kind;

@@ -14,7 +14,7 @@ use std::alloc::Global;
 /// each before its children.
 ///
 /// It answers `Later` exactly where the value isn't a short tree.
-#[tactic(auto, unfolding(crate::specs::Short::short_tree))]
+#[tactic(auto, using(crate::proofs::Shapes::tree_is_short), unfolding(crate::specs::Short::short_tree))]
 pub fn read_tree(alloc: Global, value: &Value) -> Result<Tree, TreeRefusal>
     ensures reads { Reads (short_tree (view value.now)) result }
 {
@@ -31,6 +31,7 @@ pub fn read_tree(alloc: Global, value: &Value) -> Result<Tree, TreeRefusal>
 }
 
 /// Reads the children of the root, of which there may be one.
+#[tactic(auto, using(crate::proofs::Shapes::two_children))]
 fn read_children(alloc: Global, values: &[Value]) -> Result<List<Node>, TreeRefusal>
     ensures { Reads (short_children (items_view values.now)) result }
 {
