@@ -1,26 +1,18 @@
 -- The longest front that no cut stops.
 use Rattle.std.proofs.Common.{◌≡◌, ℕ, ◌+◌, ◌<◌, ◌≤◌, min, List, [], ◌∷◌, length, arith, refl}
-use Rattle.std.proofs.lemmas.Bool.Decides.{nat_tests}
-use Rattle.std.specs.List.{fold}
-use Rattle.doc_io.specs.MemoryInputs.{IsGreatest, IsUncut, before_cut_of}
+use Rattle.doc_io.specs.MemoryInputs.{IsGreatest, IsUncut}
 
--- one cut lets through all that stands before it, and no more
-one_cut : (place most cut : ℕ) → IsGreatest (λ n. (n ≤ most) × (place < cut → place + n ≤ cut)) (before_cut_of place most cut)
-one_cut place most cut = record {
-  holds = (grind (arith, nat_tests), λ ahead. grind (arith, nat_tests));
-  above = λ n h. grind (arith, nat_tests);
+-- before the first of some cuts and then before the others
+pub greatest_cons : (place most next cut : ℕ) (cuts : List ℕ) (n : ℕ) → IsGreatest (λ n. (n ≤ most) × (place < cut → place + n ≤ cut)) next →
+    IsGreatest (λ n. (n ≤ next) × IsUncut cuts place n) n → IsGreatest (λ n. (n ≤ most) × IsUncut (cut ∷ cuts) place n) n
+greatest_cons place most next cut cuts n first others = record {
+  holds = (omega (arith, first.holds.0, others.holds.0), (λ ahead. omega (arith, first.holds.1 ahead, others.holds.0), others.holds.1));
+  above = λ m h. others.above m (first.above m (h.0, h.1.0), h.1.1);
 }
 
--- cuts taken one after another let through the longest front that none of them stops
-pub fold-before_cut : (place most : ℕ) (cuts : List ℕ) → IsGreatest (λ n. (n ≤ most) × IsUncut cuts place n) (fold (before_cut_of place) most cuts)
-fold-before_cut place most [] = record { holds = (omega arith, tt); above = λ n h. h.0 }
-fold-before_cut place most (cut ∷ cuts) =
-    let one = one_cut place most cut in
-    let rest = fold-before_cut place (before_cut_of place most cut) cuts in
-    record {
-      holds = (omega (arith, one.holds.0, rest.holds.0), (λ ahead. omega (arith, one.holds.1 ahead, rest.holds.0), rest.holds.1));
-      above = λ n h. rest.above n (one.above n (h.0, h.1.0), h.1.1);
-    }
+-- no cut is left to stop them
+pub greatest_nil : (place most : ℕ) → IsGreatest (λ n. (n ≤ most) × IsUncut [] place n) most
+greatest_nil place most = record { holds = (omega arith, tt); above = λ m h. h.0 }
 
 -- no cut stops the first byte
 uncut_one : (cuts : List ℕ) (place : ℕ) → IsUncut cuts place 1

@@ -46,9 +46,7 @@ pub reads_given : {E : Type 0} (old : FilesInMemory) (into into' : List ℕ) (n 
     ReadsInMemory {E = E} old (record (called old) { place = old.place + n }) into into' (Ok n)
 reads_given old into into' n spared longest given = record {
   failing = λ fails. absurd (cc);
-  longest = λ _. longest;
-  given = λ _. given;
-  moved = λ _. refl;
+  gives = λ _. record { longest = longest; given = given; after = refl };
 }
 
 -- the bytes given are a front of what was left, and what is left now is the rest

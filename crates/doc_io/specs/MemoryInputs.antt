@@ -1,5 +1,5 @@
 -- Inputs in memory: what they hold, and what a select and a read do to it.
-use Rattle.std.specs.Prelude.{◌≡◌, ℕ, ◌+◌, ◌-◌, ◌<◌, ◌≤◌, ◌==◌, min, nat_lt, if◌then◌else◌, Bool, true, false, List, [], ◌∷◌, ◌++◌, length, take, drop, slice_get, Result, Option, Some, None, IsOk, IsErr, unwrap_or, refl}
+use Rattle.std.specs.Prelude.{◌≡◌, ℕ, ◌+◌, ◌<◌, ◌≤◌, ◌==◌, min, Bool, true, false, List, [], ◌∷◌, ◌++◌, length, take, drop, slice_get, Result, Option, Some, None, IsOk, IsErr, unwrap_or, refl}
 use Rattle.std.specs.Coded.{Coded, code_by, coded×, coded_ℕ, coded_list, coded_option}
 use Rattle.std.specs.Option.{option_map, option_and_then}
 use Rattle.std.specs.Ordering.{nat_cmp}
@@ -74,8 +74,10 @@ abbrev pub deselected : FilesInMemory → FilesInMemory
 deselected m = record (called m) { selected = None; place = 0 }
 
 -- a name that no file has is missing, whatever the call's number; else the call fails by its number
-pub record SelectsInMemory {E : Type 0} (old new : FilesInMemory) (name : List ℕ) (result : Result (Unit {0}) E) : Type 0 where
-  pub absent : get old.files name ≡ None → IsErr result × (new ≡ record (deselected old) { missing = raised old.missing })
+pub record SelectsInMemory {E : Type 0} (old new : FilesInMemory) (name : List ℕ)
+    (result : Result (Unit {0}) E) : Type 0 where
+  pub absent : get old.files name ≡ None →
+      IsErr result × (new ≡ record (deselected old) { missing = raised old.missing })
   pub failing : (bytes : List ℕ) → get old.files name ≡ Some bytes → fails_next old.failing old.calls ≡ true →
       IsErr result × (new ≡ record (deselected old) { faults = raised old.faults })
   pub found : (bytes : List ℕ) → get old.files name ≡ Some bytes → fails_next old.failing old.calls ≡ false →
@@ -90,14 +92,15 @@ pub record IsGreatest (P : ℕ → Type 0) (n : ℕ) : Type 0 where
 abbrev pub IsUncut : List ℕ → ℕ → ℕ → Type 0
 IsUncut cuts place n = AllByRecursion (λ cut. place < cut → place + n ≤ cut) cuts
 
--- a call fails by its number; else a read gives the longest front of what is left that fits and is uncut
-pub record ReadsInMemory {E : Type 0} (old new : FilesInMemory) (into into' : List ℕ) (result : Result ℕ E) : Type 0 where
-  pub failing : fails_next old.failing old.calls ≡ true → IsErr result × (new ≡ record (called old) { faults = raised old.faults })
-  pub longest : fails_next old.failing old.calls ≡ false →
-      IsOkAnd result (IsGreatest (λ n. (n ≤ min (length (left_in old)) (length into)) × IsUncut old.cuts old.place n))
-  pub given : fails_next old.failing old.calls ≡ false → IsOkAnd result (λ n. into' ≡ take n (left_in old) ++ drop n into)
-  pub moved : fails_next old.failing old.calls ≡ false → IsOkAnd result (λ n. new ≡ record (called old) { place = old.place + n })
+-- a read gives the longest front of what is left that fits into the slice and is uncut
+pub record GivesLongest (old new : FilesInMemory) (into into' : List ℕ) (n : ℕ) : Type 0 where
+  pub longest : IsGreatest (λ n. (n ≤ min (length (left_in old)) (length into)) × IsUncut old.cuts old.place n) n
+  pub given : into' ≡ take n (left_in old) ++ drop n into
+  pub after : new ≡ record (called old) { place = old.place + n }
 
--- as many bytes from a place on as there are before a cut that lies ahead, and at most so many
-abbrev pub before_cut_of : ℕ → ℕ → ℕ → ℕ
-before_cut_of place most cut = if nat_lt place cut then min most (cut - place) else most
+-- a read fails by the call's number alone
+pub record ReadsInMemory {E : Type 0} (old new : FilesInMemory) (into into' : List ℕ)
+    (result : Result ℕ E) : Type 0 where
+  pub failing : fails_next old.failing old.calls ≡ true →
+      IsErr result × (into' ≡ into) × (new ≡ record (called old) { faults = raised old.faults })
+  pub gives : fails_next old.failing old.calls ≡ false → IsOkAnd result (GivesLongest old new into into')

@@ -1,6 +1,5 @@
 -- A sink in memory: what it holds, and what a write does to it.
-use Rattle.std.specs.Prelude.{◌≡◌, ℕ, ◌-◌, ◌||◌, min, nat_le, Bool, true, false, List, ◌++◌, length, take, Result, Ok, IsErr, refl}
-use Rattle.std.specs.Coded.{Coded, code_by, coded×, coded_ℕ, coded_list}
+use Rattle.std.specs.Prelude.{◌≡◌, ℕ, ◌-◌, ◌||◌, min, nat_le, Bool, true, false, List, ◌++◌, length, take, Result, Ok, IsErr}
 use Rattle.doc_io.specs.Causes.{raised}
 use Rattle.doc_io.specs.MemoryInputs.{fails_next}
 
@@ -12,13 +11,6 @@ pub record BytesInMemory : Type 0 where
   pub failing : List ℕ
   pub calls : ℕ
   pub faults : ℕ
-
-abbrev pub sink_code : Coded BytesInMemory
-sink_code =
-    code_by _ (coded× (coded_list coded_ℕ) (coded× coded_ℕ (coded× (coded_list coded_ℕ) (coded× coded_ℕ coded_ℕ))))
-    (λ s. (s.bytes, (s.room, (s.failing, (s.calls, s.faults)))))
-    (λ p. record { bytes = p.0; room = p.1.0; failing = p.1.1.0; calls = p.1.1.1.0; faults = p.1.1.1.1 })
-    (λ _. refl)
 
 -- whether the next call fails: by its number, or since no room is left
 abbrev pub write_fails : BytesInMemory → Bool

@@ -4,7 +4,7 @@ ghost use Rattle.std.specs.Io.{ReadsAtMost};
 ghost use Rattle.std.specs.Io.KnownBytes.{ReadConsumes};
 ghost use Rattle.std.specs.FinMap as map;
 ghost use Rattle.doc_io.specs.Causes.{HasCause, Selects};
-ghost use Rattle.doc_io.specs.MemoryInputs.{IsGreatest, IsUncut, ReadsInMemory, SelectsInMemory, before_cut_of, bytes_at, left_in, put_in};
+ghost use Rattle.doc_io.specs.MemoryInputs.{IsGreatest, IsUncut, ReadsInMemory, SelectsInMemory, bytes_at, left_in, put_in};
 
 use crate::{Failed, Inputs};
 use fixed_units::{List, Memory, Txt};
@@ -217,12 +217,16 @@ fn give(left: &[u8], cuts: &[u64], place: usize, into: &mut [u8]) -> usize
 fn uncut(cuts: &[u64], place: usize, most: usize) -> usize
     ensures { IsGreatest (λ n. (n ≤ most) × IsUncut cuts.now place n) result }
 {
-    cuts.iter()
-        .fold(most, |count, cut| before_cut(place, count, *cut))
+    let mut count = most;
+    for cut in cuts {
+        count = before_cut(*cut, place, count);
+    }
+    count
 }
 
-fn before_cut(place: usize, most: usize, cut: u64) -> usize
-    ensures { result ≡ before_cut_of place most cut }
+/// As many bytes from a place on as stand before a cut, if it lies ahead, and at most `most`.
+fn before_cut(cut: u64, place: usize, most: usize) -> usize
+    ensures { IsGreatest (λ n. (n ≤ most) × (place < cut → place + n ≤ cut)) result }
 {
     let place = place as u64;
     if place < cut {

@@ -21,11 +21,9 @@ pub struct MemorySink {
 
 impl Model for MemorySink {
     ghost use Rattle.std.specs.Prelude.{◌≤◌, vec_capacity, vec_len};
-    ghost use Rattle.doc_io.specs.MemorySink.{BytesInMemory, sink_code};
+    ghost use Rattle.doc_io.specs.MemorySink.{BytesInMemory};
 
     ghost Value = { BytesInMemory };
-
-    ghost coded = { sink_code };
 
     ghost view = { λ sink. record {
       bytes = sink.bytes.items;
