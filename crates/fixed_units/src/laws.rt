@@ -1,5 +1,8 @@
-// The laws of numbers that layout rests on. Each is a contract, so that it is proved; the functions
-// compute nothing. Proofs cite the lemmas of proofs/ from which they follow.
+//! The laws of numbers that layout rests on.
+//!
+//! A law is proved where it is a contract, so each function here has one and computes nothing.
+//! Proofs cite the lemmas themselves: `proofs/Signed` for `omega`, `proofs/Within` for bounds,
+//! `proofs/Products` and `proofs/Rounding`.
 ghost use Rattle.std.specs.Prelude.{◌≡◌, ◌↔◌, ℕ, ◌+◌, ◌*◌, ◌^◌, ◌<◌, max, ℤ, pos, ◌+ℤ◌, ◌-ℤ◌, ◌*ℤ◌, ◌≤ℤ◌, ◌<ℤ◌, FitsSigned};
 ghost use Rattle.std.specs.Int.{w64, w128, int_max, int_min};
 ghost use Rattle.fixed_units.specs.Numbers.{IsRound, IsHalf, IsWithin, rounded, halved};
@@ -36,11 +39,16 @@ pub fn products_keep_order()
 
 /// How far a result reaches, from how far its parts reach.
 pub fn results_stay_within()
-    ensures sum { (m n : ℕ) (a b : ℤ) → IsWithin m a → IsWithin n b → IsWithin (m + n) (a +ℤ b) }
-    ensures difference { (m n : ℕ) (a b : ℤ) → IsWithin m a → IsWithin n b → IsWithin (m + n) (a -ℤ b) }
-    ensures product { (m n : ℕ) (a b : ℤ) → IsWithin m a → IsWithin n b → IsWithin (m * n) (a *ℤ b) }
-    ensures larger { (m n : ℕ) (a b : ℤ) → IsWithin m a → IsWithin n b → IsWithin (max m n) (int_max a b) }
-    ensures smaller { (m n : ℕ) (a b : ℤ) → IsWithin m a → IsWithin n b → IsWithin (max m n) (int_min a b) }
+    ensures sum { (m n : ℕ) (a b : ℤ) →
+        IsWithin m a → IsWithin n b → IsWithin (m + n) (a +ℤ b) }
+    ensures difference { (m n : ℕ) (a b : ℤ) →
+        IsWithin m a → IsWithin n b → IsWithin (m + n) (a -ℤ b) }
+    ensures product { (m n : ℕ) (a b : ℤ) →
+        IsWithin m a → IsWithin n b → IsWithin (m * n) (a *ℤ b) }
+    ensures larger { (m n : ℕ) (a b : ℤ) →
+        IsWithin m a → IsWithin n b → IsWithin (max m n) (int_max a b) }
+    ensures smaller { (m n : ℕ) (a b : ℤ) →
+        IsWithin m a → IsWithin n b → IsWithin (max m n) (int_min a b) }
     ensures halved { (m : ℕ) (a : ℤ) → IsWithin m a → IsWithin m (halved a) }
     ensures rounded { (m : ℕ) (a b : ℤ) → pos 0 <ℤ b → IsWithin m a → IsWithin m (rounded a b) }
 {}
