@@ -45,6 +45,12 @@ int_div_euclid_unique a (pos k) q h low high =
     floor_unique a q (int_div_euclid a (pos k)) k (omega (arith, signed)) (omega (arith, signed)) p.0 p.1
 int_div_euclid_unique a (negsuc k) q h low high = absurd (omega (arith, signed))
 
+pub int_div_euclid_only : (a b q : ℤ) → pos 0 <ℤ b → (((q *ℤ b) ≤ℤ a) × (a <ℤ (q *ℤ b +ℤ b))) ↔ (q ≡ int_div_euclid a b)
+int_div_euclid_only a b q h = (
+  λ p. int_div_euclid_unique a b q h p.0 p.1,
+  λ e. subst (λ n. ((n *ℤ b) ≤ℤ a) × (a <ℤ (n *ℤ b +ℤ b))) (sym e) (int_div_euclid_bounds a b h),
+)
+
 -- ---- halves
 pub halved-parts : (n : ℤ)
     → (up (halved n) * 2 + down n ≤ down (halved n) * 2 + up n)

@@ -4,7 +4,7 @@
 //! Proofs cite the lemmas themselves: `proofs/Signed` for `omega`, `proofs/Within` for bounds,
 //! `proofs/Products` and `proofs/Rounding`.
 ghost use Rattle.std.specs.Prelude.{◌≡◌, ◌↔◌, ℕ, ◌+◌, ◌*◌, ◌^◌, ◌<◌, max, ℤ, pos, ◌+ℤ◌, ◌-ℤ◌, ◌*ℤ◌, ◌≤ℤ◌, ◌<ℤ◌, FitsSigned};
-ghost use Rattle.std.specs.Int.{w64, w128, int_max, int_min};
+ghost use Rattle.std.specs.Int.{w64, w128, int_max, int_min, int_div_euclid};
 ghost use Rattle.fixed_units.specs.Numbers.{IsRound, IsHalf, IsWithin, rounded, halved};
 
 /// `rounded a b` is nearest to `a / b`, and no other number is.
@@ -15,6 +15,12 @@ pub fn rounded_is_the_nearest()
 /// `halved n` is half of `n` rounded down, and no other number is.
 pub fn halved_is_the_half()
     ensures { (n h : ℤ) → IsHalf n h ↔ (h ≡ halved n) }
+{}
+
+/// The Euclidean quotient by a positive divisor is the quotient rounded down, and no other number is.
+pub fn quotients_are_rounded_down()
+    ensures { (a b q : ℤ) → pos 0 <ℤ b →
+        (((q *ℤ b) ≤ℤ a) × (a <ℤ (q *ℤ b +ℤ b))) ↔ (q ≡ int_div_euclid a b) }
 {}
 
 /// Rounding keeps order, and a quotient that is whole.
