@@ -1,3 +1,5 @@
 mod Worked
 mod Keys
 mod Shapes
+mod Names
+mod Forms

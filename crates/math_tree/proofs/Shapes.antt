@@ -23,7 +23,7 @@ taken true o x e = e
 taken false o x e = absurd (none-some x e)
 
 -- the test of a text says what its name says
-short_text : (text : List ℕ) → is_short_text text ≡ true → IsShortText text
+pub short_text : (text : List ℕ) → is_short_text text ≡ true → IsShortText text
 unfolding is_short_text
 short_text [] e = tt
 short_text (letter ∷ []) e = search (rules, tests)

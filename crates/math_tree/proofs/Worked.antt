@@ -16,7 +16,9 @@ tree_of_text text = option_and_then short_tree (read text)
 
 -- what a tree is computed by, from a literal text
 unfoldable on_literals : ⊤
-unfolding serde_json_on_literals kind_of name_in kind_in text_in children_in has_only short_tree short_number is_short_text
+unfolding
+    serde_json_on_literals kind_of name_in kind_in text_in children_in has_only
+    short_tree short_number is_short_text
 on_literals = tt
 
 -- a `math` alone has the id 1, and 2 comes next

@@ -2,4 +2,5 @@ pub mod Kinds
 pub mod Trees
 pub mod Elements
 pub mod Short
+pub mod ShortForm
 pub mod Reads

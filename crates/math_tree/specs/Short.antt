@@ -41,7 +41,7 @@ tree_over children = record {
 abbrev pub short_number_with : List ℕ → Option Node
 short_number_with text = if is_short_text text then Some (number text) else None
 
--- the `mn` that a value stands for: it may have a text, and has no other key beside its name
+-- the `mn` that a value stands for: it may have a text, and no other key beside its name
 unfoldable pub short_number : Data → Option Node
 short_number value =
     if is_element is_number (codes "text") value
@@ -54,7 +54,8 @@ short_children no_items = Some []
 short_children (item child no_items) = option_map (λ node. node ∷ []) (short_number child)
 short_children (item child (item next more)) = None
 
--- the tree that a value stands for: its `math` may have children, and has no other key beside its name
+-- the tree that a value stands for: a `math`, which may have children, and no other key beside
+-- its name
 unfoldable pub short_tree : Data → Option TreeValue
 short_tree value =
     if is_element is_math (codes "children") value

@@ -2,7 +2,8 @@ ghost use Rattle.std.specs.Prelude.{◌≡◌, codes};
 ghost use Rattle.serde_json.specs.View.{view, items_view};
 ghost use Rattle.math_tree.specs.Kinds.{is_math, is_number};
 ghost use Rattle.math_tree.specs.Reads.{Reads};
-ghost use Rattle.math_tree.specs.Short.{short_tree, short_children, short_number, is_element, is_short_text};
+ghost use Rattle.math_tree.specs.Short.{short_tree, short_children, short_number};
+ghost use Rattle.math_tree.specs.Short.{is_element, is_short_text};
 
 use crate::element::{children_in, has_only, kind_in, text_in};
 use crate::{Head, Kind, Node, NodeId, Tree, TreeRefusal};
@@ -11,9 +12,11 @@ use serde_json::Value;
 use std::alloc::Global;
 
 /// Reads the tree that a JSON value stands for. Its elements are numbered from 1 in document order,
-/// each before its children.
+/// each before its children, and the next id follows.
 ///
-/// It answers `Later` exactly where the value isn't a short tree.
+/// A short tree is an object whose `name` is `math`, with at most the key `children` beside it: an
+/// array of at most one object, whose `name` is `mn`, with at most the key `text` beside it: empty,
+/// or one character from U+0021 to U+007E. It answers `Later` exactly where the value isn't one.
 #[tactic(auto, using(crate::proofs::Shapes::tree_is_short), unfolding(crate::specs::Short::short_tree))]
 pub fn read_tree(alloc: Global, value: &Value) -> Result<Tree, TreeRefusal>
     ensures reads { Reads (short_tree (view value.now)) result }

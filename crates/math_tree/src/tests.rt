@@ -22,7 +22,8 @@ fn elements_are_numbered_in_document_order(rt: HostRuntime) -> Result<(), Fail> 
     Ok(())
 }
 
-// Each row has a JSON text and whether it is a short tree, as an independent reader in Python says.
+// Each row has a JSON text and whether it is a short tree. The answers are those of a reader that
+// was written on its own, in another language.
 #[test]
 fn short_trees_alone_are_read(rt: HostRuntime) -> Result<(), Fail> {
     for (text, is_short) in [

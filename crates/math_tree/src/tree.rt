@@ -28,7 +28,7 @@ impl Model for Tree {
 }
 
 impl Tree {
-    /// The tree of a root and the next id, which fit each other.
+    /// The tree of a root, and of a next id that fits it.
     pub(crate) fn whole(root: Node, next_id: u64) -> Tree
         requires { IsShortTree (record { root = root; next_id = next_id }) }
         ensures { result ≡ record { root = root; next_id = next_id } }
@@ -36,7 +36,7 @@ impl Tree {
         Tree { root, next_id }
     }
 
-    /// The `math` element at the top.
+    /// The element at the top. For now it is a short `math`.
     pub fn root(&self) -> &Node
         ensures exact { result.now ≡ self.now.root }
         ensures short { IsShortRoot result.now }
