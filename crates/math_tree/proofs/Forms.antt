@@ -1,4 +1,4 @@
--- A value that stands for a short tree has the form that is said of its keys, and the other way round.
+-- A value stands for a short tree exactly where it has the form that is said of its keys.
 use Rattle.std.proofs.Common.{◌≡◌, ◌∙◌, sym, refl, inl, inr, ℕ, List, [], ◌∷◌, Bool, true, false, true≢false, cond, Option, Some, None, codes, rules, tests}
 use Rattle.std.proofs.lemmas.Option.{none-some, same_Some}
 use Rattle.std.specs.Prelude.{is_some}
@@ -16,11 +16,13 @@ use Rattle.math_tree.proofs.Shapes.{short_text}
 
 -- ---- what is there under a test, through a map, and at a key that may be absent
 
-parts_of : {A : Type 0} (test : Bool) (o : Option A) → is_some (cond test o None) ≡ true → (test ≡ true) × (is_some o ≡ true)
+parts_of : {A : Type 0} (test : Bool) (o : Option A) → is_some (cond test o None) ≡ true
+    → (test ≡ true) × (is_some o ≡ true)
 parts_of true o e = (refl, e)
 parts_of false o e = absurd (true≢false (sym e))
 
-of_parts : {A : Type 0} (test : Bool) (o : Option A) → test ≡ true → is_some o ≡ true → is_some (cond test o None) ≡ true
+of_parts : {A : Type 0} (test : Bool) (o : Option A) → test ≡ true → is_some o ≡ true
+    → is_some (cond test o None) ≡ true
 of_parts true o e some = some
 of_parts false o e some = absurd (true≢false (sym e))
 

@@ -53,16 +53,20 @@ second value node e = second_with (text_in value) node (taken (is_element is_num
 only : (o : Option Node) (children : List Node) → ((node : Node) → o ≡ Some node → IsSecond node)
     → option_map (λ node. node ∷ []) o ≡ Some children → (length children ≤ 1) × All IsSecond children
 only None children each e = absurd (none-some children e)
-only (Some node) children each e = rw (sym (same_Some (node ∷ []) children e)) (omega arith, All-cons IsSecond node [] (each node refl) (All-nil IsSecond))
+only (Some node) children each e =
+    let all = All-cons IsSecond node [] (each node refl) (All-nil IsSecond) in
+    rw (sym (same_Some (node ∷ []) children e)) (omega arith, all)
 
 -- the children of a short tree's root
-seconds : (items : Items) (children : List Node) → short_children items ≡ Some children → (length children ≤ 1) × All IsSecond children
+seconds : (items : Items) (children : List Node) → short_children items ≡ Some children
+    → (length children ≤ 1) × All IsSecond children
 seconds no_items children e = rw (sym (same_Some [] children e)) (omega arith, All-nil IsSecond)
 seconds (item value no_items) children e = only (short_number value) children (second value) e
 seconds (item value (item next more)) children e = absurd (none-some children e)
 
 -- a `math` over these children is a short tree
-pub tree_is_short : (items : Items) (children : List Node) → short_children items ≡ Some children → IsShortTree (tree_over children)
+pub tree_is_short : (items : Items) (children : List Node) → short_children items ≡ Some children
+    → IsShortTree (tree_over children)
 tree_is_short items children e =
     let kept = seconds items children e in
     record {

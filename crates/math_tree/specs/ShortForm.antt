@@ -19,10 +19,13 @@ pub record IsShortMn (value : Data) : Type 0 where
   pub element : IsElement (codes "mn") (codes "text") value
   pub text : (held : Data) → get (codes "text") value ≡ Some held → IsShortTextValue held
 
+-- an array of one such `mn`
+abbrev pub IsOneMn : Data → Type 0
+IsOneMn value = (child : Data) × (value ≡ array (item child no_items)) × IsShortMn child
+
 -- an array of no element, or of one such `mn`
 abbrev pub IsShortArray : Data → Type 0
-IsShortArray value =
-    (value ≡ array no_items) ⊎ ((child : Data) × (value ≡ array (item child no_items)) × IsShortMn child)
+IsShortArray value = (value ≡ array no_items) ⊎ IsOneMn value
 
 -- a `math`, whose children, if it has any, are such an array
 pub record IsShortMath (value : Data) : Type 0 where
