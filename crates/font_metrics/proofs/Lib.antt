@@ -1,3 +1,5 @@
+pub mod Digits
+pub mod Names
 pub mod Tables
 pub mod Scaling
 pub mod Worked

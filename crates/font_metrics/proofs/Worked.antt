@@ -1,7 +1,7 @@
 -- Worked files: the definitions, computed.
 use Rattle.std.proofs.Common.{◌≡◌, ℕ, pos, List, [], ◌∷◌, ◌++◌, codes, Option, Some, None, refl}
 use Rattle.font_metrics.specs.Metrics.{MetricsValue, NamedGlyph}
-use Rattle.font_metrics.specs.Words.{value_of_digits, numeral_of, number_of, number_in, natural_in, code_of, name_in}
+use Rattle.font_metrics.specs.Words.{value_of_digits, numeral_of, number_of, number_in, natural_in, code_of, is_name, name_in}
 use Rattle.font_metrics.specs.Short.{lines_of, keyword_of, short_of, short_metrics}
 
 -- lines with their line feeds
@@ -29,5 +29,5 @@ a-short-file : short_metrics (header ++ missing_line ++ one_line ++ char_line) �
   glyphs = glyph_named (codes "missing") 600 ∷ glyph_named (codes "one") 680 ∷ [];
   characters = (0x31, 1) ∷ [];
 })
-unfolding value_of_digits numeral_of number_of number_in natural_in code_of name_in lines_of keyword_of short_of short_metrics
+unfolding value_of_digits numeral_of number_of number_in natural_in code_of is_name name_in lines_of keyword_of short_of short_metrics
 a-short-file = refl

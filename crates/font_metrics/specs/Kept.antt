@@ -10,6 +10,9 @@ abbrev pub glyph_of_measures : Measures → Glyph
 glyph_of_measures m =
     record { advance = pos m.advance; ink_ascent = m.ink_ascent; ink_descent = m.ink_descent; italic = pos 0; accent = None }
 
+abbrev pub named_glyph : List ℕ → Measures → NamedGlyph
+named_glyph name m = record { name = name; glyph = glyph_of_measures m }
+
 -- the entries of the map of glyphs, in order
 abbrev pub named_glyphs : List (String Global × Measures) → List NamedGlyph
-named_glyphs entries = map (λ e. record { name = string_bytes e.0; glyph = glyph_of_measures e.1 }) entries
+named_glyphs entries = map (λ e. named_glyph (string_bytes e.0) e.1) entries

@@ -4,3 +4,4 @@ pub mod Short
 pub mod Reads
 pub mod Kept
 pub mod Whole
+pub mod Taking

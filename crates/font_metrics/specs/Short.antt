@@ -4,7 +4,7 @@ use Rattle.std.specs.List.{slice_split, list_any}
 use Rattle.std.specs.Str.{bytes_eq}
 use Rattle.font_metrics.specs.declared.keyword.Keyword.{Keyword}
 use Rattle.font_metrics.specs.declared.keyword.Keyword.TheVariants.{Version, Upem, Line, XHeight, Glyph, Char, Other}
-use Rattle.font_metrics.specs.Metrics.{NamedGlyph, MetricsValue, place_of_name}
+use Rattle.font_metrics.specs.Metrics.{NamedGlyph, MetricsValue, metrics_value, place_of_name}
 use Rattle.font_metrics.specs.Words.{◌>>=◌, only_if, number_in, natural_in, code_of, name_in}
 
 -- the words of a line
@@ -63,12 +63,12 @@ x_height_in keyword fields = None
 abbrev pub glyph_in : Keyword → Words → Option NamedGlyph
 glyph_in Glyph (name ∷ advance ∷ ink_ascent ∷ ink_descent ∷ []) = do
   spelled ← name_in name
-  width ← number_in (pos 0) (pos 65535) advance
+  width ← natural_in 0 65535 advance
   up ← number_in (negsuc 32767) (pos 65535) ink_ascent
   down ← number_in (negsuc 32767) (pos 65535) ink_descent
   Some (record {
     name = spelled;
-    glyph = record { advance = width; ink_ascent = up; ink_descent = down; italic = pos 0; accent = None };
+    glyph = record { advance = pos width; ink_ascent = up; ink_descent = down; italic = pos 0; accent = None };
   })
 glyph_in keyword fields = None
 

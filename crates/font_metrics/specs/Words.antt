@@ -55,6 +55,8 @@ abbrev pub is_name_byte : ℕ → Bool
 is_name_byte b = is_ascii_alphanumeric b || nat_eq b 95 || nat_eq b 46 || nat_eq b 45
 
 -- a glyph name: 1 to 63 such bytes
+unfoldable pub is_name : List ℕ → Bool
+is_name word = nat_le 1 (length word) && nat_le (length word) 63 && list_all is_name_byte word
+
 unfoldable pub name_in : List ℕ → Option (List ℕ)
-name_in word =
-    if nat_le 1 (length word) && nat_le (length word) 63 && list_all is_name_byte word then Some word else None
+name_in word = if is_name word then Some word else None

@@ -10,7 +10,7 @@ use std::marker::Model;
 /// list of these pairs.
 #[derive(Drop)]
 pub struct CharacterMap {
-    places: IndexMap<u32, u16>,
+    places: IndexMap<char, u16>,
 }
 
 impl Model for CharacterMap {
@@ -31,20 +31,20 @@ impl CharacterMap {
         }
     }
 
-    /// The place that the character of that code was given.
-    pub fn place(&self, code: u32) -> Option<u16>
-        ensures { result ≡ place_of_code self.now code }
+    /// The place that the character was given.
+    pub fn place(&self, letter: char) -> Option<u16>
+        ensures { result ≡ place_of_code self.now letter }
     {
-        self.places.get(&code).copied()
+        self.places.get(&letter).copied()
     }
 
     /// Adds a character that isn't there yet.
-    pub fn add(&mut self, code: u32, place: u16) -> Result<(), Memory>
-        requires { place_of_code self.old code ≡ None }
-        ensures ok { OnOk result (self.new ≡ self.old ++ (code, place) ∷ []) }
+    pub fn add(&mut self, letter: char, place: u16) -> Result<(), Memory>
+        requires { place_of_code self.old letter ≡ None }
+        ensures ok { OnOk result (self.new ≡ self.old ++ (letter, place) ∷ []) }
         ensures err { OnErr result (self.new ≡ self.old) }
     {
-        self.places.insert(code, place)?;
+        self.places.insert(letter, place)?;
         Ok(())
     }
 }

@@ -16,9 +16,12 @@ mod characters; // which glyph shows a character
 mod glyph; // GlyphId, Glyph
 mod glyphs; // the glyphs by name and by number
 mod keyword; // the first word of a line
+mod lines; // each kind of line
 mod metrics; // Metrics and what it answers
 mod read; // the file
+mod reader; // what lines have given
 mod refusal; // MetricsRefusal
+mod words; // numbers, codes and names
 
 pub use glyph::{Glyph, GlyphId};
 pub use metrics::Metrics;

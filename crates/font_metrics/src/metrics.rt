@@ -1,6 +1,6 @@
-ghost use Rattle.std.specs.Prelude.{◌≡◌, ◌<◌, ◌≤◌, ◌^◌, length, pos, ◌≤ℤ◌, ◌*ℤ◌};
+ghost use Rattle.std.specs.Prelude.{◌≡◌, ◌<◌, ◌≤◌, ◌^◌, length, codes, Some, pos, ◌≤ℤ◌, ◌*ℤ◌};
 ghost use Rattle.fixed_units.specs.Numbers.{IsWithin, rounded};
-ghost use Rattle.font_metrics.specs.Metrics.{IsInDesign, scale_of, line_ascent_of, line_descent_of, place_of_letter, glyph_at, name_at};
+ghost use Rattle.font_metrics.specs.Metrics.{IsInDesign, scale_of, line_ascent_of, line_descent_of, place_of_letter, glyph_at, name_at, metrics_value, place_of_name, IsTaken};
 
 use crate::characters::CharacterMap;
 use crate::glyph::{Glyph, GlyphId};
@@ -34,6 +34,31 @@ impl Model for Metrics {
 }
 
 impl Metrics {
+    /// The metrics of these numbers, glyphs and characters, in which `missing` has the place that is
+    /// given last.
+    pub(crate) fn make(
+        upem: u16,
+        line: (u16, u16),
+        x_height: u16,
+        glyphs: GlyphTable,
+        characters: CharacterMap,
+        missing: u16,
+    ) -> Metrics
+        requires taken { IsTaken (metrics_value upem line.0 line.1 x_height glyphs characters) }
+        requires missing { place_of_name glyphs (codes "missing") ≡ Some missing }
+        ensures { result ≡ metrics_value upem line.0 line.1 x_height glyphs characters }
+    {
+        Metrics {
+            upem,
+            line_ascent: line.0,
+            line_descent: line.1,
+            x_height,
+            glyphs,
+            characters,
+            missing,
+        }
+    }
+
     /// A value of at most 2^20 design units at a font size, in units (1/1024 px): value * size / upem,
     /// rounded.
     pub fn scale(&self, value: i64, size: i64) -> i64
@@ -79,7 +104,7 @@ impl Metrics {
         ensures value { result.0 ≡ place_of_letter self.now letter }
         ensures within { result.0 < length self.now.glyphs }
     {
-        GlyphId(self.characters.place(letter as u32).unwrap_or(self.missing))
+        GlyphId(self.characters.place(letter).unwrap_or(self.missing))
     }
 
     /// What is known of a glyph, in design units.

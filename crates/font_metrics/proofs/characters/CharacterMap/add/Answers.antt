@@ -6,5 +6,5 @@ use Rattle.font_metrics.proofs.characters.CharacterMap.add.Goals as goal
 pub returns-clause-ok : goal.returns-clause-ok
 returns-clause-ok c =
     c.in_ok-insert.ensures.entries
-    ∙ insert_entry-new nat_eq c.self.inside.places c.args.code c.args.place (ap (lookup (nat_eq c.args.code)) c.self.view_is ∙ c.requires)
-    ∙ ap (λ l. l ++ (c.args.code, c.args.place) ∷ []) c.self.view_is
+    ∙ insert_entry-new nat_eq c.self.inside.places c.args.letter c.args.place (ap (lookup (nat_eq c.args.letter)) c.self.view_is ∙ c.requires)
+    ∙ ap (λ l. l ++ (c.args.letter, c.args.place) ∷ []) c.self.view_is

@@ -1,0 +1,157 @@
+ghost use Rattle.std.specs.Prelude.{◌≡◌, ◌≤◌, length, map};
+ghost use Rattle.font_metrics.specs.declared.keyword.Keyword.TheVariants as keyword;
+ghost use Rattle.font_metrics.specs.Taking.{Given, IsGiven, Takes, nothing, may_follow, after_fields, after_keyword, after, finished};
+ghost use Rattle.font_metrics.specs.Reads.{Reads};
+
+use crate::characters::CharacterMap;
+use crate::glyphs::GlyphTable;
+use crate::keyword::{Keyword, keyword_of};
+use crate::lines::{char_line, glyph_line, line_line, upem_line, version_line, x_height_line};
+use crate::metrics::Metrics;
+use crate::refusal::MetricsRefusal;
+use std::alloc::Global;
+use std::marker::Model;
+
+/// What the lines of a file have given so far.
+#[derive(Drop)]
+pub struct Reader {
+    last: Option<Keyword>,
+    upem: Option<u16>,
+    line: Option<(u16, u16)>,
+    x_height: Option<u16>,
+    glyphs: GlyphTable,
+    characters: CharacterMap,
+}
+
+impl Model for Reader {
+    ghost use Rattle.font_metrics.specs.Taking.{Given};
+
+    ghost Value = { Given };
+
+    ghost view = { λ r. record { last = r.last; upem = r.upem; line = r.line; x_height = r.x_height; glyphs = r.glyphs; characters = r.characters } };
+}
+
+impl Reader {
+    /// No line yet. It takes no memory.
+    pub fn new(alloc: Global) -> Reader
+        ensures { result ≡ nothing }
+    {
+        Reader {
+            last: None,
+            upem: None,
+            line: None,
+            x_height: None,
+            glyphs: GlyphTable::new(alloc),
+            characters: CharacterMap::new(alloc),
+        }
+    }
+
+    /// Takes the next line, by its words.
+    #[tactic(auto, unfolding(crate::specs::Taking::after))]
+    pub fn take(&mut self, alloc: Global, words: &[&[u8]]) -> Result<(), MetricsRefusal>
+        requires { IsGiven self.old }
+        ensures { Takes (after self.old (map (λ w. w.now) words.now)) self.new result }
+    {
+        match words.split_first() {
+            None => Err(MetricsRefusal::Later),
+            Some((word, fields)) => self.take_fields(alloc, keyword_of(word), fields),
+        }
+    }
+
+    fn take_fields(&mut self, alloc: Global, keyword: Keyword, fields: &[&[u8]]) -> Result<(), MetricsRefusal>
+        requires { IsGiven self.old }
+        ensures { Takes (after_keyword self.old keyword (map (λ f. f.now) fields.now)) self.new result }
+    {
+        if !may_follow(self.last, keyword) {
+            return Err(MetricsRefusal::Later);
+        }
+        self.last = Some(keyword);
+        match keyword {
+            Keyword::Version => version_line(fields).ok_or(MetricsRefusal::Later),
+            Keyword::Upem => self.take_upem(fields),
+            Keyword::Line => self.take_line(fields),
+            Keyword::XHeight => self.take_x_height(fields),
+            Keyword::Glyph => self.take_glyph(alloc, fields),
+            Keyword::Char => self.take_char(fields),
+            Keyword::Other => Err(MetricsRefusal::Later),
+        }
+    }
+
+    fn take_upem(&mut self, fields: &[&[u8]]) -> Result<(), MetricsRefusal>
+        ensures { Takes (after_fields self.old keyword.Upem (map (λ f. f.now) fields.now)) self.new result }
+    {
+        let units = upem_line(fields).ok_or(MetricsRefusal::Later)?;
+        self.upem = Some(units);
+        Ok(())
+    }
+
+    fn take_line(&mut self, fields: &[&[u8]]) -> Result<(), MetricsRefusal>
+        ensures { Takes (after_fields self.old keyword.Line (map (λ f. f.now) fields.now)) self.new result }
+    {
+        let line = line_line(fields).ok_or(MetricsRefusal::Later)?;
+        self.line = Some(line);
+        Ok(())
+    }
+
+    fn take_x_height(&mut self, fields: &[&[u8]]) -> Result<(), MetricsRefusal>
+        ensures { Takes (after_fields self.old keyword.XHeight (map (λ f. f.now) fields.now)) self.new result }
+    {
+        let height = x_height_line(fields).ok_or(MetricsRefusal::Later)?;
+        self.x_height = Some(height);
+        Ok(())
+    }
+
+    fn take_glyph(&mut self, alloc: Global, fields: &[&[u8]]) -> Result<(), MetricsRefusal>
+        ensures { Takes (after_fields self.old keyword.Glyph (map (λ f. f.now) fields.now)) self.new result }
+    {
+        let (name, measures) = glyph_line(fields).ok_or(MetricsRefusal::Later)?;
+        if self.glyphs.place(name).is_some() | (self.glyphs.len() >= 65535) {
+            return Err(MetricsRefusal::Later);
+        }
+        self.glyphs.add(alloc, name, measures)?;
+        Ok(())
+    }
+
+    fn take_char(&mut self, fields: &[&[u8]]) -> Result<(), MetricsRefusal>
+        requires { length self.old.glyphs ≤ 65535 }
+        ensures { Takes (after_fields self.old keyword.Char (map (λ f. f.now) fields.now)) self.new result }
+    {
+        let (letter, place) = char_line(&self.glyphs, fields).ok_or(MetricsRefusal::Later)?;
+        if self.characters.place(letter).is_some() {
+            return Err(MetricsRefusal::Later);
+        }
+        self.characters.add(letter, place)?;
+        Ok(())
+    }
+
+    /// The metrics, where the lines have given all that these need.
+    #[tactic(auto, unfolding(crate::specs::Taking::finished))]
+    pub fn finish(self) -> Result<Metrics, MetricsRefusal>
+        requires { IsGiven self }
+        ensures { Reads (finished self) result }
+    {
+        let missing = self.glyphs.place("missing");
+        match (self.upem, self.line, self.x_height, missing) {
+            (Some(upem), Some(line), Some(x_height), Some(missing)) => {
+                Ok(Metrics::make(upem, line, x_height, self.glyphs, self.characters, missing as u16))
+            }
+            _ => Err(MetricsRefusal::Later),
+        }
+    }
+}
+
+/// The order of lines: the header's four, at least one glyph, and any number of characters.
+fn may_follow(last: Option<Keyword>, next: Keyword) -> bool
+    ensures { result ≡ may_follow last next }
+{
+    matches!(
+        (last, next),
+        (None, Keyword::Version)
+            | (Some(Keyword::Version), Keyword::Upem)
+            | (Some(Keyword::Upem), Keyword::Line)
+            | (Some(Keyword::Line), Keyword::XHeight)
+            | (Some(Keyword::XHeight), Keyword::Glyph)
+            | (Some(Keyword::Glyph), Keyword::Glyph | Keyword::Char)
+            | (Some(Keyword::Char), Keyword::Char)
+    )
+}
