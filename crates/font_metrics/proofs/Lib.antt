@@ -1,5 +1,9 @@
 pub mod Digits
 pub mod Names
+pub mod Distinct
+pub mod Order
+pub mod Ranges
+pub mod Turns
 pub mod Tables
 pub mod Scaling
 pub mod Worked

@@ -30,7 +30,7 @@ position-map p f xs =
     let k : length (map f xs) ≡ length xs = length-map xs f in
     λ i. cond (nat_lt (h i) (k i)) (Some (h i)) None
 
-map-append : {X Y : Type 0} (f : X → Y) (xs ys : List X) → map f (xs ++ ys) ≡ map f xs ++ map f ys
+pub map-append : {X Y : Type 0} (f : X → Y) (xs ys : List X) → map f (xs ++ ys) ≡ map f xs ++ map f ys
 map-append f [] ys = refl
 map-append f (x ∷ xs) ys = ap (λ l. f x ∷ l) (map-append f xs ys)
 

@@ -25,7 +25,10 @@ glyph_named name ink =
     record { name = name; glyph = record { advance = pos 512; ink_ascent = pos ink; ink_descent = pos 0; italic = pos 0; accent = None } }
 
 a-short-file : short_metrics (header ++ missing_line ++ one_line ++ char_line) ≡ Some (record {
-  upem = 1024; line_ascent = 900; line_descent = 300; x_height = 512;
+  upem = 1024;
+  line_ascent = 900;
+  line_descent = 300;
+  x_height = 512;
   glyphs = glyph_named (codes "missing") 600 ∷ glyph_named (codes "one") 680 ∷ [];
   characters = (0x31, 1) ∷ [];
 })

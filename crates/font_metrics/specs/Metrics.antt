@@ -23,8 +23,12 @@ pub record MetricsValue : Type 0 where
 
 abbrev pub metrics_value : ℕ → ℕ → ℕ → ℕ → List NamedGlyph → List (ℕ × ℕ) → MetricsValue
 metrics_value upem ascent descent x_height glyphs characters = record {
-  upem = upem; line_ascent = ascent; line_descent = descent; x_height = x_height;
-  glyphs = glyphs; characters = characters;
+  upem = upem;
+  line_ascent = ascent;
+  line_descent = descent;
+  x_height = x_height;
+  glyphs = glyphs;
+  characters = characters;
 }
 
 -- ---- what is looked up

@@ -116,7 +116,7 @@ each_gives f (x ∷ xs) = do
 -- no item equals one behind it
 abbrev pub is_distinct : {X : Type 0} → (X → X → Bool) → List X → Bool
 is_distinct same [] = true
-is_distinct same (x ∷ xs) = not (list_any (same x) xs) && is_distinct same xs
+is_distinct same (x ∷ xs) = not (list_any (λ y. same y x) xs) && is_distinct same xs
 
 abbrev pub have_distinct_names : List NamedGlyph → Bool
 have_distinct_names glyphs = is_distinct bytes_eq (map (λ g. g.name) glyphs)

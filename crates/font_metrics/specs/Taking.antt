@@ -6,7 +6,7 @@ use Rattle.font_metrics.specs.declared.keyword.Keyword.TheVariants.{Version, Upe
 use Rattle.font_metrics.specs.declared.refusal.MetricsRefusal.{MetricsRefusal}
 use Rattle.font_metrics.specs.declared.refusal.MetricsRefusal.TheVariants.{Later, Memory}
 use Rattle.font_metrics.specs.Metrics.{NamedGlyph, MetricsValue, metrics_value, IsInDesign, place_of_name, place_of_code}
-use Rattle.font_metrics.specs.Words.{◌>>=◌, only_if}
+use Rattle.font_metrics.specs.Words.{◌>>=◌}
 use Rattle.font_metrics.specs.Short.{Words, keyword_of, version_in, upem_in, line_in, x_height_in, glyph_in, char_in}
 
 -- what lines have given, and the keyword of the last of them
@@ -63,6 +63,11 @@ after_keyword given keyword fields =
 unfoldable pub after : Given → Words → Option Given
 after given [] = None
 after given (word ∷ fields) = after_keyword given (keyword_of word) fields
+
+-- what is given after all lines; None where one of them can't stand where it does
+abbrev pub after_lines : Given → List Words → Option Given
+after_lines given [] = Some given
+after_lines given (line ∷ lines) = after given line >>= λ next. after_lines next lines
 
 -- Ok exactly with what is given then, and Later exactly where the line can't stand there
 abbrev pub Takes : Option Given → Given → Result (Unit {0}) MetricsRefusal → Type 0

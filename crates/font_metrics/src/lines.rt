@@ -32,7 +32,10 @@ pub fn line_line(fields: &[&[u8]]) -> Option<(u16, u16)>
     ensures { result ≡ line_in keyword.Line (map (λ f. f.now) fields.now) }
 {
     match fields {
-        [ascent, descent] => Some((natural_in(0, 65535, ascent)?, natural_in(0, 65535, descent)?)),
+        [ascent, descent] => Some((
+            natural_in(0, 65535, ascent)?,
+            natural_in(0, 65535, descent)?,
+        )),
         _ => None,
     }
 }
@@ -57,7 +60,14 @@ pub fn glyph_line<'a>(fields: &[&'a [u8]]) -> Option<(&'a str, Measures)>
             let advance = natural_in(0, 65535, advance)?;
             let ink_ascent = number_in(-32768, 65535, ink_ascent)?;
             let ink_descent = number_in(-32768, 65535, ink_descent)?;
-            Some((name, Measures { advance, ink_ascent, ink_descent }))
+            Some((
+                name,
+                Measures {
+                    advance,
+                    ink_ascent,
+                    ink_descent,
+                },
+            ))
         }
         _ => None,
     }

@@ -1,8 +1,10 @@
-ghost use Rattle.std.specs.Prelude.{◌≤◌, length};
+ghost use Rattle.std.specs.Prelude.{◌≤◌, length, map, IfOk};
 ghost use Rattle.font_metrics.specs.Reads.{Reads};
-ghost use Rattle.font_metrics.specs.Short.{short_metrics};
+ghost use Rattle.font_metrics.specs.Short.{parts_at, words_of, short_metrics};
+ghost use Rattle.font_metrics.specs.Taking.{IsGiven, nothing, after_lines};
 
 use crate::metrics::Metrics;
+use crate::reader::Reader;
 use crate::refusal::MetricsRefusal;
 use std::alloc::Global;
 
@@ -13,5 +15,20 @@ pub fn read_metrics(alloc: Global, bytes: &[u8]) -> Result<Metrics, MetricsRefus
     requires { length bytes.now ≤ 8388608 }
     ensures reads { Reads (short_metrics bytes.now) result }
 {
-    Err(MetricsRefusal::Memory)
+    match bytes.strip_suffix(b"\n".as_slice()) {
+        None => Err(MetricsRefusal::Later),
+        Some(lines) => read_lines(alloc, lines)?.finish(),
+    }
+}
+
+/// Takes each line of a text in which a line feed stands between two lines.
+fn read_lines(alloc: Global, text: &[u8]) -> Result<Reader, MetricsRefusal>
+    ensures reads { Reads (after_lines nothing (map words_of (parts_at 10 text.now))) result }
+    ensures given { IfOk result IsGiven }
+{
+    let mut reader = Reader::new(alloc);
+    for line in text.split(|byte| *byte == b'\n') {
+        reader.take(alloc, line)?;
+    }
+    Ok(reader)
 }

@@ -1,7 +1,8 @@
-ghost use Rattle.std.specs.Prelude.{◌≡◌, ◌≤◌, length, map};
+ghost use Rattle.std.specs.Prelude.{◌≡◌, ◌≤◌, length, map, take, IfOk};
 ghost use Rattle.font_metrics.specs.declared.keyword.Keyword.TheVariants as keyword;
 ghost use Rattle.font_metrics.specs.Taking.{Given, IsGiven, Takes, nothing, may_follow, after_fields, after_keyword, after, finished};
 ghost use Rattle.font_metrics.specs.Reads.{Reads};
+ghost use Rattle.font_metrics.specs.Short.{words_of};
 
 use crate::characters::CharacterMap;
 use crate::glyphs::GlyphTable;
@@ -9,6 +10,7 @@ use crate::keyword::{Keyword, keyword_of};
 use crate::lines::{char_line, glyph_line, line_line, upem_line, version_line, x_height_line};
 use crate::metrics::Metrics;
 use crate::refusal::MetricsRefusal;
+use fixed_units::Memory;
 use std::alloc::Global;
 use std::marker::Model;
 
@@ -46,9 +48,17 @@ impl Reader {
         }
     }
 
-    /// Takes the next line, by its words.
+    /// Takes the next line, without its line feed.
+    pub fn take(&mut self, alloc: Global, line: &[u8]) -> Result<(), MetricsRefusal>
+        requires { IsGiven self.old }
+        ensures { Takes (after self.old (words_of line.now)) self.new result }
+    {
+        let words = words(alloc, line)?;
+        self.take_words(alloc, words.as_slice())
+    }
+
     #[tactic(auto, unfolding(crate::specs::Taking::after))]
-    pub fn take(&mut self, alloc: Global, words: &[&[u8]]) -> Result<(), MetricsRefusal>
+    fn take_words(&mut self, alloc: Global, words: &[&[u8]]) -> Result<(), MetricsRefusal>
         requires { IsGiven self.old }
         ensures { Takes (after self.old (map (λ w. w.now) words.now)) self.new result }
     {
@@ -58,7 +68,12 @@ impl Reader {
         }
     }
 
-    fn take_fields(&mut self, alloc: Global, keyword: Keyword, fields: &[&[u8]]) -> Result<(), MetricsRefusal>
+    fn take_fields(
+        &mut self,
+        alloc: Global,
+        keyword: Keyword,
+        fields: &[&[u8]],
+    ) -> Result<(), MetricsRefusal>
         requires { IsGiven self.old }
         ensures { Takes (after_keyword self.old keyword (map (λ f. f.now) fields.now)) self.new result }
     {
@@ -133,7 +148,14 @@ impl Reader {
         let missing = self.glyphs.place("missing");
         match (self.upem, self.line, self.x_height, missing) {
             (Some(upem), Some(line), Some(x_height), Some(missing)) => {
-                Ok(Metrics::make(upem, line, x_height, self.glyphs, self.characters, missing as u16))
+                Ok(Metrics::make(
+                    upem,
+                    line,
+                    x_height,
+                    self.glyphs,
+                    self.characters,
+                    missing as u16,
+                ))
             }
             _ => Err(MetricsRefusal::Later),
         }
@@ -154,4 +176,18 @@ fn may_follow(last: Option<Keyword>, next: Keyword) -> bool
             | (Some(Keyword::Glyph), Keyword::Glyph | Keyword::Char)
             | (Some(Keyword::Char), Keyword::Char)
     )
+}
+
+// One more than the longest line has, so that a line of too many words shows.
+const MOST_WORDS: usize = 6;
+
+/// The words of a line, of which one stands between two spaces.
+fn words<'a>(alloc: Global, line: &'a [u8]) -> Result<Vec<&'a [u8]>, Memory>
+    ensures { IfOk result (λ words. map (λ w. w.now) words.items ≡ take 6 (words_of line.now)) }
+{
+    let words = line
+        .split(|byte| *byte == b' ')
+        .take(MOST_WORDS)
+        .collect(alloc)?;
+    Ok(words)
 }

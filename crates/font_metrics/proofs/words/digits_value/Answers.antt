@@ -34,8 +34,8 @@ loop-byte-preserved c =
     let below = subst (λ b. digit_value b < base) c.from.ensures digit.0 in
     record {
       rest =
-      c.loop-byte.invariant.rest ∙ next_digit base n c.args.digits.now i c.loop-byte-test.true below
-      ∙ ap (λ d. value_behind base (n * base + d) (drop (i + 1) c.args.digits.now)) (sym (digit.1 ∙ ap digit_value c.from.ensures));
+          c.loop-byte.invariant.rest ∙ next_digit base n c.args.digits.now i c.loop-byte-test.true below
+          ∙ ap (λ d. value_behind base (n * base + d) (drop (i + 1) c.args.digits.now)) (sym (digit.1 ∙ ap digit_value c.from.ensures));
       small = next_small base n c.in_ok-digit.digit i c.requires.base_high (omega (arith, digit.0, digit.1)) c.loop-byte.invariant.small;
     }
 
