@@ -3,3 +3,4 @@ pub mod Within
 pub mod Cuts
 pub mod MemoryFiles
 pub mod MemoryCalls
+pub mod Worked

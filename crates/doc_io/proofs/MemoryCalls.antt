@@ -3,9 +3,10 @@ use Rattle.std.proofs.Common.{◌≡◌, ℕ, ◌+◌, ◌≤◌, min, List, [],
 use Rattle.std.proofs.lemmas.List.{take_at, take-append-drop, drop-drop}
 use Rattle.std.proofs.lemmas.Grind.{common_steps}
 use Rattle.std.specs.FinMap.{get}
+use Rattle.doc_io.specs.FailingCalls.{fails_next}
 use Rattle.doc_io.specs.Causes.{Files, Selects, raised}
 use Rattle.doc_io.specs.MemorySink.{BytesInMemory, WritesInMemory, fitting, write_fails}
-use Rattle.doc_io.specs.MemoryInputs.{FilesInMemory, IsGreatest, IsUncut, ReadsInMemory, SelectsInMemory, called, deselected, fails_next, left_in}
+use Rattle.doc_io.specs.MemoryInputs.{FilesInMemory, IsGreatest, IsUncut, ReadsInMemory, SelectsInMemory, called, deselected, left_in}
 
 -- a name that some file has, at a call that fails
 pub selects_failing : {E : Type 0} (old : FilesInMemory) (name : List ℕ) (file : Option (List ℕ)) (e : E) → get old.files name ≡ file → IsSome file → fails_next old.failing old.calls ≡ true →

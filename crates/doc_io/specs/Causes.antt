@@ -21,12 +21,15 @@ pub record HasCause {T E : Type 0} (before now : ℕ) (result : Result T E) : Ty
 
 -- the file of the name is selected, or the call failed for a cause and no file is
 pub record Selects {E : Type 0} (files : Option Files) (rest : Option (List ℕ))
-    (faults faults' missing missing' : ℕ) (name : List ℕ) (result : Result (Unit {0}) E) : Type 0 where
+    (faults faults' missing missing' : ℕ) (name : List ℕ)
+    (result : Result (Unit {0}) E) : Type 0 where
   pub later : faults ≤ faults'
   pub later_missing : missing ≤ missing'
   pub found : OnOk result (IfSome files (λ f. IsSome (f name) × (rest ≡ f name)))
   pub unselected : OnErr result (IsAtEnd rest)
   pub told : IsSome files → IsSome rest
-  pub absent : IfSome files (λ f. f name ≡ None → IsErr result × Rose missing missing' × (faults' ≡ faults))
+  pub absent : IfSome files (λ f. f name ≡ None →
+      IsErr result × Rose missing missing' × (faults' ≡ faults))
   pub present : IfSome files (λ f. IsSome (f name) → missing' ≡ missing)
-  pub failed : OnErr result (Rose faults faults' ⊎ (Rose missing missing' × IfSome files (λ f. f name ≡ None)))
+  pub failed : OnErr result
+      (Rose faults faults' ⊎ (Rose missing missing' × IfSome files (λ f. f name ≡ None)))

@@ -1,14 +1,15 @@
 -- Inputs in memory: what they hold, and what a select and a read do to it.
-use Rattle.std.specs.Prelude.{◌≡◌, ℕ, ◌+◌, ◌<◌, ◌≤◌, ◌==◌, min, Bool, true, false, List, [], ◌∷◌, ◌++◌, length, take, drop, slice_get, Result, Option, Some, None, IsOk, IsErr, unwrap_or, refl}
+use Rattle.std.specs.Prelude.{◌≡◌, ℕ, ◌+◌, ◌<◌, ◌≤◌, min, true, false, List, [], ◌∷◌, ◌++◌, length, take, drop, slice_get, Result, Option, Some, None, IsOk, IsErr, unwrap_or, refl}
 use Rattle.std.specs.Coded.{Coded, code_by, coded×, coded_ℕ, coded_list, coded_option}
 use Rattle.std.specs.Option.{option_map, option_and_then}
 use Rattle.std.specs.Ordering.{nat_cmp}
 use Rattle.std.specs.declared.cmp.Ordering.{Ordering}
 use Rattle.std.specs.Cmp.Lexicographic.{slice_cmp}
-use Rattle.std.specs.List.{AllByRecursion, list_any}
+use Rattle.std.specs.List.{AllByRecursion}
 use Rattle.std.specs.Result.{IsOkAnd}
 use Rattle.std.specs.FinMap.{FinMap, code, get, insert}
 use Rattle.doc_io.specs.Causes.{raised}
+use Rattle.doc_io.specs.FailingCalls.{fails_next}
 use Rattle.doc_io.specs.declared.memory_inputs.Named.{Named}
 
 -- names are told apart by their bytes
@@ -19,23 +20,42 @@ name_cmp = slice_cmp nat_cmp
 abbrev pub FileMap : Type 0
 FileMap = FinMap name_cmp (List ℕ)
 
--- the files by name; where a read stops, and the numbers of the calls that fail; the calls so far;
--- the bytes of the selected file, and how many of them were read; the two counts
+-- what a test sees of inputs in memory
 pub record FilesInMemory : Type 0 where
+  -- the files by name
   pub files : FileMap
+  -- the places where each read stops
   pub cuts : List ℕ
+  -- the numbers of the calls that fail, and how many calls there were
   pub failing : List ℕ
   pub calls : ℕ
+  -- the bytes of the selected file, and how many of them were read
   pub selected : Option (List ℕ)
   pub place : ℕ
+  -- the counts
   pub faults : ℕ
   pub missing : ℕ
 
+-- it is stored as its fields, a pair of each and the others
 abbrev pub inputs_code : Coded FilesInMemory
 inputs_code =
-    code_by _ (coded× (code (coded_list coded_ℕ) (coded_list coded_ℕ)) (coded× (coded_list coded_ℕ) (coded× (coded_list coded_ℕ) (coded× coded_ℕ
-    (coded× (coded_option (coded_list coded_ℕ)) (coded× coded_ℕ (coded× coded_ℕ coded_ℕ)))))))
-    (λ m. (m.files, (m.cuts, (m.failing, (m.calls, (m.selected, (m.place, (m.faults, m.missing))))))))
+    let bytes = coded_list coded_ℕ in
+    code_by _
+    (coded× (code bytes bytes) (coded× bytes (coded× bytes (coded× coded_ℕ
+    (coded× (coded_option bytes) (coded× coded_ℕ (coded× coded_ℕ coded_ℕ)))))))
+    (λ m. (
+      m.files,
+      (
+        m.cuts,
+        (
+          m.failing,
+          (
+            m.calls,
+            (m.selected, (m.place, (m.faults, m.missing))),
+          ),
+        ),
+      ),
+    ))
     (λ p. record {
       files = p.0;
       cuts = p.1.0;
@@ -53,17 +73,14 @@ abbrev pub put_in : FileMap → List Named → FileMap
 put_in files [] = files
 put_in files (file ∷ later) = put_in (insert files file.name file.bytes) later
 
--- the bytes of the file that stands at a place, if one does
+-- the bytes of the file at an index, if there is one
 abbrev pub bytes_at : List Named → Option ℕ → Option (List ℕ)
-bytes_at files place = option_and_then (λ index. option_map (λ file. file.bytes) (slice_get files index)) place
+bytes_at files at =
+    option_and_then (λ index. option_map (λ file. file.bytes) (slice_get files index)) at
 
 -- what is left of the selected file; nothing, where none is selected
 abbrev pub left_in : FilesInMemory → List ℕ
 left_in m = drop m.place (unwrap_or m.selected [])
-
--- whether the next call has a number that fails
-abbrev pub fails_next : List ℕ → ℕ → Bool
-fails_next failing calls = list_any (λ number. number == raised calls) failing
 
 -- after one call more
 abbrev pub called : FilesInMemory → FilesInMemory
@@ -78,9 +95,11 @@ pub record SelectsInMemory {E : Type 0} (old new : FilesInMemory) (name : List �
     (result : Result (Unit {0}) E) : Type 0 where
   pub absent : get old.files name ≡ None →
       IsErr result × (new ≡ record (deselected old) { missing = raised old.missing })
-  pub failing : (bytes : List ℕ) → get old.files name ≡ Some bytes → fails_next old.failing old.calls ≡ true →
+  pub failing : (bytes : List ℕ) → get old.files name ≡ Some bytes →
+      fails_next old.failing old.calls ≡ true →
       IsErr result × (new ≡ record (deselected old) { faults = raised old.faults })
-  pub found : (bytes : List ℕ) → get old.files name ≡ Some bytes → fails_next old.failing old.calls ≡ false →
+  pub found : (bytes : List ℕ) → get old.files name ≡ Some bytes →
+      fails_next old.failing old.calls ≡ false →
       IsOk result × (new ≡ record (called old) { selected = Some bytes; place = 0 })
 
 -- the greatest number that has a property
@@ -94,7 +113,8 @@ IsUncut cuts place n = AllByRecursion (λ cut. place < cut → place + n ≤ cut
 
 -- a read gives the longest front of what is left that fits into the slice and is uncut
 pub record GivesLongest (old new : FilesInMemory) (into into' : List ℕ) (n : ℕ) : Type 0 where
-  pub longest : IsGreatest (λ n. (n ≤ min (length (left_in old)) (length into)) × IsUncut old.cuts old.place n) n
+  pub longest : IsGreatest
+      (λ n. (n ≤ min (length (left_in old)) (length into)) × IsUncut old.cuts old.place n) n
   pub given : into' ≡ take n (left_in old) ++ drop n into
   pub after : new ≡ record (called old) { place = old.place + n }
 
@@ -103,4 +123,5 @@ pub record ReadsInMemory {E : Type 0} (old new : FilesInMemory) (into into' : Li
     (result : Result ℕ E) : Type 0 where
   pub failing : fails_next old.failing old.calls ≡ true →
       IsErr result × (into' ≡ into) × (new ≡ record (called old) { faults = raised old.faults })
-  pub gives : fails_next old.failing old.calls ≡ false → IsOkAnd result (GivesLongest old new into into')
+  pub gives : fails_next old.failing old.calls ≡ false →
+      IsOkAnd result (GivesLongest old new into into')

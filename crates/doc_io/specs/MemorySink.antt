@@ -1,15 +1,17 @@
 -- A sink in memory: what it holds, and what a write does to it.
 use Rattle.std.specs.Prelude.{◌≡◌, ℕ, ◌-◌, ◌||◌, min, nat_le, Bool, true, false, List, ◌++◌, length, take, Result, Ok, IsErr}
 use Rattle.doc_io.specs.Causes.{raised}
-use Rattle.doc_io.specs.MemoryInputs.{fails_next}
+use Rattle.doc_io.specs.FailingCalls.{fails_next}
 
--- the bytes written, and how many there is room for; the numbers of the calls that fail; the calls
--- so far, and how many of them failed
+-- what a test sees of a sink in memory
 pub record BytesInMemory : Type 0 where
+  -- the bytes written, and how many there is room for
   pub bytes : List ℕ
   pub room : ℕ
+  -- the numbers of the calls that fail, and how many calls there were
   pub failing : List ℕ
   pub calls : ℕ
+  -- the count
   pub faults : ℕ
 
 -- whether the next call fails: by its number, or since no room is left
@@ -20,8 +22,11 @@ write_fails s = fails_next s.failing s.calls || nat_le s.room (length s.bytes)
 abbrev pub fitting : BytesInMemory → List ℕ → ℕ
 fitting s piece = min (length piece) (s.room - length s.bytes)
 
--- a call that must fail raises the faults; any other appends as many bytes of the piece as fit
-pub record WritesInMemory {E : Type 0} (old new : BytesInMemory) (piece : List ℕ) (result : Result ℕ E) : Type 0 where
-  pub failing : write_fails old ≡ true → IsErr result × (new ≡ record old { calls = raised old.calls; faults = raised old.faults })
-  pub taken : write_fails old ≡ false → (result ≡ Ok (fitting old piece))
-      × (new ≡ record old { calls = raised old.calls; bytes = old.bytes ++ take (fitting old piece) piece })
+-- a call that must fail raises the count; any other appends as many bytes of the piece as fit
+pub record WritesInMemory {E : Type 0} (old new : BytesInMemory) (piece : List ℕ)
+    (result : Result ℕ E) : Type 0 where
+  pub failing : write_fails old ≡ true →
+      IsErr result × (new ≡ record old { calls = raised old.calls; faults = raised old.faults })
+  pub taken : write_fails old ≡ false →
+      let n = fitting old piece in
+      (result ≡ Ok n) × (new ≡ record old { calls = raised old.calls; bytes = old.bytes ++ take n piece })

@@ -138,7 +138,8 @@ impl<'a, R: Print> Sink for StdSink<'a, R> {
         ensures progress { IfOk result (λ n. 0 < n) }
         ensures bytes { WriteAppends None None result from.now }
         ensures cause { HasCause self.old self.new result }
-        ensures counts { MatchResult result (λ _. self.new ≡ self.old) (λ _. self.new ≡ raised self.old) }
+        ensures counts { MatchResult result
+            (λ _. self.new ≡ self.old) (λ _. self.new ≡ raised self.old) }
     {
         if let Ok(count) = self.rt.write_some(from)
             && count > 0

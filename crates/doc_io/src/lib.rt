@@ -13,6 +13,8 @@
 mod edge;
 mod memory_inputs;
 mod memory_sink;
+#[cfg(test)]
+mod tests;
 mod traits;
 mod whole;
 

@@ -11,10 +11,11 @@ use fixed_units::{List, Memory, Txt};
 use std::alloc::Global;
 use std::marker::Model;
 
-/// Files in memory, for tests: reads stop at the cuts that a test sets, and calls fail at the
+/// Files in memory, for tests: reads stop at the cuts that a test sets, and calls fail by the
 /// numbers that it gives.
 ///
-/// A select looks through the files one by one, so its time grows with their number.
+/// A select looks through the files one by one, so its time grows with their number. Neither it nor
+/// a read takes memory.
 #[derive(Drop)]
 pub struct MemoryInputs {
     alloc: Global,
@@ -89,7 +90,8 @@ impl MemoryInputs {
     /// Adds a file, or puts it in place of the one of that name. A file that is selected already
     /// is read on as it was.
     pub fn add_file(&mut self, name: &str, bytes: &[u8]) -> Result<(), Memory>
-        ensures ok { OnOk result (self.new ≡ record self.old { files = map.insert self.old.files name.now bytes.now }) }
+        ensures ok { OnOk result
+            (self.new ≡ record self.old { files = map.insert self.old.files name.now bytes.now }) }
         ensures err { OnErr result (self.new ≡ self.old) }
     {
         let name = Txt::make(self.alloc, name)?;
@@ -101,7 +103,8 @@ impl MemoryInputs {
 
     /// Makes each read of any file stop at a place, counted from 0 in bytes.
     pub fn cut_at(&mut self, place: u64) -> Result<(), Memory>
-        ensures ok { OnOk result (self.new ≡ record self.old { cuts = self.old.cuts ++ place ∷ [] }) }
+        ensures ok { OnOk result
+            (self.new ≡ record self.old { cuts = self.old.cuts ++ place ∷ [] }) }
         ensures err { OnErr result (self.new ≡ self.old) }
     {
         self.cuts.push(place)
@@ -109,7 +112,8 @@ impl MemoryInputs {
 
     /// Makes the call of a number fail. Calls are counted from 1 over `select` and `read` together.
     pub fn fail_at(&mut self, call: u64) -> Result<(), Memory>
-        ensures ok { OnOk result (self.new ≡ record self.old { failing = self.old.failing ++ call ∷ [] }) }
+        ensures ok { OnOk result
+            (self.new ≡ record self.old { failing = self.old.failing ++ call ∷ [] }) }
         ensures err { OnErr result (self.new ≡ self.old) }
     {
         self.failing.push(call)
@@ -152,7 +156,8 @@ impl Inputs for MemoryInputs {
         ensures files { map.get self.new.files ≡ map.get self.old.files }
         ensures missing { self.new.missing ≡ self.old.missing }
         ensures bound { ReadsAtMost result into.new }
-        ensures bytes { ReadConsumes (Some (left_in self.old)) (Some (left_in self.new)) result into.new }
+        ensures bytes { ReadConsumes (Some (left_in self.old)) (Some (left_in self.new))
+            result into.new }
         ensures cause { HasCause self.old.faults self.new.faults result }
         ensures exactly { ReadsInMemory self.old self.new into.old into.new result }
         ensures spared { self.old.failing ≡ [] → self.new.faults ≡ self.old.faults }
@@ -205,7 +210,8 @@ fn left_of(files: &[Named], selected: Option<usize>, place: usize) -> &[u8]
 
 /// Copies the longest front of what is left that fits and that no cut stops, and says how long.
 fn give(left: &[u8], cuts: &[u64], place: usize, into: &mut [u8]) -> usize
-    ensures longest { IsGreatest (λ n. (n ≤ min (length left.now) (length into.old)) × IsUncut cuts.now place n) result }
+    ensures longest { IsGreatest
+        (λ n. (n ≤ min (length left.now) (length into.old)) × IsUncut cuts.now place n) result }
     ensures given { into.new ≡ take result left.now ++ drop result into.old }
 {
     let count = uncut(cuts, place, left.len().min(into.len()));

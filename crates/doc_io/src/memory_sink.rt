@@ -8,8 +8,8 @@ use fixed_units::{List, Memory};
 use std::alloc::Global;
 use std::marker::Model;
 
-/// A sink in memory, for tests: it has room for so many bytes, and calls fail at the numbers that
-/// a test gives.
+/// A sink in memory, for tests: it has room for so many bytes, and calls fail by the numbers that a
+/// test gives. A write takes no memory, since `make` took the room.
 #[derive(Drop)]
 pub struct MemorySink {
     bytes: Vec<u8>,
@@ -33,13 +33,15 @@ impl Model for MemorySink {
       faults = sink.faults;
     } };
 
-    ghost invariant = { λ sink. (vec_len sink.bytes ≤ sink.room) × (sink.room ≤ vec_capacity sink.bytes) };
+    ghost invariant = { λ sink.
+        (vec_len sink.bytes ≤ sink.room) × (sink.room ≤ vec_capacity sink.bytes) };
 }
 
 impl MemorySink {
     /// An empty sink with room for so many bytes, and no call that fails.
     pub fn make(alloc: Global, room: usize) -> Result<MemorySink, Memory>
-        ensures { IfOk result (λ sink. sink ≡ record { bytes = []; room = room; failing = []; calls = 0; faults = 0 }) }
+        ensures { IfOk result (λ sink.
+            sink ≡ record { bytes = []; room = room; failing = []; calls = 0; faults = 0 }) }
     {
         let bytes = Vec::with_capacity(alloc, room)?;
         Ok(MemorySink {
@@ -53,7 +55,8 @@ impl MemorySink {
 
     /// Makes the call of a number fail. Calls are counted from 1.
     pub fn fail_at(&mut self, call: u64) -> Result<(), Memory>
-        ensures ok { OnOk result (self.new ≡ record self.old { failing = self.old.failing ++ call ∷ [] }) }
+        ensures ok { OnOk result
+            (self.new ≡ record self.old { failing = self.old.failing ++ call ∷ [] }) }
         ensures err { OnErr result (self.new ≡ self.old) }
     {
         self.failing.push(call)
@@ -80,7 +83,8 @@ impl Sink for MemorySink {
         ensures bytes { WriteAppends (Some self.old.bytes) (Some self.new.bytes) result from.now }
         ensures cause { HasCause self.old.faults self.new.faults result }
         ensures exactly { WritesInMemory self.old self.new from.now result }
-        ensures spared { self.old.failing ≡ [] → length self.old.bytes < self.old.room → self.new.faults ≡ self.old.faults }
+        ensures spared { self.old.failing ≡ [] → length self.old.bytes < self.old.room →
+            self.new.faults ≡ self.old.faults }
     {
         self.calls = self.calls.saturating_add(1);
         let is_full = self.room <= self.bytes.len();

@@ -48,6 +48,7 @@ const BLOCK: usize = 16384;
 /// The whole file of a name, which may have at most `limit` bytes.
 ///
 /// It reads at most `limit + 1` bytes of the file, however long that is.
+#[tactic(auto, using(crate::proofs::Within::reads_within))]
 pub fn read_all<I: Inputs>(
     alloc: Global,
     inputs: &mut I,

@@ -1,6 +1,7 @@
 use Rattle.std.proofs.Common.{◌≡◌, [], drop, false, arith, rules}
 use Rattle.std.specs.Option.{unwrap_or}
-use Rattle.doc_io.specs.MemoryInputs.{bytes_at, fails_next}
+use Rattle.doc_io.specs.FailingCalls.{fails_next}
+use Rattle.doc_io.specs.MemoryInputs.{bytes_at}
 use Rattle.doc_io.proofs.Cuts.{nothing_left}
 use Rattle.doc_io.proofs.MemoryCalls.{left_after, nothing_after, reads_given}
 use Rattle.doc_io.proofs.memory_inputs.MemoryInputsInputs.read.Goals as goal

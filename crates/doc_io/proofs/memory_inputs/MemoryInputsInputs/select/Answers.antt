@@ -1,6 +1,7 @@
 use Rattle.std.proofs.Common.{◌≡◌, true, false, Some, rules}
 use Rattle.std.specs.FinMap.{empty, get}
-use Rattle.doc_io.specs.MemoryInputs.{bytes_at, fails_next, put_in}
+use Rattle.doc_io.specs.FailingCalls.{fails_next}
+use Rattle.doc_io.specs.MemoryInputs.{bytes_at, put_in}
 use Rattle.doc_io.proofs.MemoryFiles.{bytes_within}
 use Rattle.doc_io.proofs.MemoryCalls.{selects_failing, selects_found, selects_told}
 use Rattle.doc_io.proofs.memory_inputs.MemoryInputsInputs.select.Goals as goal

@@ -1,5 +1,5 @@
 use Rattle.std.proofs.Common.{◌≡◌, ◌-◌, ◌++◌, ◌||◌, min, length, take, true, false, nat_le, rules}
-use Rattle.doc_io.specs.MemoryInputs.{fails_next}
+use Rattle.doc_io.specs.FailingCalls.{fails_next}
 use Rattle.doc_io.proofs.MemoryCalls.{writes_failing, writes_taken}
 use Rattle.doc_io.proofs.memory_sink.MemorySinkSink.write.Goals as goal
 
