@@ -3,3 +3,4 @@ mod Keys
 mod Shapes
 mod Names
 mod Forms
+pub mod Callers
