@@ -18,22 +18,26 @@ appends_kept (Some a) None h = absurd h
 appends_kept (Some a) (Some b) h = h ∙ sym (append-nil a)
 
 -- two pieces one after another
-pub appends_both : (a b c : Option (List ℕ)) (xs ys : List ℕ) → Appends a b xs → Appends b c ys → Appends a c (xs ++ ys)
+pub appends_both : (a b c : Option (List ℕ)) (xs ys : List ℕ) → Appends a b xs → Appends b c ys →
+    Appends a c (xs ++ ys)
 appends_both None b c xs ys h k = tt
 appends_both (Some a) None c xs ys h k = absurd h
 appends_both (Some a) (Some b) None xs ys h k = absurd k
 appends_both (Some a) (Some b) (Some c) xs ys h k = k ∙ ap (λ l. l ++ ys) h ∙ append_assoc a xs ys
 
 -- a front of the first piece is a front of both
-pub appends_front_left : (a b : Option (List ℕ)) (xs ys : List ℕ) (n : ℕ) → n ≤ length xs → Appends a b (take n xs) → Appends a b (take n (xs ++ ys))
+pub appends_front_left : (a b : Option (List ℕ)) (xs ys : List ℕ) (n : ℕ) → n ≤ length xs →
+    Appends a b (take n xs) → Appends a b (take n (xs ++ ys))
 appends_front_left a b xs ys n within h = subst (Appends a b) (sym (take-append-le n xs ys within)) h
 
 -- a piece, and then a front of the next
-pub appends_front_right : (a b c : Option (List ℕ)) (xs ys : List ℕ) (n : ℕ) → Appends a b xs → Appends b c (take n ys) → Appends a c (take (length xs + n) (xs ++ ys))
+pub appends_front_right : (a b c : Option (List ℕ)) (xs ys : List ℕ) (n : ℕ) → Appends a b xs →
+    Appends b c (take n ys) → Appends a c (take (length xs + n) (xs ++ ys))
 appends_front_right a b c xs ys n h k = subst (Appends a c) (sym (take-append-add xs ys n)) (appends_both a b c xs (take n ys) h k)
 
 -- a front of a piece, and then a front of its rest
-pub appends_fronts : (a b c : Option (List ℕ)) (xs : List ℕ) (m n : ℕ) → Appends a b (take m xs) → Appends b c (take n (drop m xs)) → Appends a c (take (m + n) xs)
+pub appends_fronts : (a b c : Option (List ℕ)) (xs : List ℕ) (m n : ℕ) → Appends a b (take m xs) →
+    Appends b c (take n (drop m xs)) → Appends a c (take (m + n) xs)
 appends_fronts a b c xs m n h k = subst (Appends a c) (sym (take-add m n xs)) (appends_both a b c (take m xs) (take n (drop m xs)) h k)
 
 -- the rest of a piece, as `&xs[m..]` has it
@@ -41,11 +45,13 @@ take_rest : (xs : List ℕ) (m : ℕ) → take (length xs - m) (drop m xs) ≡ d
 take_rest xs m = grind (arith, common_steps)
 
 -- a front of a piece, and then a front of `&xs[m..]`
-pub appends_slice : (a b c : Option (List ℕ)) (xs : List ℕ) (m n : ℕ) → Appends a b (take m xs) → Appends b c (take n (take (length xs - m) (drop m xs))) → Appends a c (take (m + n) xs)
+pub appends_slice : (a b c : Option (List ℕ)) (xs : List ℕ) (m n : ℕ) → Appends a b (take m xs) →
+    Appends b c (take n (take (length xs - m) (drop m xs))) → Appends a c (take (m + n) xs)
 appends_slice a b c xs m n h k = appends_fronts a b c xs m n h (subst (λ ys. Appends b c (take n ys)) (take_rest xs m) k)
 
 -- two fronts taken one after another
-pub consumes_both : (a b c : Option (List ℕ)) (xs ys : List ℕ) → Consumes a b xs → Consumes b c ys → Consumes a c (xs ++ ys)
+pub consumes_both : (a b c : Option (List ℕ)) (xs ys : List ℕ) → Consumes a b xs → Consumes b c ys →
+    Consumes a c (xs ++ ys)
 consumes_both None b c xs ys h k = tt
 consumes_both (Some a) None c xs ys h k = absurd h
 consumes_both (Some a) (Some b) None xs ys h k = absurd k

@@ -8,22 +8,28 @@ use Rattle.doc_io.specs.declared.whole.ReadRefusal.{ReadRefusal}
 use Rattle.doc_io.proofs.Known.{consumes_both}
 
 -- one read more, while the bound holds
-pub within_both : (a b c : Option (List ℕ)) (xs ys : List ℕ) (most : ℕ) → Consumes a b xs → Consumes b c ys → length xs + length ys ≤ most → ConsumesAtMost most a c
+pub within_both : (a b c : Option (List ℕ)) (xs ys : List ℕ) (most : ℕ) → Consumes a b xs →
+    Consumes b c ys → length xs + length ys ≤ most → ConsumesAtMost most a c
 within_both a b c xs ys most h k short = (xs ++ ys, omega (arith, length-append xs ys), consumes_both a b c xs ys h k)
 
 -- where the whole file was left at first, a front of the file is taken
-without_front : (whole : List ℕ) (rest rest' : Option (List ℕ)) (most : ℕ) → rest ≡ Some whole → ConsumesAtMost most rest rest' → IsWithoutFront most whole rest'
+without_front : (whole : List ℕ) (rest rest' : Option (List ℕ)) (most : ℕ) → rest ≡ Some whole →
+    ConsumesAtMost most rest rest' → IsWithoutFront most whole rest'
 without_front whole None rest' most e c = absurd (cc)
 without_front whole (Some a) None most e c = absurd c.2
 without_front whole (Some a) (Some b) most e c =
     let same : whole ≡ c.0 ++ b = cc in
     (length c.0, c.1, ap Some (sym (ap (drop (length c.0)) same ∙ drop-append_seam c.0 b)))
 
-of_file : (file rest rest' : Option (List ℕ)) (most : ℕ) → IsSome file → rest ≡ file → ConsumesAtMost most rest rest' → (bytes : List ℕ) × (file ≡ Some bytes) × IsWithoutFront most bytes rest'
+of_file : (file rest rest' : Option (List ℕ)) (most : ℕ) → IsSome file → rest ≡ file →
+    ConsumesAtMost most rest rest' →
+    (bytes : List ℕ) × (file ≡ Some bytes) × IsWithoutFront most bytes rest'
 of_file None rest rest' most s e c = absurd (cc)
 of_file (Some bytes) rest rest' most s e c = (bytes, refl, without_front bytes rest rest' most e c)
 
 -- a reader of a selected file takes a front of it
-pub reads_within : (files : Option Files) (rest rest' : Option (List ℕ)) (name : List ℕ) (most : ℕ) (result : Result (List ℕ) ReadRefusal) → IfSome files (λ f. IsSome (f name) × (rest ≡ f name)) → ConsumesAtMost most rest rest' → ReadsWithin most files rest' name result
+pub reads_within : (files : Option Files) (rest rest' : Option (List ℕ)) (name : List ℕ) (most : ℕ) (result : Result (List ℕ) ReadRefusal) →
+    IfSome files (λ f. IsSome (f name) × (rest ≡ f name)) → ConsumesAtMost most rest rest' →
+    ReadsWithin most files rest' name result
 reads_within None rest rest' name most result h c = tt
 reads_within (Some f) rest rest' name most result h c = inl (of_file (f name) rest rest' most h.0 h.1 c)

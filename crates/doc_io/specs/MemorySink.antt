@@ -29,4 +29,5 @@ pub record WritesInMemory {E : Type 0} (old new : BytesInMemory) (piece : List �
       IsErr result × (new ≡ record old { calls = raised old.calls; faults = raised old.faults })
   pub taken : write_fails old ≡ false →
       let n = fitting old piece in
-      (result ≡ Ok n) × (new ≡ record old { calls = raised old.calls; bytes = old.bytes ++ take n piece })
+      (result ≡ Ok n)
+      × (new ≡ record old { calls = raised old.calls; bytes = old.bytes ++ take n piece })

@@ -1,4 +1,4 @@
-ghost use Rattle.std.specs.Prelude.{◌≡◌, ◌<◌, ◌≤◌, false, length, IfOk, None, MatchResult};
+ghost use Rattle.std.specs.Prelude.{◌≡◌, ◌<◌, ◌≤◌, [], false, length, IfOk, None, Some, MatchResult};
 ghost use Rattle.std.specs.Io.{ReadsAtMost};
 ghost use Rattle.std.specs.Io.KnownBytes.{ReadConsumes, WriteAppends};
 ghost use Rattle.doc_io.specs.Causes.{HasCause, Selects, raised};
@@ -10,8 +10,8 @@ use std::io::{ErrorKind, Read};
 use std::marker::Model;
 use std::rt::Files;
 
-/// The files of the system, by their paths. Nothing of their content is told: this is where trust
-/// in the system begins.
+/// The files of the system, by their paths. Of their content nothing is told but what the readers
+/// that `R` opens tell, and those of a real system tell nothing: trust begins here.
 ///
 /// Each error of the system raises one count by one: `missing` where the file isn't found, else
 /// `faults`. A directory opens like a file, and reading it is a fault.
@@ -25,12 +25,13 @@ pub struct FileInputs<'a, R: Files> {
 
 impl<'a, R: Files> Model for FileInputs<'a, R> {
     ghost use Rattle.std.specs.Prelude.{is_some};
-    ghost use Rattle.doc_io.specs.Edge.{FileState};
+    ghost use Rattle.doc_io.specs.Edge.{FileState, told_by};
 
     ghost Value = { FileState };
 
     ghost view = { λ inputs. record {
       selected = is_some inputs.file;
+      left = told_by R.File.remaining inputs.file;
       faults = inputs.faults;
       missing = inputs.missing;
     } };
@@ -39,7 +40,7 @@ impl<'a, R: Files> Model for FileInputs<'a, R> {
 impl<'a, R: Files> FileInputs<'a, R> {
     /// The system's files, none of them selected.
     pub fn make(rt: &'a R) -> FileInputs<'a, R>
-        ensures { result ≡ record { selected = false; faults = 0; missing = 0 } }
+        ensures { result ≡ record { selected = false; left = Some []; faults = 0; missing = 0 } }
     {
         FileInputs {
             rt,
@@ -53,14 +54,14 @@ impl<'a, R: Files> FileInputs<'a, R> {
 impl<'a, R: Files> Inputs for FileInputs<'a, R> {
     ghost files = { λ _. None };
 
-    ghost rest = { λ _. None };
+    ghost rest = { λ inputs. inputs.left };
 
     ghost faults = { λ inputs. inputs.faults };
 
     ghost missing = { λ inputs. inputs.missing };
 
     fn select(&mut self, name: &str) -> Result<(), Failed>
-        ensures selects { Selects None None self.old.faults self.new.faults
+        ensures selects { Selects None self.new.left self.old.faults self.new.faults
             self.old.missing self.new.missing name.now result }
         ensures counts { SelectsFile self.old self.new result }
     {
@@ -85,7 +86,7 @@ impl<'a, R: Files> Inputs for FileInputs<'a, R> {
         requires { 0 < length into.old }
         ensures missing { self.new.missing ≡ self.old.missing }
         ensures bound { ReadsAtMost result into.new }
-        ensures bytes { ReadConsumes None None result into.new }
+        ensures bytes { ReadConsumes self.old.left self.new.left result into.new }
         ensures cause { HasCause self.old.faults self.new.faults result }
         ensures counts { ReadsFile self.old self.new result }
     {

@@ -1,22 +1,25 @@
-//! What the program reads from and writes to: named files, one sink, and whole files and pieces.
+//! What the program reads from and writes to: named files, a sink, and whole files and pieces.
 //!
-//! `Inputs` and `Sink` are the only ways out of the program. Everything above is generic in them,
-//! so one proof serves the files of a system and the files of a test.
+//! `Inputs` and `Sink` are the only ways to the outside, and everything above is generic in them:
+//! one proof serves `FileInputs` and `StdSink`, which are the system's, and `MemoryInputs` and
+//! `MemorySink`, with which a test lets any call fail.
 //!
-//! - Models: `std::io::Read` and `Write`, with a count of faults in place of the error's value.
-//! - Proved: `read_all` gives the whole file and `write_all` appends the whole piece, or each
-//!   answers a fault that was counted (`specs/Whole.antt`).
+//! - Models: `std::io::Read` and `Write`, with counts of failures in place of the error's value.
+//! - Proved: `read_all` gives the whole file and `write_all` appends the whole piece, or a count
+//!   rose (`specs/Whole.antt`); each call in memory is exact (`specs/MemoryInputs.antt`,
+//!   `specs/MemorySink.antt`).
 //! - Knows nothing of: formats, lines, fonts, trees.
-//! - Change what inputs promise: `specs/Causes.antt`, then `src/traits.rt`, then `rt check`.
+//! - Change what every input or sink promises: `specs/Causes.antt`, then `src/traits.rt`, then
+//!   `rt check`.
 #![tactic(auto)]
 
-mod edge;
-mod memory_inputs;
-mod memory_sink;
+mod edge; // the system's files and standard output
+mod memory_inputs; // files of a test
+mod memory_sink; // a sink of a test
 #[cfg(test)]
 mod tests;
-mod traits;
-mod whole;
+mod traits; // Inputs, Sink
+mod whole; // read_all, write_all
 
 pub use edge::{FileInputs, StdSink};
 pub use memory_inputs::MemoryInputs;

@@ -31,8 +31,8 @@ pub trait Inputs {
     /// Selects the file of a name, from its front. After `Failed` no file is selected.
     fn select(&mut self, name: &str) -> Result<(), Failed>
         ensures files { files self.new ≡ files self.old }
-        ensures selects { Selects (files self.old) (rest self.new)
-            (faults self.old) (faults self.new) (missing self.old) (missing self.new) name.now result };
+        ensures selects { Selects (files self.old) (rest self.new) (faults self.old) (faults self.new)
+            (missing self.old) (missing self.new) name.now result };
 
     /// Moves some bytes of the selected file to the front of `into`, and says how many: at least
     /// one, or 0 at the end of the file. `Failed` moves none.

@@ -58,7 +58,8 @@ pub fn read_all<I: Inputs>(
     ensures files { I.files inputs.new ≡ I.files inputs.old }
     ensures reads { ReadsAll (I.files inputs.old) (I.faults inputs.old) (I.faults inputs.new)
         (I.missing inputs.old) (I.missing inputs.new) name.now limit result }
-    ensures within { ReadsWithin (limit + 1) (I.files inputs.old) (I.rest inputs.new) name.now result }
+    ensures within { ReadsWithin (limit + 1) (I.files inputs.old) (I.rest inputs.new)
+        name.now result }
 {
     match inputs.select(name) {
         Ok(()) => read_rest(alloc, inputs, limit),
@@ -89,7 +90,8 @@ fn read_rest<I: Inputs>(
 ) -> Result<List<u8>, ReadRefusal>
     ensures files { I.files inputs.new ≡ I.files inputs.old }
     ensures missing { I.missing inputs.new ≡ I.missing inputs.old }
-    ensures reads { ReadsRest (I.rest inputs.old) (I.faults inputs.old) (I.faults inputs.new) limit result }
+    ensures reads { ReadsRest (I.rest inputs.old) (I.faults inputs.old) (I.faults inputs.new)
+        limit result }
     ensures within { ConsumesAtMost (limit + 1) (I.rest inputs.old) (I.rest inputs.new) }
 {
     let mut bytes = List::make(alloc);
