@@ -4,9 +4,11 @@ use crate::{
     read_all, write_all,
 };
 use fixed_units::List;
-use std::fs;
+use std::cell::Cell;
+use std::fmt::Display;
 use std::process::Abort;
 use std::test::Fail;
+use std::{fs, io};
 
 fn assert_read(
     rt: &impl Abort,
@@ -110,19 +112,20 @@ fn files_of_the_system_are_read_whole(rt: HostRuntime) -> Result<(), Fail> {
     blocks.resize(40000, b'x')?;
     fs::write(&rt, "blocks", blocks.as_slice())?;
     fs::write(&rt, "metrics", "upem 1024")?;
-    fs::create_dir(&rt, "folder")?;
     let mut inputs = FileInputs::make(&rt);
     for (name, limit, want) in [
         ("blocks", 40000, Ok(blocks.as_slice())),
         ("blocks", 39999, Err(ReadRefusal::TooLong)),
         ("metrics", 100, Ok(b"upem 1024".as_slice())),
         ("absent", 100, Err(ReadRefusal::ReadFault)),
-        ("folder", 100, Err(ReadRefusal::ReadFault)),
+        (".", 100, Err(ReadRefusal::ReadFault)),
     ] {
         assert_read(&rt, read_all(rt.alloc(), &mut inputs, name, limit), want);
     }
     assert_eq!(rt; inputs.select("absent"), Err(Failed));
     assert_eq!(rt; inputs.read(&mut [0u8; 8]), Ok(0));
+    fs::remove_file(&rt, "blocks")?;
+    fs::remove_file(&rt, "metrics")?;
     Ok(())
 }
 
@@ -130,4 +133,41 @@ fn files_of_the_system_are_read_whole(rt: HostRuntime) -> Result<(), Fail> {
 fn standard_output_takes_a_piece(rt: HostRuntime) {
     let mut out = StdSink::make(&rt);
     assert_eq!(rt; write_all(&mut out, b"a piece\n"), Ok(()));
+}
+
+// Prints nothing: it takes three bytes a call while it has room, and then none.
+#[derive(Drop)]
+struct Narrow {
+    room: Cell<usize>,
+}
+
+impl Print for Narrow {
+    fn print<D: Display + Drop>(&self, _value: D) -> io::Result<()> {
+        Ok(())
+    }
+
+    fn println<D: Display + Drop>(&self, _value: D) -> io::Result<()> {
+        Ok(())
+    }
+
+    fn write_all(&self, _bytes: &[u8]) -> io::Result<()> {
+        Ok(())
+    }
+
+    fn write_some(&self, bytes: &[u8]) -> io::Result<usize> {
+        let room = self.room.get();
+        let count = bytes.len().min(room).min(3);
+        self.room.set(room - count);
+        Ok(count)
+    }
+}
+
+#[test]
+fn an_output_that_takes_no_byte_has_failed(rt: HostRuntime) {
+    let narrow = Narrow { room: Cell::new(8) };
+    let mut out = StdSink::make(&narrow);
+    for (want, room) in [(Ok(()), 4), (Ok(()), 0), (Err(WriteFault), 0)] {
+        assert_eq!(rt; write_all(&mut out, b"box "), want);
+        assert_eq!(rt; narrow.room.get(), room);
+    }
 }
