@@ -1,0 +1,164 @@
+-- How the answers of the two files make the answer of the words.
+use Rattle.std.proofs.Common.{◌≡◌, ◌⊎◌, inl, inr, ℕ, List, refl, ap, sym, ◌∙◌, subst, arith, Option, Some, None, IfSome, ◌≤◌}
+use Rattle.std.specs.Prelude.{Result, Ok, Err, IsErrOf, IsSomeAnd, IsNone, IsOk}
+use Rattle.std.specs.Option.{option_map}
+use Rattle.doc_io.specs.Causes.{Files, Rose}
+use Rattle.font_metrics.specs.Metrics.{MetricsValue}
+use Rattle.math_tree.specs.Trees.{TreeValue}
+use Rattle.mathlay.specs.Command.{FileNames, layout_files}
+use Rattle.mathlay.specs.Placed.{place}
+use Rattle.mathlay.specs.Lines.{text_of}
+use Rattle.mathlay.specs.Answer.{content, metrics_in, tree_in, ◌>>=◌, answer_in, answer_to, answer}
+use Rattle.mathlay.specs.Ends.{Seen, IsReachedOf, LacksFileOf, LacksFile, HasReadCause, IsCut, GivesOr, Answers}
+use Rattle.mathlay.specs.declared.refusal.Refusal.{Refusal}
+use Rattle.mathlay.specs.declared.refusal.Refusal.TheVariants.{Usage, ReadFault, Memory}
+
+-- the same refusal, of another type of answer
+cut_again : {A B : Type 0} (r : Refusal) → IsCut {V = A} (Err r) → IsCut {V = B} (Err r)
+cut_again r (inl fault) = inl (let e = fault in cc)
+cut_again r (inr memory) = inr (let e = memory in cc)
+
+err_again : {A B : Type 0} (r s : Refusal) → IsErrOf {T = A} (Err r) s → IsErrOf {T = B} (Err r) s
+err_again r s e = cc
+
+ok_is_not_cut : {A : Type 0} (a : A) → IsCut (Ok a) → ⊥
+ok_is_not_cut a (inl fault) = cc
+ok_is_not_cut a (inr memory) = cc
+
+-- a cause of a part is one of the whole
+cause_of_more : (lacks lacks' : Files → Type 0) (before mid after : Seen) → mid.files ≡ before.files
+    → before.faults ≤ mid.faults → before.missing ≤ mid.missing
+    → ((f : Files) → before.files ≡ Some f → lacks f → lacks' f) → HasReadCause lacks mid after → HasReadCause lacks' before after
+cause_of_more lacks lacks' before mid after same f m more (inl rose) = inl (omega arith)
+cause_of_more lacks lacks' before mid after same f m more (inr (inl lack)) = inr (inl (by before.files refl (subst (λ o. IsSomeAnd o lacks) same lack)))
+  where
+    by : (files : Option Files) → before.files ≡ files → IsSomeAnd files lacks → IsSomeAnd files lacks'
+    by None is h = h
+    by (Some g) is h = more g is h
+cause_of_more lacks lacks' before mid after same f m more (inr (inr untold)) = inr (inr (subst IsNone same untold.0, omega (arith, untold.1)))
+
+-- ---- the definition, by what the two files give
+
+refused_by_metrics : (m t : List ℕ) (r : Refusal) → metrics_in m ≡ Err r → answer_in m t ≡ Err r
+unfolding answer_in
+refused_by_metrics m t r h = ap (λ x. x >>= λ metrics. tree_in t >>= λ tree. Ok (text_of metrics (place metrics tree.root))) h
+
+refused_by_tree : (m t : List ℕ) (metrics : MetricsValue) (r : Refusal) → metrics_in m ≡ Ok metrics → tree_in t ≡ Err r → answer_in m t ≡ Err r
+unfolding answer_in
+refused_by_tree m t metrics r h k =
+    ap (λ x. x >>= λ metrics. tree_in t >>= λ tree. Ok (text_of metrics (place metrics tree.root))) h
+    ∙ ap (λ x. x >>= λ tree. Ok (text_of metrics (place metrics tree.root))) k
+
+answered : (m t : List ℕ) (metrics : MetricsValue) (tree : TreeValue) → metrics_in m ≡ Ok metrics → tree_in t ≡ Ok tree
+    → answer_in m t ≡ Ok (text_of metrics (place metrics tree.root))
+unfolding answer_in
+answered m t metrics tree h k =
+    ap (λ x. x >>= λ metrics. tree_in t >>= λ tree. Ok (text_of metrics (place metrics tree.root))) h
+    ∙ ap (λ x. x >>= λ tree. Ok (text_of metrics (place metrics tree.root))) k
+
+-- ---- the metrics file
+
+abbrev MetricsAnswer : FileNames → Seen → Seen → Result MetricsValue Refusal → Type 0
+MetricsAnswer names before after result =
+    Answers (option_map (λ f. metrics_in (content f names.metrics)) before.files) (λ f. f names.metrics ≡ None) before after result
+
+abbrev TreeAnswer : FileNames → Seen → Seen → Result TreeValue Refusal → Type 0
+TreeAnswer names before after result =
+    Answers (option_map (λ f. tree_in (content f names.tree)) before.files) (λ f. f names.tree ≡ None) before after result
+
+abbrev WholeAnswer : FileNames → Seen → Seen → Result (List ℕ) Refusal → Type 0
+WholeAnswer names before after result =
+    Answers (option_map (answer_to (Some names)) before.files) (LacksFileOf (Some names)) before after result
+
+-- without metrics there is no answer, and the tree file isn't reached
+pub without_metrics : (names : FileNames) (before after : Seen) (r : Refusal)
+    → MetricsAnswer names before after (Err r) → WholeAnswer names before after (Err r)
+without_metrics names before after r a = record {
+  answer = answer before.files a.answer;
+  fault = λ is. cause_of_more (λ f. f names.metrics ≡ None) (LacksFileOf (Some names)) before before after refl (omega arith) (omega arith)
+      (λ f there lack. (names.metrics, inl refl, lack)) (a.fault (err_again r ReadFault is));
+  lacking = lacking before.files refl a.answer;
+  files = a.files;
+  faults = a.faults;
+  missing = a.missing;
+}
+  where
+    answer : (files : Option Files) → IfSome (option_map (λ f. metrics_in (content f names.metrics)) files) (λ w. IsCut {V = MetricsValue} (Err r) ⊎ (Err r ≡ w))
+        → IfSome (option_map (answer_to (Some names)) files) (λ w. IsCut {V = List ℕ} (Err r) ⊎ (Err r ≡ w))
+    answer None h = tt
+    answer (Some f) (inl cut) = inl (cut_again r cut)
+    answer (Some f) (inr same) = inr (sym (refused_by_metrics (content f names.metrics) (content f names.tree) r (sym same)))
+
+    lacking : (files : Option Files) → before.files ≡ files
+        → IfSome (option_map (λ f. metrics_in (content f names.metrics)) files) (λ w. IsCut {V = MetricsValue} (Err r) ⊎ (Err r ≡ w))
+        → IsSomeAnd files (LacksFileOf (Some names)) → IsCut {V = List ℕ} (Err r)
+    lacking None is h lack = absurd lack
+    lacking (Some f) is h (name, inl named, away) =
+        cut_again r (a.lacking (subst (λ o. IsSomeAnd o (λ f. f names.metrics ≡ None)) (sym is) (subst (λ n. f n ≡ None) named away)))
+    lacking (Some f) is (inl cut) (name, inr reached, away) = cut_again r cut
+    lacking (Some f) is (inr same) (name, inr reached, away) = absurd (let e = subst IsOk (sym same) reached.1 in cc)
+
+-- ---- the tree file, behind the metrics
+
+-- what the answer of the tree file makes of the whole one
+abbrev pub Continues : MetricsValue → Result TreeValue Refusal → Result (List ℕ) Refusal → Type 0
+Continues metrics (Err r) result = result ≡ Err r
+Continues metrics (Ok tree) result = GivesOr (Ok (text_of metrics (place metrics tree.root))) result
+
+module _ (names : FileNames) (before mid after : Seen) (metrics : MetricsValue)
+    (m : MetricsAnswer names before mid (Ok metrics)) where
+  -- the metrics file was there and gave the metrics
+  given : (f : Files) → before.files ≡ Some f → metrics_in (content f names.metrics) ≡ Ok metrics
+  given f is = elim (subst (λ o. IfSome (option_map (λ f. metrics_in (content f names.metrics)) o) (λ w. IsCut (Ok metrics) ⊎ (Ok metrics ≡ w))) is m.answer) [
+    | inl cut ↦ absurd (ok_is_not_cut metrics cut)
+    | inr same ↦ sym same
+  ]
+
+  tree_told : (tree : Result TreeValue Refusal) → TreeAnswer names mid after tree → (f : Files) → before.files ≡ Some f
+      → IsCut tree ⊎ (tree ≡ tree_in (content f names.tree))
+  tree_told tree t f is = subst (λ o. IfSome (option_map (λ f. tree_in (content f names.tree)) o) (λ w. IsCut tree ⊎ (tree ≡ w))) (m.files ∙ is) t.answer
+
+  -- a lacking file can only be the tree's
+  tree_lacks : (tree : Result TreeValue Refusal) → TreeAnswer names mid after tree
+      → (files : Option Files) → before.files ≡ files → IsSomeAnd files (LacksFileOf (Some names)) → IsCut tree
+  tree_lacks tree t None is lack = absurd lack
+  tree_lacks tree t (Some f) is (name, inl named, away) =
+      absurd (ok_is_not_cut metrics (m.lacking (subst (λ o. IsSomeAnd o (λ f. f names.metrics ≡ None)) (sym is) (subst (λ n. f n ≡ None) named away))))
+  tree_lacks tree t (Some f) is (name, inr reached, away) =
+      t.lacking (subst (λ o. IsSomeAnd o (λ f. f names.tree ≡ None)) (sym (m.files ∙ is)) (subst (λ n. f n ≡ None) reached.0 away))
+
+  whole_answer : (tree : Result TreeValue Refusal) (result : Result (List ℕ) Refusal) → TreeAnswer names mid after tree → Continues metrics tree result
+      → (files : Option Files) → before.files ≡ files → IfSome (option_map (answer_to (Some names)) files) (λ w. IsCut result ⊎ (result ≡ w))
+  whole_answer tree result t k None is = tt
+  whole_answer (Err r) result t k (Some f) is = elim (tree_told (Err r) t f is) [
+    | inl cut ↦ inl (subst IsCut (sym k) (cut_again r cut))
+    | inr same ↦ inr (k ∙ sym (refused_by_tree (content f names.metrics) (content f names.tree) metrics r (given f is) (sym same)))
+  ]
+  whole_answer (Ok tree) result t k (Some f) is = elim k [
+    | inl memory ↦ inl (inr memory)
+    | inr text ↦ elim (tree_told (Ok tree) t f is) [
+      | inl cut ↦ absurd (ok_is_not_cut tree cut)
+      | inr same ↦ inr (text ∙ sym (answered (content f names.metrics) (content f names.tree) metrics tree (given f is) (sym same)))
+    ]
+  ]
+
+  fault_of_tree : (tree : Result TreeValue Refusal) (result : Result (List ℕ) Refusal) → Continues metrics tree result
+      → IsErrOf result ReadFault → IsErrOf tree ReadFault
+  fault_of_tree (Err r) result k is = err_again r ReadFault (sym k ∙ is)
+  fault_of_tree (Ok tree) result k is = elim k [ inl memory ↦ absurd (let e = sym is ∙ memory in cc) | inr text ↦ absurd (let e = sym is ∙ text in cc) ]
+
+  cut_of_tree : (tree : Result TreeValue Refusal) (result : Result (List ℕ) Refusal) → Continues metrics tree result → IsCut tree → IsCut result
+  cut_of_tree (Err r) result k cut = subst IsCut (sym k) (cut_again r cut)
+  cut_of_tree (Ok tree) result k cut = absurd (ok_is_not_cut tree cut)
+
+  pub with_tree : (tree : Result TreeValue Refusal) (result : Result (List ℕ) Refusal)
+      → TreeAnswer names mid after tree → Continues metrics tree result → WholeAnswer names before after result
+  with_tree tree result t k = record {
+    answer = whole_answer tree result t k before.files refl;
+    fault = λ is. cause_of_more (λ f. f names.tree ≡ None) (LacksFileOf (Some names)) before mid after m.files m.faults m.missing
+        (λ f there lack. (names.tree, inr (refl, subst IsOk (sym (given f there)) refl), lack)) (t.fault (fault_of_tree tree result k is));
+    lacking = λ lack. cut_of_tree tree result k (tree_lacks tree t before.files refl lack);
+    files = t.files ∙ m.files;
+    faults = omega (arith, m.faults, t.faults);
+    missing = omega (arith, m.missing, t.missing);
+  }

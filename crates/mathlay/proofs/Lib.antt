@@ -1,0 +1,4 @@
+pub mod Ending
+pub mod Loading
+pub mod Answering
+pub mod Placing
