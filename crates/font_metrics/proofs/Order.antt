@@ -8,7 +8,7 @@ use Rattle.font_metrics.specs.declared.keyword.Keyword.{Keyword}
 use Rattle.font_metrics.specs.declared.keyword.Keyword.TheVariants.{Version, Upem, Line, XHeight, Glyph, Char, Other}
 use Rattle.font_metrics.specs.Metrics.{NamedGlyph, MetricsValue, metrics_value, place_of_name, place_of_code}
 use Rattle.font_metrics.specs.Words.{◌>>=◌, only_if}
-use Rattle.font_metrics.specs.Short.{Words, keyword_of, version_in, upem_in, line_in, x_height_in, glyph_in, char_in, own, is_glyph, is_glyph_line, front_by, behind_by, each_gives, is_distinct, have_distinct_names, have_distinct_codes, has_missing, short_of}
+use Rattle.font_metrics.specs.Short.{Words, keyword_of, version_in, upem_in, line_in, x_height_in, glyph_in, char_in, by_keyword, is_glyph, is_glyph_line, front_by, behind_by, each_gives, is_distinct, have_distinct_names, have_distinct_codes, has_missing, are_right, short_of}
 use Rattle.font_metrics.specs.Taking.{Given, nothing, with_glyph, with_character, after_fields, after_keyword, after, after_lines, may_follow, whole_of, finished}
 use Rattle.font_metrics.proofs.Tables.{map-append}
 use Rattle.font_metrics.proofs.Distinct.{and-false, repeated, one_more, found, list_any-map}
@@ -55,7 +55,7 @@ dead : {X : Type 0} (o : Option X) → (o >>= (λ x. absent)) ≡ absent
 dead None = refl
 dead (Some x) = refl
 
-version_step : (line : Words) → after nothing line ≡ option_map (λ one. record nothing { last = Some Version }) (own version_in line)
+version_step : (line : Words) → after nothing line ≡ option_map (λ one. record nothing { last = Some Version }) (by_keyword version_in line)
 unfolding after
 version_step [] = refl
 version_step (word ∷ fields) = by (keyword_of word)
@@ -72,7 +72,7 @@ version_step (word ∷ fields) = by (keyword_of word)
 abbrev given_upem : ℕ → Given
 given_upem units = record nothing { last = Some Upem; upem = Some units }
 
-upem_step : (line : Words) → after (record nothing { last = Some Version }) line ≡ option_map given_upem (own upem_in line)
+upem_step : (line : Words) → after (record nothing { last = Some Version }) line ≡ option_map given_upem (by_keyword upem_in line)
 unfolding after
 upem_step [] = refl
 upem_step (word ∷ fields) = by (keyword_of word)
@@ -89,7 +89,7 @@ upem_step (word ∷ fields) = by (keyword_of word)
 abbrev given_line : ℕ → ℕ × ℕ → Given
 given_line units reach = record nothing { last = Some Line; upem = Some units; line = Some reach }
 
-line_step : (units : ℕ) (line : Words) → after (given_upem units) line ≡ option_map (given_line units) (own line_in line)
+line_step : (units : ℕ) (line : Words) → after (given_upem units) line ≡ option_map (given_line units) (by_keyword line_in line)
 unfolding after
 line_step units [] = refl
 line_step units (word ∷ fields) = by (keyword_of word)
@@ -109,7 +109,7 @@ given units reach height last glyphs characters =
     record { last = Some last; upem = Some units; line = Some reach; x_height = Some height; glyphs = glyphs; characters = characters }
 
 x_height_step : (units : ℕ) (reach : ℕ × ℕ) (line : Words)
-    → after (given_line units reach) line ≡ option_map (λ height. given units reach height XHeight [] []) (own x_height_in line)
+    → after (given_line units reach) line ≡ option_map (λ height. given units reach height XHeight [] []) (by_keyword x_height_in line)
 unfolding after
 x_height_step units reach [] = refl
 x_height_step units reach (word ∷ fields) = by (keyword_of word)
@@ -132,7 +132,7 @@ module _ (units : ℕ) (reach : ℕ × ℕ) (height : ℕ) where
   -- the metrics, where the whole is right
   abbrev whole : List NamedGlyph → List (ℕ × ℕ) → Option MetricsValue
   whole glyphs characters =
-      only_if (have_distinct_names glyphs && nat_le (length glyphs) 65535 && has_missing glyphs && have_distinct_codes characters)
+      only_if (are_right glyphs && have_distinct_codes characters)
       >>= λ right. Some (metrics_value units reach.0 reach.1 height glyphs characters)
 
   -- what glyph lines leave right
@@ -186,7 +186,7 @@ module _ (units : ℕ) (reach : ℕ × ℕ) (height : ℕ) where
       ∙ one_more nat_eq (map (λ c. c.0) characters) c.0 d (sym (is_some-lookup (nat_eq c.0) characters) ∙ h)
 
   char_step : (glyphs : List NamedGlyph) (characters : List (ℕ × ℕ)) (line : Words)
-      → after (at Char glyphs characters) line ≡ (own (char_in glyphs) line >>= with_character (at Char glyphs characters))
+      → after (at Char glyphs characters) line ≡ (by_keyword (char_in glyphs) line >>= with_character (at Char glyphs characters))
   unfolding after
   char_step glyphs characters [] = refl
   char_step glyphs characters (word ∷ fields) = by (keyword_of word)
@@ -201,14 +201,14 @@ module _ (units : ℕ) (reach : ℕ × ℕ) (height : ℕ) where
       by Other = refl
 
   char_lines : (glyphs : List NamedGlyph) (characters : List (ℕ × ℕ)) (lines : List Words) → Right glyphs → have_distinct_codes characters ≡ true
-      → ends (at Char glyphs characters) lines ≡ (each_gives (own (char_in glyphs)) lines >>= λ more. whole glyphs (characters ++ more))
+      → ends (at Char glyphs characters) lines ≡ (each_gives (by_keyword (char_in glyphs)) lines >>= λ more. whole glyphs (characters ++ more))
   char_lines glyphs characters [] right d = end Char glyphs characters right d ∙ ap (whole glyphs) (sym (append-nil characters))
   char_lines glyphs characters (line ∷ lines) right d =
       ap (λ n. (n >>= λ next. after_lines next lines) >>= finished) (char_step glyphs characters line)
-      ∙ by (own (char_in glyphs) line) (λ c free. char_lines glyphs (characters ++ c ∷ []) lines right (code_free characters c d free))
+      ∙ by (by_keyword (char_in glyphs) line) (λ c free. char_lines glyphs (characters ++ c ∷ []) lines right (code_free characters c d free))
     where
       behind : Option (List (ℕ × ℕ))
-      behind = each_gives (own (char_in glyphs)) lines
+      behind = each_gives (by_keyword (char_in glyphs)) lines
 
       used : (c : ℕ × ℕ) (o : Option (List (ℕ × ℕ))) → is_some (place_of_code characters c.0) ≡ true
           → absent ≡ ((o >>= λ ys. Some (c ∷ ys)) >>= λ more. whole glyphs (characters ++ more))
@@ -259,7 +259,7 @@ module _ (units : ℕ) (reach : ℕ × ℕ) (height : ℕ) where
   room glyphs g h = let n = length-append glyphs (g ∷ []) in grind (arith, nat_tests)
 
   glyph_step : (k : Keyword) (glyphs : List NamedGlyph) (line : Words) → may_follow (Some k) Glyph ≡ true → is_glyph_line line ≡ true
-      → after (at k glyphs []) line ≡ (own glyph_in line >>= with_glyph (at Glyph glyphs []))
+      → after (at k glyphs []) line ≡ (by_keyword glyph_in line >>= with_glyph (at Glyph glyphs []))
   unfolding after
   glyph_step k glyphs [] f h = absurd (true≢false (sym h))
   glyph_step k glyphs (word ∷ fields) f h = by (keyword_of word) h
@@ -305,20 +305,20 @@ module _ (units : ℕ) (reach : ℕ × ℕ) (height : ℕ) where
 
   -- the metrics of these glyphs, where lines of characters follow
   abbrev with_characters : List NamedGlyph → List Words → Option MetricsValue
-  with_characters glyphs lines = each_gives (own (char_in glyphs)) lines >>= whole glyphs
+  with_characters glyphs lines = each_gives (by_keyword (char_in glyphs)) lines >>= whole glyphs
 
   abbrev with_rest : List NamedGlyph → List Words → Option MetricsValue
   with_rest glyphs lines =
-      each_gives (own glyph_in) (front_by is_glyph_line lines) >>= λ more. with_characters (glyphs ++ more) (behind_by is_glyph_line lines)
+      each_gives (by_keyword glyph_in) (front_by is_glyph_line lines) >>= λ more. with_characters (glyphs ++ more) (behind_by is_glyph_line lines)
 
   -- the same, where the first line is a glyph's or not
   abbrev with_line : Bool → List NamedGlyph → Words → List Words → Option MetricsValue
   with_line is_one glyphs line lines =
-      each_gives (own glyph_in) (if is_one then line ∷ front_by is_glyph_line lines else [])
+      each_gives (by_keyword glyph_in) (if is_one then line ∷ front_by is_glyph_line lines else [])
       >>= λ more. with_characters (glyphs ++ more) (if is_one then behind_by is_glyph_line lines else line ∷ lines)
 
   wrong_always : (glyphs : List NamedGlyph) (lines : List Words) → ((characters : List (ℕ × ℕ)) → whole glyphs characters ≡ absent) → with_characters glyphs lines ≡ absent
-  wrong_always glyphs lines wrong = by (each_gives (own (char_in glyphs)) lines)
+  wrong_always glyphs lines wrong = by (each_gives (by_keyword (char_in glyphs)) lines)
     where
       by : (o : Option (List (ℕ × ℕ))) → (o >>= whole glyphs) ≡ absent
       by None = refl
@@ -333,7 +333,7 @@ module _ (units : ℕ) (reach : ℕ × ℕ) (height : ℕ) where
           → ends (at Glyph (glyphs ++ g ∷ []) []) lines ≡ with_rest (glyphs ++ g ∷ []) lines
 
       others : Option (List NamedGlyph)
-      others = each_gives (own glyph_in) (front_by is_glyph_line lines)
+      others = each_gives (by_keyword glyph_in) (front_by is_glyph_line lines)
 
       wrong : (g : NamedGlyph) (o : Option (List NamedGlyph)) → ((ys : List NamedGlyph) (characters : List (ℕ × ℕ)) → whole (glyphs ++ g ∷ ys) characters ≡ absent)
           → absent ≡ ((o >>= λ ys. Some (g ∷ ys)) >>= λ more. with_characters (glyphs ++ more) (behind_by is_glyph_line lines))
@@ -366,7 +366,7 @@ module _ (units : ℕ) (reach : ℕ × ℕ) (height : ℕ) where
 
       first : (b : Bool) → is_glyph_line line ≡ b → Again → ends (at Glyph glyphs []) (line ∷ lines) ≡ with_line b glyphs line lines
       first true e again =
-          ap (λ n. (n >>= λ next. after_lines next lines) >>= finished) (glyph_step Glyph glyphs line refl e) ∙ by (own glyph_in line) again
+          ap (λ n. (n >>= λ next. after_lines next lines) >>= finished) (glyph_step Glyph glyphs line refl e) ∙ by (by_keyword glyph_in line) again
       first false e again =
           ap (λ n. (n >>= λ next. after_lines next lines) >>= finished) (other_step glyphs line e)
           ∙ char_lines glyphs [] (line ∷ lines) right refl
@@ -391,20 +391,20 @@ pub line_by_line : (lines : List Words) → (after_lines nothing lines >>= finis
 unfolding short_of finished
 line_by_line [] = refl
 line_by_line (version ∷ []) =
-    step nothing version [] (own version_in version) _ (λ one. absent) (version_step version) (λ one. refl) ∙ dead (own version_in version)
+    step nothing version [] (by_keyword version_in version) _ (λ one. absent) (version_step version) (λ one. refl) ∙ dead (by_keyword version_in version)
 line_by_line (version ∷ upem ∷ []) =
-    step nothing version (upem ∷ []) (own version_in version) _ (λ one. absent) (version_step version)
-    (λ one. step _ upem [] (own upem_in upem) _ (λ units. absent) (upem_step upem) (λ units. refl) ∙ dead (own upem_in upem))
-    ∙ dead (own version_in version)
+    step nothing version (upem ∷ []) (by_keyword version_in version) _ (λ one. absent) (version_step version)
+    (λ one. step _ upem [] (by_keyword upem_in upem) _ (λ units. absent) (upem_step upem) (λ units. refl) ∙ dead (by_keyword upem_in upem))
+    ∙ dead (by_keyword version_in version)
 line_by_line (version ∷ upem ∷ line ∷ []) =
-    step nothing version (upem ∷ line ∷ []) (own version_in version) _ (λ one. absent) (version_step version)
-    (λ one. step _ upem (line ∷ []) (own upem_in upem) _ (λ units. absent) (upem_step upem)
-    (λ units. step _ line [] (own line_in line) _ (λ reach. absent) (line_step units line) (λ reach. refl) ∙ dead (own line_in line))
-    ∙ dead (own upem_in upem))
-    ∙ dead (own version_in version)
+    step nothing version (upem ∷ line ∷ []) (by_keyword version_in version) _ (λ one. absent) (version_step version)
+    (λ one. step _ upem (line ∷ []) (by_keyword upem_in upem) _ (λ units. absent) (upem_step upem)
+    (λ units. step _ line [] (by_keyword line_in line) _ (λ reach. absent) (line_step units line) (λ reach. refl) ∙ dead (by_keyword line_in line))
+    ∙ dead (by_keyword upem_in upem))
+    ∙ dead (by_keyword version_in version)
 line_by_line (version ∷ upem ∷ line ∷ x_height ∷ rest) =
-    step nothing version (upem ∷ line ∷ x_height ∷ rest) (own version_in version) _ _ (version_step version)
-    (λ one. step _ upem (line ∷ x_height ∷ rest) (own upem_in upem) _ _ (upem_step upem)
-    (λ units. step _ line (x_height ∷ rest) (own line_in line) _ _ (line_step units line)
-    (λ reach. step _ x_height rest (own x_height_in x_height) _ _ (x_height_step units reach x_height)
+    step nothing version (upem ∷ line ∷ x_height ∷ rest) (by_keyword version_in version) _ _ (version_step version)
+    (λ one. step _ upem (line ∷ x_height ∷ rest) (by_keyword upem_in upem) _ _ (upem_step upem)
+    (λ units. step _ line (x_height ∷ rest) (by_keyword line_in line) _ _ (line_step units line)
+    (λ reach. step _ x_height rest (by_keyword x_height_in x_height) _ _ (x_height_step units reach x_height)
     (λ height. behind_header units reach height rest))))

@@ -6,7 +6,7 @@ use Rattle.std.specs.Cmp.Lexicographic.{pointwise}
 use Rattle.font_metrics.specs.declared.refusal.MetricsRefusal.{MetricsRefusal}
 use Rattle.font_metrics.specs.declared.refusal.MetricsRefusal.TheVariants.{Later, Memory}
 use Rattle.font_metrics.specs.Reads.{Reads}
-use Rattle.font_metrics.specs.Short.{words_of, parts_at, lines_of, short_of, short_metrics}
+use Rattle.font_metrics.specs.Short.{words_of, line_feed, parts_at, lines_of, short_of, short_metrics}
 use Rattle.font_metrics.specs.Taking.{Given, Takes, nothing, after, after_lines, finished}
 use Rattle.font_metrics.specs.Words.{◌>>=◌}
 use Rattle.font_metrics.proofs.Order.{line_by_line}
@@ -52,14 +52,14 @@ last_byte (b ∷ bs) =
 
 -- a file whose last byte is a line feed has the metrics of its lines
 pub whole_lines : (bytes text : List ℕ) → pointwise nat_eq (drop (length bytes - 1) bytes) (10 ∷ []) ≡ true → text ≡ take (length bytes - 1) bytes
-    → short_metrics bytes ≡ (after_lines nothing (map words_of (parts_at 10 text)) >>= finished)
+    → short_metrics bytes ≡ (after_lines nothing (map words_of (parts_at line_feed text)) >>= finished)
 unfolding short_metrics lines_of
 whole_lines bytes text h same =
-    ap (λ b. (if b then Some (parts_at 10 (take (length bytes - 1) bytes)) else None) >>= λ lines. short_of (map words_of lines)) (sym (last_byte bytes) ∙ h)
-    ∙ ap (λ t. short_of (map words_of (parts_at 10 t))) (sym same) ∙ sym (line_by_line (map words_of (parts_at 10 text)))
+    ap (λ b. (if b then Some (parts_at line_feed (take (length bytes - 1) bytes)) else None) >>= λ lines. short_of (map words_of lines)) (sym (last_byte bytes) ∙ h)
+    ∙ ap (λ t. short_of (map words_of (parts_at line_feed t))) (sym same) ∙ sym (line_by_line (map words_of (parts_at line_feed text)))
 
 -- and one whose last byte is another has none
 pub cut_line : (bytes : List ℕ) → pointwise nat_eq (drop (length bytes - 1) bytes) (10 ∷ []) ≡ false → short_metrics bytes ≡ None
 unfolding short_metrics lines_of
 cut_line bytes h =
-    ap (λ b. (if b then Some (parts_at 10 (take (length bytes - 1) bytes)) else None) >>= λ lines. short_of (map words_of lines)) (sym (last_byte bytes) ∙ h)
+    ap (λ b. (if b then Some (parts_at line_feed (take (length bytes - 1) bytes)) else None) >>= λ lines. short_of (map words_of lines)) (sym (last_byte bytes) ∙ h)

@@ -3,12 +3,11 @@ use Rattle.std.specs.Prelude.{ℕ, ℤ, pos, List, map, None, String, string_byt
 use Rattle.std.specs.declared.alloc.Global.{Global}
 use Rattle.font_metrics.specs.declared.glyph.Glyph.{Glyph}
 use Rattle.font_metrics.specs.declared.glyph.Measures.{Measures}
-use Rattle.font_metrics.specs.Metrics.{NamedGlyph}
+use Rattle.font_metrics.specs.Metrics.{NamedGlyph, plain_glyph}
 
 -- a glyph by the measures that are kept of it
 abbrev pub glyph_of_measures : Measures → Glyph
-glyph_of_measures m =
-    record { advance = pos m.advance; ink_ascent = m.ink_ascent; ink_descent = m.ink_descent; italic = pos 0; accent = None }
+glyph_of_measures m = plain_glyph (pos m.advance) m.ink_ascent m.ink_descent
 
 abbrev pub named_glyph : List ℕ → Measures → NamedGlyph
 named_glyph name m = record { name = name; glyph = glyph_of_measures m }

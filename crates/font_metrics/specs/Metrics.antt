@@ -49,11 +49,18 @@ missing_place m = unwrap_or (place_of_name m.glyphs (codes "missing")) 0
 unfoldable pub place_of_letter : MetricsValue → ℕ → ℕ
 place_of_letter m code = unwrap_or (place_of_code m.characters code) (missing_place m)
 
-abbrev pub zero_glyph : Glyph
-zero_glyph = record { advance = pos 0; ink_ascent = pos 0; ink_descent = pos 0; italic = pos 0; accent = None }
+-- a glyph without an italics correction, and with no accent's place of its own
+abbrev pub plain_glyph : ℤ → ℤ → ℤ → Glyph
+plain_glyph advance ink_ascent ink_descent = record {
+  advance = advance;
+  ink_ascent = ink_ascent;
+  ink_descent = ink_descent;
+  italic = pos 0;
+  accent = None;
+}
 
 abbrev pub nameless : NamedGlyph
-nameless = record { name = []; glyph = zero_glyph }
+nameless = record { name = []; glyph = plain_glyph (pos 0) (pos 0) (pos 0) }
 
 -- the glyph at a place, and its name
 abbrev pub glyph_in_list : List NamedGlyph → ℕ → Glyph

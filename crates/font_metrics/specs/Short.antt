@@ -2,14 +2,28 @@
 use Rattle.std.specs.Prelude.{ℕ, ◌-◌, pos, negsuc, Bool, true, false, not, ◌&&◌, nat_eq, nat_le, if◌then◌else◌, List, [], ◌∷◌, length, map, take, codes, slice_index, Option, Some, None, is_some}
 use Rattle.std.specs.List.{slice_split, list_any}
 use Rattle.std.specs.Str.{bytes_eq}
+use Rattle.std.specs.Borrow.{Bor}
 use Rattle.font_metrics.specs.declared.keyword.Keyword.{Keyword}
 use Rattle.font_metrics.specs.declared.keyword.Keyword.TheVariants.{Version, Upem, Line, XHeight, Glyph, Char, Other}
-use Rattle.font_metrics.specs.Metrics.{NamedGlyph, MetricsValue, metrics_value, place_of_name}
+use Rattle.font_metrics.specs.Metrics.{NamedGlyph, MetricsValue, metrics_value, plain_glyph, place_of_name}
 use Rattle.font_metrics.specs.Words.{◌>>=◌, only_if, number_in, natural_in, code_of, name_in}
+
+abbrev pub line_feed : ℕ
+line_feed = 10
+
+abbrev pub space : ℕ
+space = 32
+
+abbrev pub most_glyphs : ℕ
+most_glyphs = 65535
 
 -- the words of a line
 abbrev pub Words : Type 0
 Words = List (List ℕ)
+
+-- words that are lent out of a line
+abbrev pub lent : List (Bor (List ℕ)) → Words
+lent words = map (λ w. w.now) words
 
 -- the parts of a text between one mark and the next
 abbrev pub parts_at : ℕ → List ℕ → List (List ℕ)
@@ -18,12 +32,13 @@ parts_at mark text = slice_split (λ b. nat_eq b mark) text
 -- the lines of a file: a line feed ends each of them, the last one too
 unfoldable pub lines_of : List ℕ → Option (List (List ℕ))
 lines_of bytes =
-    if nat_eq (slice_index bytes (length bytes - 1)) 10 then Some (parts_at 10 (take (length bytes - 1) bytes))
+    if nat_eq (slice_index bytes (length bytes - 1)) line_feed
+    then Some (parts_at line_feed (take (length bytes - 1) bytes))
     else None
 
 -- the words of a line: one space stands between two of them
 abbrev pub words_of : List ℕ → Words
-words_of line = parts_at 32 line
+words_of line = parts_at space line
 
 -- ---- what a line gives by itself: by its first word, and then its fields in order
 
@@ -68,7 +83,7 @@ glyph_in Glyph (name ∷ advance ∷ ink_ascent ∷ ink_descent ∷ []) = do
   down ← number_in (negsuc 32767) (pos 65535) ink_descent
   Some (record {
     name = spelled;
-    glyph = record { advance = pos width; ink_ascent = up; ink_descent = down; italic = pos 0; accent = None };
+    glyph = plain_glyph (pos width) up down;
   })
 glyph_in keyword fields = None
 
@@ -81,10 +96,10 @@ char_in glyphs Char (code ∷ name ∷ []) = do
   Some (letter, place)
 char_in glyphs keyword fields = None
 
--- a line by f, which takes its keyword and its fields
-abbrev pub own : {X : Type 0} → (Keyword → Words → Option X) → Words → Option X
-own f [] = None
-own f (word ∷ fields) = f (keyword_of word) fields
+-- what f finds in a line, by the keyword that is its first word, and the fields behind it
+abbrev pub by_keyword : {X : Type 0} → (Keyword → Words → Option X) → Words → Option X
+by_keyword f [] = None
+by_keyword f (word ∷ fields) = f (keyword_of word) fields
 
 -- ---- the whole file
 
@@ -127,16 +142,21 @@ have_distinct_codes characters = is_distinct nat_eq (map (λ c. c.0) characters)
 abbrev pub has_missing : List NamedGlyph → Bool
 has_missing glyphs = is_some (place_of_name glyphs (codes "missing"))
 
+-- distinct names, not too many, and `missing` among them
+abbrev pub are_right : List NamedGlyph → Bool
+are_right glyphs =
+    have_distinct_names glyphs && nat_le (length glyphs) most_glyphs && has_missing glyphs
+
 -- four lines of the header, then the lines that begin with `glyph`, and all others are `char` lines
 unfoldable pub short_of : List Words → Option MetricsValue
 short_of (version ∷ upem ∷ line ∷ x_height ∷ rest) = do
-  one ← own version_in version
-  units ← own upem_in upem
-  reach ← own line_in line
-  height ← own x_height_in x_height
-  glyphs ← each_gives (own glyph_in) (front_by is_glyph_line rest)
-  characters ← each_gives (own (char_in glyphs)) (behind_by is_glyph_line rest)
-  whole ← only_if (have_distinct_names glyphs && nat_le (length glyphs) 65535 && has_missing glyphs && have_distinct_codes characters)
+  one ← by_keyword version_in version
+  units ← by_keyword upem_in upem
+  reach ← by_keyword line_in line
+  height ← by_keyword x_height_in x_height
+  glyphs ← each_gives (by_keyword glyph_in) (front_by is_glyph_line rest)
+  characters ← each_gives (by_keyword (char_in glyphs)) (behind_by is_glyph_line rest)
+  right ← only_if (are_right glyphs && have_distinct_codes characters)
   Some (record {
     upem = units;
     line_ascent = reach.0;

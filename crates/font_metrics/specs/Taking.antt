@@ -7,7 +7,7 @@ use Rattle.font_metrics.specs.declared.refusal.MetricsRefusal.{MetricsRefusal}
 use Rattle.font_metrics.specs.declared.refusal.MetricsRefusal.TheVariants.{Later, Memory}
 use Rattle.font_metrics.specs.Metrics.{NamedGlyph, MetricsValue, metrics_value, IsInDesign, place_of_name, place_of_code}
 use Rattle.font_metrics.specs.Words.{◌>>=◌}
-use Rattle.font_metrics.specs.Short.{Words, keyword_of, version_in, upem_in, line_in, x_height_in, glyph_in, char_in}
+use Rattle.font_metrics.specs.Short.{Words, most_glyphs, keyword_of, version_in, upem_in, line_in, x_height_in, glyph_in, char_in}
 
 -- what lines have given, and the keyword of the last of them
 pub record Given : Type 0 where
@@ -19,7 +19,14 @@ pub record Given : Type 0 where
   pub characters : List (ℕ × ℕ)
 
 abbrev pub nothing : Given
-nothing = record { last = None; upem = None; line = None; x_height = None; glyphs = []; characters = [] }
+nothing = record {
+  last = None;
+  upem = None;
+  line = None;
+  x_height = None;
+  glyphs = [];
+  characters = [];
+}
 
 -- the order of lines: the header's four, at least one glyph, and any number of characters
 abbrev pub may_follow : Option Keyword → Keyword → Bool
@@ -37,7 +44,8 @@ may_follow last next = false
 abbrev pub with_glyph : Given → NamedGlyph → Option Given
 with_glyph given g =
     if is_some (place_of_name given.glyphs g.name) then None
-    else if nat_lt (length given.glyphs) 65535 then Some (record given { glyphs = given.glyphs ++ g ∷ [] })
+    else if nat_lt (length given.glyphs) most_glyphs
+    then Some (record given { glyphs = given.glyphs ++ g ∷ [] })
     else None
 
 -- a character that has no glyph yet
@@ -48,16 +56,21 @@ with_character given c =
 
 abbrev pub after_fields : Given → Keyword → Words → Option Given
 after_fields given Version fields = option_map (λ _. given) (version_in Version fields)
-after_fields given Upem fields = option_map (λ n. record given { upem = Some n }) (upem_in Upem fields)
-after_fields given Line fields = option_map (λ n. record given { line = Some n }) (line_in Line fields)
-after_fields given XHeight fields = option_map (λ n. record given { x_height = Some n }) (x_height_in XHeight fields)
+after_fields given Upem fields =
+    option_map (λ units. record given { upem = Some units }) (upem_in Upem fields)
+after_fields given Line fields =
+    option_map (λ reach. record given { line = Some reach }) (line_in Line fields)
+after_fields given XHeight fields =
+    option_map (λ height. record given { x_height = Some height }) (x_height_in XHeight fields)
 after_fields given Glyph fields = glyph_in Glyph fields >>= with_glyph given
 after_fields given Char fields = char_in given.glyphs Char fields >>= with_character given
 after_fields given Other fields = None
 
 abbrev pub after_keyword : Given → Keyword → Words → Option Given
 after_keyword given keyword fields =
-    if may_follow given.last keyword then after_fields (record given { last = Some keyword }) keyword fields else None
+    if may_follow given.last keyword
+    then after_fields (record given { last = Some keyword }) keyword fields
+    else None
 
 -- what is given after a line; None where the line can't stand there
 unfoldable pub after : Given → Words → Option Given
@@ -76,14 +89,16 @@ Takes next given (Err Later) = next ≡ None
 Takes next given (Err Memory) = Unit {0}
 
 -- the metrics, where all that they need was given
-abbrev pub whole_of : Option ℕ → Option (ℕ × ℕ) → Option ℕ → Option ℕ → List NamedGlyph → List (ℕ × ℕ) → Option MetricsValue
+abbrev pub whole_of : Option ℕ → Option (ℕ × ℕ) → Option ℕ → Option ℕ → List NamedGlyph
+    → List (ℕ × ℕ) → Option MetricsValue
 whole_of (Some upem) (Some line) (Some x_height) (Some missing) glyphs characters =
     Some (metrics_value upem line.0 line.1 x_height glyphs characters)
 whole_of upem line x_height missing glyphs characters = None
 
 unfoldable pub finished : Given → Option MetricsValue
 finished given =
-    whole_of given.upem given.line given.x_height (place_of_name given.glyphs (codes "missing")) given.glyphs given.characters
+    whole_of given.upem given.line given.x_height (place_of_name given.glyphs (codes "missing"))
+    given.glyphs given.characters
 
 -- ---- what holds of all that lines give
 
@@ -94,6 +109,6 @@ pub record IsGiven (given : Given) : Type 0 where
   pub upem : IfSome given.upem IsUpem
   pub line : IfSome given.line (λ n. (n.0 ≤ 65535) × (n.1 ≤ 65535))
   pub x_height : IfSome given.x_height (λ n. n ≤ 65535)
-  pub count : length given.glyphs ≤ 65535
+  pub count : length given.glyphs ≤ most_glyphs
   pub glyphs : All (λ g. IsInDesign g.glyph) given.glyphs
   pub characters : All (λ c. c.1 < length given.glyphs) given.characters

@@ -17,18 +17,24 @@ only_if false = None
 
 -- the number that digits of a base write, where each byte is one
 unfoldable pub value_of_digits : ℕ → List ℕ → Option ℕ
-value_of_digits base word = if list_all (λ b. is_digit b base) word then Some (digits_value base word) else None
+value_of_digits base word =
+    if list_all (λ b. is_digit b base) word then Some (digits_value base word) else None
 
 -- from `fewest` to `most` digits of a base
 unfoldable pub numeral_of : ℕ → ℕ → ℕ → List ℕ → Option ℕ
 numeral_of base fewest most word =
-    if nat_le fewest (length word) && nat_le (length word) most then value_of_digits base word else None
+    if nat_le fewest (length word) && nat_le (length word) most
+    then value_of_digits base word
+    else None
+
+abbrev pub minus : ℕ
+minus = 45
 
 -- a whole number: an optional minus and 1 to 6 decimal digits
 unfoldable pub number_of : List ℕ → Option ℤ
 number_of [] = None
 number_of (b ∷ bs) =
-    if nat_eq b 45 then option_map (λ n. neg_ℤ (pos n)) (numeral_of 10 1 6 bs)
+    if nat_eq b minus then option_map (λ n. neg_ℤ (pos n)) (numeral_of 10 1 6 bs)
     else option_map pos (numeral_of 10 1 6 (b ∷ bs))
 
 abbrev pub if_between : ℤ → ℤ → ℤ → Option ℤ

@@ -6,9 +6,9 @@
 //!
 //! - Models: glyph measures, `upem`, ascent and descent are those of OpenType; the file format is
 //!   this project's own.
-//! - Proved: `read_metrics` gives the value of the short format, or says that there is none, exactly
-//!   (`specs/Short.antt`); each accessor is a definition of `specs/Metrics.antt`.
-//! - Knows nothing of: trees, elements, layout.
+//! - Proved: `read_metrics` gives what `short_metrics` says of the bytes, or answers that they say
+//!   nothing, exactly (`specs/Short.antt`); each accessor is a definition of `specs/Metrics.antt`.
+//! - Knows nothing of: trees, elements, layout, where the bytes came from.
 //! - Change a line of the format: `specs/Short.antt`, then `src/lines.rt`, then `rt check`.
 #![tactic(auto)]
 

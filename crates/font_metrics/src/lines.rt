@@ -1,6 +1,6 @@
-ghost use Rattle.std.specs.Prelude.{◌≡◌, ◌≤◌, length, map, option_map};
+ghost use Rattle.std.specs.Prelude.{◌≡◌, ◌≤◌, length, option_map};
 ghost use Rattle.font_metrics.specs.declared.keyword.Keyword.TheVariants as keyword;
-ghost use Rattle.font_metrics.specs.Short.{version_in, upem_in, line_in, x_height_in, glyph_in, char_in};
+ghost use Rattle.font_metrics.specs.Short.{lent, version_in, upem_in, line_in, x_height_in, glyph_in, char_in};
 ghost use Rattle.font_metrics.specs.Kept.{named_glyph};
 
 use crate::glyph::Measures;
@@ -9,7 +9,7 @@ use crate::words::{glyph_name, letter, natural_in, number_in};
 
 /// `mathlay-metrics 1`
 pub fn version_line(fields: &[&[u8]]) -> Option<()>
-    ensures { result ≡ version_in keyword.Version (map (λ f. f.now) fields.now) }
+    ensures { result ≡ version_in keyword.Version (lent fields.now) }
 {
     match fields {
         [version] if *version == b"1".as_slice() => Some(()),
@@ -19,7 +19,7 @@ pub fn version_line(fields: &[&[u8]]) -> Option<()>
 
 /// `upem UNITS`: the design units of an em.
 pub fn upem_line(fields: &[&[u8]]) -> Option<u16>
-    ensures { result ≡ upem_in keyword.Upem (map (λ f. f.now) fields.now) }
+    ensures { result ≡ upem_in keyword.Upem (lent fields.now) }
 {
     match fields {
         [units] => natural_in(16, 16384, units),
@@ -29,7 +29,7 @@ pub fn upem_line(fields: &[&[u8]]) -> Option<u16>
 
 /// `line ASCENT DESCENT`
 pub fn line_line(fields: &[&[u8]]) -> Option<(u16, u16)>
-    ensures { result ≡ line_in keyword.Line (map (λ f. f.now) fields.now) }
+    ensures { result ≡ line_in keyword.Line (lent fields.now) }
 {
     match fields {
         [ascent, descent] => Some((
@@ -42,7 +42,7 @@ pub fn line_line(fields: &[&[u8]]) -> Option<(u16, u16)>
 
 /// `xheight HEIGHT`
 pub fn x_height_line(fields: &[&[u8]]) -> Option<u16>
-    ensures { result ≡ x_height_in keyword.XHeight (map (λ f. f.now) fields.now) }
+    ensures { result ≡ x_height_in keyword.XHeight (lent fields.now) }
 {
     match fields {
         [height] => natural_in(0, 65535, height),
@@ -52,7 +52,7 @@ pub fn x_height_line(fields: &[&[u8]]) -> Option<u16>
 
 /// `glyph NAME ADVANCE INKASCENT INKDESCENT`
 pub fn glyph_line<'a>(fields: &[&'a [u8]]) -> Option<(&'a str, Measures)>
-    ensures { option_map (λ g. named_glyph g.0.now g.1) result ≡ glyph_in keyword.Glyph (map (λ f. f.now) fields.now) }
+    ensures { option_map (λ g. named_glyph g.0.now g.1) result ≡ glyph_in keyword.Glyph (lent fields.now) }
 {
     match fields {
         [name, advance, ink_ascent, ink_descent] => {
@@ -76,7 +76,7 @@ pub fn glyph_line<'a>(fields: &[&'a [u8]]) -> Option<(&'a str, Measures)>
 /// `char CODE NAME`: a character, and the place of the glyph of that name.
 pub fn char_line(glyphs: &GlyphTable, fields: &[&[u8]]) -> Option<(char, u16)>
     requires { length glyphs.now ≤ 65535 }
-    ensures { result ≡ char_in glyphs.now keyword.Char (map (λ f. f.now) fields.now) }
+    ensures { result ≡ char_in glyphs.now keyword.Char (lent fields.now) }
 {
     match fields {
         [code, name] => {

@@ -1,6 +1,6 @@
-ghost use Rattle.std.specs.Prelude.{◌≡◌, ◌<◌, ◌≤◌, ◌^◌, length, codes, Some, pos, ◌≤ℤ◌, ◌*ℤ◌};
+ghost use Rattle.std.specs.Prelude.{◌≡◌, ◌<◌, ◌≤◌, ◌^◌, length, pos, ◌≤ℤ◌, ◌*ℤ◌};
 ghost use Rattle.fixed_units.specs.Numbers.{IsWithin, rounded};
-ghost use Rattle.font_metrics.specs.Metrics.{IsInDesign, scale_of, line_ascent_of, line_descent_of, place_of_letter, glyph_at, name_at, metrics_value, place_of_name, IsTaken};
+ghost use Rattle.font_metrics.specs.Metrics.{IsInDesign, scale_of, line_ascent_of, line_descent_of, place_of_letter, glyph_at, name_at};
 
 use crate::characters::CharacterMap;
 use crate::glyph::{Glyph, GlyphId};
@@ -12,13 +12,13 @@ use std::marker::Model;
 /// record of what the file says.
 #[derive(Drop)]
 pub struct Metrics {
-    upem: u16,
-    line_ascent: u16,
-    line_descent: u16,
-    x_height: u16,
-    glyphs: GlyphTable,
-    characters: CharacterMap,
-    missing: u16,
+    pub(crate) upem: u16,
+    pub(crate) line_ascent: u16,
+    pub(crate) line_descent: u16,
+    pub(crate) x_height: u16,
+    pub(crate) glyphs: GlyphTable,
+    pub(crate) characters: CharacterMap,
+    pub(crate) missing: u16,
 }
 
 impl Model for Metrics {
@@ -34,33 +34,8 @@ impl Model for Metrics {
 }
 
 impl Metrics {
-    /// The metrics of these numbers, glyphs and characters, in which `missing` has the place that is
-    /// given last.
-    pub(crate) fn make(
-        upem: u16,
-        line: (u16, u16),
-        x_height: u16,
-        glyphs: GlyphTable,
-        characters: CharacterMap,
-        missing: u16,
-    ) -> Metrics
-        requires taken { IsTaken (metrics_value upem line.0 line.1 x_height glyphs characters) }
-        requires missing { place_of_name glyphs (codes "missing") ≡ Some missing }
-        ensures { result ≡ metrics_value upem line.0 line.1 x_height glyphs characters }
-    {
-        Metrics {
-            upem,
-            line_ascent: line.0,
-            line_descent: line.1,
-            x_height,
-            glyphs,
-            characters,
-            missing,
-        }
-    }
-
-    /// A value of at most 2^20 design units at a font size, in units (1/1024 px): value * size / upem,
-    /// rounded.
+    /// A value of at most 2^20 design units at a font size, in units (1/1024 px): the value times
+    /// the size over `upem`, rounded.
     pub fn scale(&self, value: i64, size: i64) -> i64
         requires value_in { IsWithin (2 ^ 20) value }
         requires size_low { pos 0 ≤ℤ size }

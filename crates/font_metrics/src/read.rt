@@ -1,6 +1,7 @@
 ghost use Rattle.std.specs.Prelude.{◌≤◌, length, map, IfOk};
+ghost use Rattle.font_metrics.specs.Metrics.{IsTaken};
 ghost use Rattle.font_metrics.specs.Reads.{Reads};
-ghost use Rattle.font_metrics.specs.Short.{parts_at, words_of, short_metrics};
+ghost use Rattle.font_metrics.specs.Short.{line_feed, parts_at, words_of, short_metrics};
 ghost use Rattle.font_metrics.specs.Taking.{IsGiven, nothing, after_lines};
 
 use crate::metrics::Metrics;
@@ -14,6 +15,7 @@ use std::alloc::Global;
 pub fn read_metrics(alloc: Global, bytes: &[u8]) -> Result<Metrics, MetricsRefusal>
     requires { length bytes.now ≤ 8388608 }
     ensures reads { Reads (short_metrics bytes.now) result }
+    ensures ranges { IfOk result IsTaken }
 {
     match bytes.strip_suffix(b"\n".as_slice()) {
         None => Err(MetricsRefusal::Later),
@@ -23,7 +25,7 @@ pub fn read_metrics(alloc: Global, bytes: &[u8]) -> Result<Metrics, MetricsRefus
 
 /// Takes each line of a text in which a line feed stands between two lines.
 fn read_lines(alloc: Global, text: &[u8]) -> Result<Reader, MetricsRefusal>
-    ensures reads { Reads (after_lines nothing (map words_of (parts_at 10 text.now))) result }
+    ensures reads { Reads (after_lines nothing (map words_of (parts_at line_feed text.now))) result }
     ensures given { IfOk result IsGiven }
 {
     let mut reader = Reader::new(alloc);

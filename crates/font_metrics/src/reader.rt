@@ -1,8 +1,9 @@
-ghost use Rattle.std.specs.Prelude.{◌≡◌, ◌≤◌, length, map, take, IfOk};
+ghost use Rattle.std.specs.Prelude.{◌≡◌, ◌≤◌, length, take, IfOk};
 ghost use Rattle.font_metrics.specs.declared.keyword.Keyword.TheVariants as keyword;
 ghost use Rattle.font_metrics.specs.Taking.{Given, IsGiven, Takes, nothing, may_follow, after_fields, after_keyword, after, finished};
+ghost use Rattle.font_metrics.specs.Metrics.{IsTaken};
 ghost use Rattle.font_metrics.specs.Reads.{Reads};
-ghost use Rattle.font_metrics.specs.Short.{words_of};
+ghost use Rattle.font_metrics.specs.Short.{lent, words_of};
 
 use crate::characters::CharacterMap;
 use crate::glyphs::GlyphTable;
@@ -30,7 +31,14 @@ impl Model for Reader {
 
     ghost Value = { Given };
 
-    ghost view = { λ r. record { last = r.last; upem = r.upem; line = r.line; x_height = r.x_height; glyphs = r.glyphs; characters = r.characters } };
+    ghost view = { λ reader. record {
+      last = reader.last;
+      upem = reader.upem;
+      line = reader.line;
+      x_height = reader.x_height;
+      glyphs = reader.glyphs;
+      characters = reader.characters;
+    } };
 }
 
 impl Reader {
@@ -60,7 +68,7 @@ impl Reader {
     #[tactic(auto, unfolding(crate::specs::Taking::after))]
     fn take_words(&mut self, alloc: Global, words: &[&[u8]]) -> Result<(), MetricsRefusal>
         requires { IsGiven self.old }
-        ensures { Takes (after self.old (map (λ w. w.now) words.now)) self.new result }
+        ensures { Takes (after self.old (lent words.now)) self.new result }
     {
         match words.split_first() {
             None => Err(MetricsRefusal::Later),
@@ -75,7 +83,7 @@ impl Reader {
         fields: &[&[u8]],
     ) -> Result<(), MetricsRefusal>
         requires { IsGiven self.old }
-        ensures { Takes (after_keyword self.old keyword (map (λ f. f.now) fields.now)) self.new result }
+        ensures { Takes (after_keyword self.old keyword (lent fields.now)) self.new result }
     {
         if !may_follow(self.last, keyword) {
             return Err(MetricsRefusal::Later);
@@ -93,7 +101,7 @@ impl Reader {
     }
 
     fn take_upem(&mut self, fields: &[&[u8]]) -> Result<(), MetricsRefusal>
-        ensures { Takes (after_fields self.old keyword.Upem (map (λ f. f.now) fields.now)) self.new result }
+        ensures { Takes (after_fields self.old keyword.Upem (lent fields.now)) self.new result }
     {
         let units = upem_line(fields).ok_or(MetricsRefusal::Later)?;
         self.upem = Some(units);
@@ -101,7 +109,7 @@ impl Reader {
     }
 
     fn take_line(&mut self, fields: &[&[u8]]) -> Result<(), MetricsRefusal>
-        ensures { Takes (after_fields self.old keyword.Line (map (λ f. f.now) fields.now)) self.new result }
+        ensures { Takes (after_fields self.old keyword.Line (lent fields.now)) self.new result }
     {
         let line = line_line(fields).ok_or(MetricsRefusal::Later)?;
         self.line = Some(line);
@@ -109,7 +117,7 @@ impl Reader {
     }
 
     fn take_x_height(&mut self, fields: &[&[u8]]) -> Result<(), MetricsRefusal>
-        ensures { Takes (after_fields self.old keyword.XHeight (map (λ f. f.now) fields.now)) self.new result }
+        ensures { Takes (after_fields self.old keyword.XHeight (lent fields.now)) self.new result }
     {
         let height = x_height_line(fields).ok_or(MetricsRefusal::Later)?;
         self.x_height = Some(height);
@@ -117,10 +125,10 @@ impl Reader {
     }
 
     fn take_glyph(&mut self, alloc: Global, fields: &[&[u8]]) -> Result<(), MetricsRefusal>
-        ensures { Takes (after_fields self.old keyword.Glyph (map (λ f. f.now) fields.now)) self.new result }
+        ensures { Takes (after_fields self.old keyword.Glyph (lent fields.now)) self.new result }
     {
         let (name, measures) = glyph_line(fields).ok_or(MetricsRefusal::Later)?;
-        if self.glyphs.place(name).is_some() | (self.glyphs.len() >= 65535) {
+        if self.glyphs.place(name).is_some() | (self.glyphs.len() >= MOST_GLYPHS) {
             return Err(MetricsRefusal::Later);
         }
         self.glyphs.add(alloc, name, measures)?;
@@ -129,7 +137,7 @@ impl Reader {
 
     fn take_char(&mut self, fields: &[&[u8]]) -> Result<(), MetricsRefusal>
         requires { length self.old.glyphs ≤ 65535 }
-        ensures { Takes (after_fields self.old keyword.Char (map (λ f. f.now) fields.now)) self.new result }
+        ensures { Takes (after_fields self.old keyword.Char (lent fields.now)) self.new result }
     {
         let (letter, place) = char_line(&self.glyphs, fields).ok_or(MetricsRefusal::Later)?;
         if self.characters.place(letter).is_some() {
@@ -143,19 +151,21 @@ impl Reader {
     #[tactic(auto, unfolding(crate::specs::Taking::finished))]
     pub fn finish(self) -> Result<Metrics, MetricsRefusal>
         requires { IsGiven self }
-        ensures { Reads (finished self) result }
+        ensures reads { Reads (finished self) result }
+        ensures ranges { IfOk result IsTaken }
     {
         let missing = self.glyphs.place("missing");
         match (self.upem, self.line, self.x_height, missing) {
-            (Some(upem), Some(line), Some(x_height), Some(missing)) => {
-                Ok(Metrics::make(
+            (Some(upem), Some((line_ascent, line_descent)), Some(x_height), Some(missing)) => {
+                Ok(Metrics {
                     upem,
-                    line,
+                    line_ascent,
+                    line_descent,
                     x_height,
-                    self.glyphs,
-                    self.characters,
-                    missing as u16,
-                ))
+                    glyphs: self.glyphs,
+                    characters: self.characters,
+                    missing: missing as u16,
+                })
             }
             _ => Err(MetricsRefusal::Later),
         }
@@ -178,12 +188,14 @@ fn may_follow(last: Option<Keyword>, next: Keyword) -> bool
     )
 }
 
+const MOST_GLYPHS: usize = 65535;
+
 // One more than the longest line has, so that a line of too many words shows.
 const MOST_WORDS: usize = 6;
 
 /// The words of a line, of which one stands between two spaces.
 fn words<'a>(alloc: Global, line: &'a [u8]) -> Result<Vec<&'a [u8]>, Memory>
-    ensures { IfOk result (λ words. map (λ w. w.now) words.items ≡ take 6 (words_of line.now)) }
+    ensures { IfOk result (λ words. lent words.items ≡ take 6 (words_of line.now)) }
 {
     let words = line
         .split(|byte| *byte == b' ')

@@ -4,7 +4,7 @@ use Rattle.std.proofs.lemmas.Iterator.Splits.{YieldsList-from_slice_split}
 use Rattle.std.proofs.lemmas.List.{length_push, drop_all, length-map}
 use Rattle.std.specs.Slice.Iter.{split_rest, split_done, split_callee}
 use Rattle.font_metrics.specs.Reads.{Reads}
-use Rattle.font_metrics.specs.Short.{parts_at, words_of}
+use Rattle.font_metrics.specs.Short.{line_feed, parts_at, words_of}
 use Rattle.font_metrics.specs.Taking.{nothing, after, after_lines}
 use Rattle.font_metrics.specs.Words.{◌>>=◌}
 use Rattle.font_metrics.proofs.Ranges.{after_keeps}
@@ -13,7 +13,7 @@ use Rattle.font_metrics.proofs.read.read_lines.Goals as goal
 
 pub loop-line-preserved : goal.loop-line-preserved
 loop-line-preserved c =
-    let lines = parts_at 10 c.args.text.now in
+    let lines = parts_at line_feed c.args.text.now in
     let starts = c.into_iter-line-iterator.ensures.into_iter_gives in
     let split = c.split-line-items.ensures in
     let at = YieldsList-turn
@@ -32,7 +32,7 @@ loop-line-preserved c =
 
 pub returns-in_err-take-clause-reads : goal.returns-in_err-take-clause-reads
 returns-in_err-take-clause-reads c =
-    let lines = parts_at 10 c.args.text.now in
+    let lines = parts_at line_feed c.args.text.now in
     let starts = c.into_iter-line-iterator.ensures.into_iter_gives in
     let split = c.split-line-items.ensures in
     let at = YieldsList-turn
@@ -45,7 +45,7 @@ returns-in_err-take-clause-reads c =
 
 pub returns-clause-reads : goal.returns-clause-reads
 returns-clause-reads c =
-    let lines = parts_at 10 c.args.text.now in
+    let lines = parts_at line_feed c.args.text.now in
     let starts = c.into_iter-line-iterator.ensures.into_iter_gives in
     let split = c.split-line-items.ensures in
     let all = YieldsList-end
