@@ -21,6 +21,8 @@ mod metrics; // Metrics and what it answers
 mod read; // the file
 mod reader; // what lines have given
 mod refusal; // MetricsRefusal
+#[cfg(test)]
+mod tests;
 mod words; // numbers, codes and names
 
 pub use glyph::{Glyph, GlyphId};
