@@ -30,7 +30,8 @@ module _ (base n : ℕ) (digits : List ℕ) (i : ℕ) (within : i < length digit
   front = drop_more digits i 0 within
 
   -- one digit more
-  pub next_digit : digit_value byte < base → value_behind base n (drop i digits) ≡ value_behind base (n * base + digit_value byte) (drop (i + 1) digits)
+  pub next_digit : digit_value byte < base
+      → value_behind base n (drop i digits) ≡ value_behind base (n * base + digit_value byte) (drop (i + 1) digits)
   next_digit h =
       let more = drop (i + 1) digits in
       ap (value_behind base n) front

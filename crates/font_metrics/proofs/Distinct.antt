@@ -29,11 +29,13 @@ some_cond : {X : Type 0} (b : Bool) (x : X) → is_some (cond b (Some x) None) �
 some_cond true x = refl
 some_cond false x = refl
 
-below_length : {X : Type 0} (p : X → Bool) (xs : List X) → nat_lt (prefix_len (λ x. not (p x)) xs) (length xs) ≡ list_any p xs
+below_length : {X : Type 0} (p : X → Bool) (xs : List X)
+    → nat_lt (prefix_len (λ x. not (p x)) xs) (length xs) ≡ list_any p xs
 below_length p [] = refl
 below_length p (x ∷ xs) = by (p x) (prefix_len (λ y. not (p y)) xs) (length xs) (list_any p xs) (below_length p xs)
   where
-    by : (b : Bool) (n len : ℕ) (any : Bool) → nat_lt n len ≡ any → nat_lt (cond (not b) (1 + n) 0) (suc len) ≡ (b || any)
+    by : (b : Bool) (n len : ℕ) (any : Bool) → nat_lt n len ≡ any
+        → nat_lt (cond (not b) (1 + n) 0) (suc len) ≡ (b || any)
     by true n len any h = grind (arith, nat_tests)
     by false n len any h = grind (arith, nat_tests)
 
@@ -41,13 +43,15 @@ below_length p (x ∷ xs) = by (p x) (prefix_len (λ y. not (p y)) xs) (length x
 pub found : {X : Type 0} (p : X → Bool) (xs : List X) → is_some (position p xs) ≡ list_any p xs
 found p xs = some_cond (nat_lt (prefix_len (λ x. not (p x)) xs) (length xs)) _ ∙ below_length p xs
 
-pub list_any-map : {X Y : Type 0} (p : Y → Bool) (f : X → Y) (xs : List X) → list_any p (map f xs) ≡ list_any (λ x. p (f x)) xs
+pub list_any-map : {X Y : Type 0} (p : Y → Bool) (f : X → Y) (xs : List X)
+    → list_any p (map f xs) ≡ list_any (λ x. p (f x)) xs
 list_any-map p f [] = refl
 list_any-map p f (x ∷ xs) = ap (λ b. p (f x) || b) (list_any-map p f xs)
 
 module _ {X : Type 0} (same : X → X → Bool) where
   -- an item that equals an earlier one
-  pub repeated : (xs : List X) (y : X) (ys : List X) → list_any (same y) xs ≡ true → is_distinct same (xs ++ y ∷ ys) ≡ false
+  pub repeated : (xs : List X) (y : X) (ys : List X) → list_any (same y) xs ≡ true
+      → is_distinct same (xs ++ y ∷ ys) ≡ false
   repeated [] y ys h = absurd (true≢false (sym h))
   repeated (x ∷ xs) y ys h = by (same y x) refl (λ e. repeated xs y ys (sym (ap (λ b. b || list_any (same y) xs) e) ∙ h))
     where
@@ -60,7 +64,8 @@ module _ {X : Type 0} (same : X → X → Bool) where
       by false e again = ap (λ b. not (list_any (λ z. same z x) (xs ++ y ∷ ys)) && b) (again e) ∙ and-false _
 
   -- one that equals none
-  pub one_more : (xs : List X) (y : X) → is_distinct same xs ≡ true → list_any (same y) xs ≡ false → is_distinct same (xs ++ y ∷ []) ≡ true
+  pub one_more : (xs : List X) (y : X) → is_distinct same xs ≡ true → list_any (same y) xs ≡ false
+      → is_distinct same (xs ++ y ∷ []) ≡ true
   one_more [] y d h = refl
   one_more (x ∷ xs) y d h =
       let parts = both (not (list_any (λ z. same z x) xs)) (is_distinct same xs) d in

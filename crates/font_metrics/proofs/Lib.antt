@@ -1,6 +1,7 @@
 pub mod Digits
 pub mod Names
 pub mod Distinct
+pub mod Header
 pub mod Order
 pub mod Ranges
 pub mod Turns

@@ -17,44 +17,52 @@ use Rattle.font_metrics.proofs.Distinct.{both}
 use Rattle.font_metrics.proofs.Tables.{place_within}
 
 -- a step that gave something had something
-had : {X Y : Type 0} (o : Option X) (f : X → Option Y) (y : Y) → (o >>= f) ≡ Some y → (x : X) × (o ≡ Some x) × (f x ≡ Some y)
+had : {X Y : Type 0} (o : Option X) (f : X → Option Y) (y : Y) → (o >>= f) ≡ Some y
+    → (x : X) × (o ≡ Some x) × (f x ≡ Some y)
 had None f y h = absurd (none-some y h)
 had (Some x) f y h = (x, refl, h)
 
-mapped : {X Y : Type 0} (o : Option X) (f : X → Y) (y : Y) → option_map f o ≡ Some y → (x : X) × (o ≡ Some x) × (f x ≡ y)
+mapped : {X Y : Type 0} (o : Option X) (f : X → Y) (y : Y) → option_map f o ≡ Some y
+    → (x : X) × (o ≡ Some x) × (f x ≡ y)
 mapped None f y h = absurd (none-some y h)
 mapped (Some x) f y h = (x, refl, same_Some (f x) y h)
 
 -- ---- numbers
 
-between : (low high z y : ℤ) → if_between low high z ≡ Some y → (z ≡ y) × (int_le low y ≡ true) × (int_le y high ≡ true)
+between : (low high z y : ℤ) → if_between low high z ≡ Some y
+    → (z ≡ y) × (int_le low y ≡ true) × (int_le y high ≡ true)
 between low high z y h = by (int_le low z) (int_le z high) refl refl h
   where
-    by : (a b : Bool) → int_le low z ≡ a → int_le z high ≡ b → (if a && b then Some z else None) ≡ Some y → (z ≡ y) × (int_le low y ≡ true) × (int_le y high ≡ true)
+    by : (a b : Bool) → int_le low z ≡ a → int_le z high ≡ b → (if a && b then Some z else None) ≡ Some y
+        → (z ≡ y) × (int_le low y ≡ true) × (int_le y high ≡ true)
     by true true p q h = let e = same_Some z y h in (e, ap (int_le low) (sym e) ∙ p, ap (λ x. int_le x high) (sym e) ∙ q)
     by true false p q h = absurd (none-some y h)
     by false b p q h = absurd (none-some y h)
 
-number_between : (low high : ℤ) (word : List ℕ) (y : ℤ) → number_in low high word ≡ Some y → (int_le low y ≡ true) × (int_le y high ≡ true)
+number_between : (low high : ℤ) (word : List ℕ) (y : ℤ) → number_in low high word ≡ Some y
+    → (int_le low y ≡ true) × (int_le y high ≡ true)
 unfolding number_in
 number_between low high word y h =
     let x = had (number_of word) (if_between low high) y h in
     let k = between low high x.0 y x.2 in
     (k.1, k.2)
 
-pub natural_between : (low high : ℕ) (word : List ℕ) (n : ℕ) → natural_in low high word ≡ Some n → (low ≤ n) × (n ≤ high)
+pub natural_between : (low high : ℕ) (word : List ℕ) (n : ℕ) → natural_in low high word ≡ Some n
+    → (low ≤ n) × (n ≤ high)
 unfolding natural_in
 natural_between low high word n h =
     let x = mapped (number_in (pos low) (pos high) word) unsigned_abs n h in
     let k = number_between (pos low) (pos high) word x.0 x.1 in
     by x.0 k.0 k.1 x.2
   where
-    by : (z : ℤ) → int_le (pos low) z ≡ true → int_le z (pos high) ≡ true → unsigned_abs z ≡ n → (low ≤ n) × (n ≤ high)
+    by : (z : ℤ) → int_le (pos low) z ≡ true → int_le z (pos high) ≡ true → unsigned_abs z ≡ n
+        → (low ≤ n) × (n ≤ high)
     by (pos m) p q e = (grind (arith, nat_tests), grind (arith, nat_tests))
     by (negsuc m) p q e = absurd (true≢false (sym p))
 
 -- a number from -32768 to 65535
-pub signed_within : (word : List ℕ) (z : ℤ) → number_in (negsuc 32767) (pos 65535) word ≡ Some z → IsWithin (2 ^ 16) z
+pub signed_within : (word : List ℕ) (z : ℤ) → number_in (negsuc 32767) (pos 65535) word ≡ Some z
+    → IsWithin (2 ^ 16) z
 signed_within word z h = by z (number_between (negsuc 32767) (pos 65535) word z h)
   where
     by : (z : ℤ) → (int_le (negsuc 32767) z ≡ true) × (int_le z (pos 65535) ≡ true) → IsWithin (2 ^ 16) z
@@ -105,7 +113,8 @@ glyph_range (a ∷ b ∷ c ∷ d ∷ []) g h =
     })
 glyph_range (a ∷ b ∷ c ∷ d ∷ e ∷ more) g h = absurd (none-some g h)
 
-char_range : (glyphs : List NamedGlyph) (fields : Words) (c : ℕ × ℕ) → char_in glyphs Char fields ≡ Some c → c.1 < length glyphs
+char_range : (glyphs : List NamedGlyph) (fields : Words) (c : ℕ × ℕ) → char_in glyphs Char fields ≡ Some c
+    → c.1 < length glyphs
 char_range glyphs [] c h = absurd (none-some c h)
 char_range glyphs (a ∷ []) c h = absurd (none-some c h)
 char_range glyphs (a ∷ b ∷ []) c h =
@@ -117,11 +126,13 @@ char_range glyphs (a ∷ b ∷ d ∷ more) c h = absurd (none-some c h)
 
 -- ---- what lines give
 
-glyph_keeps : (g : Given) (n : NamedGlyph) (h : Given) → IsGiven g → IsInDesign n.glyph → with_glyph g n ≡ Some h → IsGiven h
+glyph_keeps : (g : Given) (n : NamedGlyph) (h : Given) → IsGiven g → IsInDesign n.glyph
+    → with_glyph g n ≡ Some h → IsGiven h
 glyph_keeps g n h given within e = by (is_some (place_of_name g.glyphs n.name)) (nat_lt (length g.glyphs) 65535) refl e
   where
     by : (used room : Bool) → nat_lt (length g.glyphs) 65535 ≡ room
-        → (if used then None else if room then Some (record g { glyphs = g.glyphs ++ n ∷ [] }) else None) ≡ Some h → IsGiven h
+        → (if used then None else if room then Some (record g { glyphs = g.glyphs ++ n ∷ [] }) else None) ≡ Some h
+        → IsGiven h
     by true room r e = absurd (none-some h e)
     by false false r e = absurd (none-some h e)
     by false true r e =
@@ -136,10 +147,13 @@ glyph_keeps g n h given within e = by (is_some (place_of_name g.glyphs n.name)) 
           characters = All-weaker (λ c. c.1 < length g.glyphs) (λ c. c.1 < length (g.glyphs ++ n ∷ [])) (λ c k. omega (arith, size, k)) g.characters given.characters;
         })
 
-char_keeps : (g : Given) (c : ℕ × ℕ) (h : Given) → IsGiven g → c.1 < length g.glyphs → with_character g c ≡ Some h → IsGiven h
+char_keeps : (g : Given) (c : ℕ × ℕ) (h : Given) → IsGiven g → c.1 < length g.glyphs
+    → with_character g c ≡ Some h → IsGiven h
 char_keeps g c h given within e = by (is_some (place_of_code g.characters c.0)) e
   where
-    by : (used : Bool) → (if used then None else Some (record g { characters = g.characters ++ c ∷ [] })) ≡ Some h → IsGiven h
+    by : (used : Bool)
+        → (if used then None else Some (record g { characters = g.characters ++ c ∷ [] })) ≡ Some h
+        → IsGiven h
     by true e = absurd (none-some h e)
     by false e =
         subst IsGiven (same_Some _ h e) (record {
@@ -151,7 +165,8 @@ char_keeps g c h given within e = by (is_some (place_of_code g.characters c.0)) 
           characters = All-push (λ c. c.1 < length g.glyphs) g.characters c given.characters within;
         })
 
-fields_keep : (g : Given) (k : Keyword) (fields : Words) (h : Given) → IsGiven g → after_fields g k fields ≡ Some h → IsGiven h
+fields_keep : (g : Given) (k : Keyword) (fields : Words) (h : Given) → IsGiven g
+    → after_fields g k fields ≡ Some h → IsGiven h
 fields_keep g Version fields h given e = subst IsGiven (mapped (version_in Version fields) (λ one. g) h e).2 given
 fields_keep g Upem fields h given e =
     let n = mapped (upem_in Upem fields) _ h e in

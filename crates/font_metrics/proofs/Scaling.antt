@@ -8,7 +8,8 @@ use Rattle.fixed_units.proofs.Within.{quotient_in, product_in, natural_in, widen
 use Rattle.font_metrics.specs.Metrics.{MetricsValue, scale_of}
 
 -- an em has 16 design units at the least
-pub scale_in : (m : MetricsValue) (k : ℕ) (value size : ℤ) → 16 ≤ m.upem → IsWithin (k * 16) (value *ℤ size) → IsWithin k (scale_of m value size)
+pub scale_in : (m : MetricsValue) (k : ℕ) (value size : ℤ) → 16 ≤ m.upem → IsWithin (k * 16) (value *ℤ size)
+    → IsWithin k (scale_of m value size)
 unfolding scale_of
 scale_in m k value size least h = quotient_in (pos m.upem) (lit< tt) (omega (arith, signed)) h
 
@@ -17,7 +18,8 @@ pub size_in : (size : ℤ) → pos 0 ≤ℤ size → size ≤ℤ pos (2 ^ 20) �
 size_in size low high = record { low = omega (arith, signed); high = high }
 
 -- a number of the file that isn't negative
-pub line_in : (m : MetricsValue) (n : ℕ) (size : ℤ) → 16 ≤ m.upem → n ≤ 65535 → pos 0 ≤ℤ size → size ≤ℤ pos (2 ^ 20) → IsWithin (2 ^ 32) (scale_of m (pos n) size)
+pub line_in : (m : MetricsValue) (n : ℕ) (size : ℤ) → 16 ≤ m.upem → n ≤ 65535 → pos 0 ≤ℤ size
+    → size ≤ℤ pos (2 ^ 20) → IsWithin (2 ^ 32) (scale_of m (pos n) size)
 line_in m n size least small low high =
     scale_in m (2 ^ 32) (pos n) size least (product_in (widened (2 ^ 16) (natural_in n) (omega arith)) (size_in size low high))
 
@@ -33,11 +35,13 @@ within64 {m} h small = subst (IsWithin m) (sym (back64 h small)) h
 
 -- a product of two numbers within 2^20, written at 64 bits and then at 128
 pub product_back : (value size wide : ℤ) → IsWithin (2 ^ 20) value → IsWithin (2 ^ 20) size
-    → wide ≡ to_z w64 (of_z w64 (to_z w64 (of_z w64 value) *ℤ to_z w64 (of_z w64 size))) → to_z w128 (of_z w128 wide) ≡ value *ℤ size
+    → wide ≡ to_z w64 (of_z w64 (to_z w64 (of_z w64 value) *ℤ to_z w64 (of_z w64 size)))
+    → to_z w128 (of_z w128 wide) ≡ value *ℤ size
 product_back value size wide v s e =
     let product : IsWithin (2 ^ 40) (value *ℤ size) = product_in v s in
     let parts : to_z w64 (of_z w64 value) *ℤ to_z w64 (of_z w64 size) ≡ value *ℤ size = λ i. back64 v (lit< tt) i *ℤ back64 s (lit< tt) i in
     ap (λ z. to_z w128 (of_z w128 z)) (e ∙ ap (λ z. to_z w64 (of_z w64 z)) parts ∙ back64 product (lit< tt)) ∙ back128 product (lit< tt)
 
-pub upem_back : (upem : ℕ) (wide : ℤ) → upem < 2 ^ 16 → wide ≡ pos upem → to_z w128 (of_z w128 wide) ≡ pos upem
+pub upem_back : (upem : ℕ) (wide : ℤ) → upem < 2 ^ 16 → wide ≡ pos upem
+    → to_z w128 (of_z w128 wide) ≡ pos upem
 upem_back upem wide small e = ap (λ z. to_z w128 (of_z w128 z)) e ∙ back128 (natural_in upem) (omega arith)

@@ -12,7 +12,8 @@ use Rattle.font_metrics.specs.Words.{◌>>=◌}
 use Rattle.font_metrics.proofs.Order.{line_by_line}
 
 -- the next line
-pub turn : (lines : List (List ℕ)) (i : ℕ) (line : List ℕ) (g : Given) → (i < length lines) × (line ≡ get_or lines i line)
+pub turn : (lines : List (List ℕ)) (i : ℕ) (line : List ℕ) (g : Given)
+    → (i < length lines) × (line ≡ get_or lines i line)
     → after_lines g (drop i (map words_of lines)) ≡ (after g (words_of line) >>= λ next. after_lines next (drop (i + 1) (map words_of lines)))
 turn lines i line g h =
     let size : length (map words_of lines) ≡ length lines = length-map lines words_of in
@@ -22,18 +23,21 @@ turn lines i line g h =
     ∙ ap (λ l. l ∷ drop (i + 1) (map words_of lines)) (get_or-map words_of lines i line ∙ ap words_of (sym h.1)))
 
 -- a line that can't stand there ends the reading
-pub stopped : {X : Type 0} (o : Option Given) (g : Given) (f : Given → Option X) (r : MetricsRefusal) → Takes o g (Err r) → Reads (o >>= f) (Err r)
+pub stopped : {X : Type 0} (o : Option Given) (g : Given) (f : Given → Option X) (r : MetricsRefusal)
+    → Takes o g (Err r) → Reads (o >>= f) (Err r)
 stopped o g f Later h = ap (λ n. n >>= f) h
 stopped o g f Memory h = tt
 
 -- a refusal that is handed on
-pub handed_on : {X : Type 0} (value : Option X) (r : Result X MetricsRefusal) (refusal : MetricsRefusal) → IsErrAnd r (λ e. e ≡ refusal)
+pub handed_on : {X : Type 0} (value : Option X) (r : Result X MetricsRefusal) (refusal : MetricsRefusal)
+    → IsErrAnd r (λ e. e ≡ refusal)
     → Reads value (Err refusal) → Reads value r
 handed_on value (Ok x) refusal h k = absurd h
 handed_on value (Err e) refusal h k = subst (λ e. Reads value (Err e)) (sym h) k
 
 -- a refusal is that of what follows too
-pub refused : {X Y : Type 0} (value : Option X) (f : X → Option Y) (refusal : MetricsRefusal) → Reads value (Err refusal) → Reads (value >>= f) (Err refusal)
+pub refused : {X Y : Type 0} (value : Option X) (f : X → Option Y) (refusal : MetricsRefusal)
+    → Reads value (Err refusal) → Reads (value >>= f) (Err refusal)
 refused value f Later h = ap (λ v. v >>= f) h
 refused value f Memory h = tt
 
@@ -42,7 +46,8 @@ and-true true = refl
 and-true false = refl
 
 -- the last byte, and the list of it
-pub last_byte : (bytes : List ℕ) → pointwise nat_eq (drop (length bytes - 1) bytes) (10 ∷ []) ≡ nat_eq (slice_index bytes (length bytes - 1)) 10
+pub last_byte : (bytes : List ℕ)
+    → pointwise nat_eq (drop (length bytes - 1) bytes) (10 ∷ []) ≡ nat_eq (slice_index bytes (length bytes - 1)) 10
 last_byte [] = refl
 last_byte (b ∷ bs) =
     let n = length (b ∷ bs) - 1 in
@@ -51,7 +56,8 @@ last_byte (b ∷ bs) =
     ∙ and-true (nat_eq (get_or (b ∷ bs) n 0) 10)
 
 -- a file whose last byte is a line feed has the metrics of its lines
-pub whole_lines : (bytes text : List ℕ) → pointwise nat_eq (drop (length bytes - 1) bytes) (10 ∷ []) ≡ true → text ≡ take (length bytes - 1) bytes
+pub whole_lines : (bytes text : List ℕ) → pointwise nat_eq (drop (length bytes - 1) bytes) (10 ∷ []) ≡ true
+    → text ≡ take (length bytes - 1) bytes
     → short_metrics bytes ≡ (after_lines nothing (map words_of (parts_at line_feed text)) >>= finished)
 unfolding short_metrics lines_of
 whole_lines bytes text h same =
@@ -59,7 +65,8 @@ whole_lines bytes text h same =
     ∙ ap (λ t. short_of (map words_of (parts_at line_feed t))) (sym same) ∙ sym (line_by_line (map words_of (parts_at line_feed text)))
 
 -- and one whose last byte is another has none
-pub cut_line : (bytes : List ℕ) → pointwise nat_eq (drop (length bytes - 1) bytes) (10 ∷ []) ≡ false → short_metrics bytes ≡ None
+pub cut_line : (bytes : List ℕ) → pointwise nat_eq (drop (length bytes - 1) bytes) (10 ∷ []) ≡ false
+    → short_metrics bytes ≡ None
 unfolding short_metrics lines_of
 cut_line bytes h =
     ap (λ b. (if b then Some (parts_at line_feed (take (length bytes - 1) bytes)) else None) >>= λ lines. short_of (map words_of lines)) (sym (last_byte bytes) ∙ h)

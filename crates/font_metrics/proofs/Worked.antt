@@ -34,3 +34,27 @@ a-short-file : short_metrics (header ++ missing_line ++ one_line ++ char_line) �
 })
 unfolding value_of_digits numeral_of number_of number_in natural_in code_of is_name name_in lines_of keyword_of short_of short_metrics
 a-short-file = refl
+
+-- the last line lacks its line feed
+cut-off : short_metrics (header ++ codes "glyph missing 512 600 0") ≡ None
+unfolding lines_of short_metrics
+cut-off = refl
+
+-- a character stands before a glyph
+another-order : short_metrics (header ++ missing_line ++ char_line ++ one_line) ≡ None
+unfolding value_of_digits numeral_of number_of number_in natural_in code_of is_name name_in lines_of keyword_of short_of short_metrics
+another-order = refl
+
+-- no glyph is called `missing`
+no-missing : short_metrics (header ++ one_line ++ char_line) ≡ None
+unfolding value_of_digits numeral_of number_of number_in natural_in code_of is_name name_in lines_of keyword_of short_of short_metrics
+no-missing = refl
+
+-- a glyph has two lines, and a character has two
+glyph-twice : short_metrics (header ++ missing_line ++ missing_line) ≡ None
+unfolding value_of_digits numeral_of number_of number_in natural_in code_of is_name name_in lines_of keyword_of short_of short_metrics
+glyph-twice = refl
+
+character-twice : short_metrics (header ++ missing_line ++ one_line ++ char_line ++ char_line) ≡ None
+unfolding value_of_digits numeral_of number_of number_in natural_in code_of is_name name_in lines_of keyword_of short_of short_metrics
+character-twice = refl

@@ -4,7 +4,7 @@ use thiserror::Error;
 /// Why a metrics file isn't taken.
 #[derive(Clone, Copy, Debug, PartialEq, Eq, Error)]
 pub enum MetricsRefusal {
-    /// The bytes aren't a short metrics file.
+    /// The bytes aren't a short metrics file, the one form that is read so far.
     #[error("not a short metrics file")]
     Later,
     /// Memory was refused.

@@ -1,7 +1,7 @@
 use Rattle.std.proofs.Common.{◌∙◌, ap, sym, subst, map}
 use Rattle.font_metrics.specs.Taking.{Takes, after}
 use Rattle.font_metrics.specs.Short.{words_of}
-use Rattle.font_metrics.proofs.Order.{after-take}
+use Rattle.font_metrics.proofs.Header.{after-take}
 use Rattle.font_metrics.proofs.reader.Reader.take.Goals as goal
 
 pub returns : goal.returns
