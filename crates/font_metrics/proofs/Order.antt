@@ -1,5 +1,5 @@
 -- Reading line by line gives what the short form says of all lines.
-use Rattle.std.proofs.Common.{◌≡◌, ℕ, Bool, true, false, ◌&&◌, nat_le, nat_lt, nat_eq, List, [], ◌∷◌, ◌++◌, map, length, take, Option, Some, None, is_some, option_map, refl, ap, sym, ◌∙◌, append_assoc, append-nil, codes, true≢false, if◌then◌else◌, arith, length-append}
+use Rattle.std.proofs.Common.{◌≡◌, ℕ, Bool, true, false, ◌&&◌, nat_le, nat_lt, nat_eq, List, [], ◌∷◌, ◌++◌, map, length, Option, Some, None, is_some, refl, ap, sym, ◌∙◌, append_assoc, append-nil, codes, true≢false, if◌then◌else◌, arith, length-append}
 use Rattle.std.proofs.lemmas.Bool.Decides.{nat_tests}
 use Rattle.std.proofs.lemmas.Map.Made.{is_some-lookup}
 use Rattle.std.specs.List.{list_any}
@@ -9,7 +9,7 @@ use Rattle.font_metrics.specs.declared.keyword.Keyword.TheVariants.{Version, Upe
 use Rattle.font_metrics.specs.Metrics.{NamedGlyph, MetricsValue, metrics_value, place_of_name, place_of_code}
 use Rattle.font_metrics.specs.Words.{◌>>=◌, only_if}
 use Rattle.font_metrics.specs.Short.{Words, most_glyphs, keyword_of, version_in, upem_in, line_in, x_height_in, glyph_in, char_in, by_keyword, is_glyph, is_glyph_line, front_by, behind_by, each_gives, is_distinct, have_distinct_names, have_distinct_codes, has_missing, are_right, short_of}
-use Rattle.font_metrics.specs.Taking.{Given, nothing, with_glyph, with_character, after_fields, after_keyword, after, after_lines, may_follow, whole_of, finished}
+use Rattle.font_metrics.specs.Taking.{Given, nothing, with_glyph, with_character, after_keyword, after, after_lines, may_follow, whole_of, finished}
 use Rattle.font_metrics.proofs.Header.{ended, ends, absent, step, dead, version_step, upem_step, line_step, given, x_height_step}
 use Rattle.font_metrics.proofs.Tables.{map-append}
 use Rattle.font_metrics.proofs.Distinct.{and-false, repeated, one_more, found, list_any-map}

@@ -1,6 +1,5 @@
 -- What lines give lies in its ranges.
-use Rattle.std.proofs.Common.{◌≡◌, ◌∙◌, sym, ap, refl, subst, ℕ, ◌+◌, ◌≤◌, ◌<◌, ◌^◌, Bool, true, false, ◌&&◌, nat_le, true≢false, ℤ, pos, negsuc, neg_ℤ, ◌≤ℤ◌, int_le, unsigned_abs, List, [], ◌∷◌, ◌++◌, length, length-append, Option, Some, None, is_some, IfSome, option_map, if◌then◌else◌, nat_lt, arith}
-use Rattle.std.specs.List.{All}
+use Rattle.std.proofs.Common.{◌≡◌, ◌∙◌, sym, ap, refl, subst, ℕ, ◌≤◌, ◌<◌, ◌^◌, Bool, true, false, ◌&&◌, true≢false, ℤ, pos, negsuc, int_le, unsigned_abs, List, [], ◌∷◌, ◌++◌, length, length-append, Option, Some, None, is_some, option_map, if◌then◌else◌, nat_lt, arith}
 use Rattle.std.proofs.lemmas.Bool.Decides.{nat_tests}
 use Rattle.std.proofs.lemmas.Option.{none-some, same_Some}
 use Rattle.std.proofs.lemmas.List.Elements.{All-nil, All-push, All-weaker}
@@ -12,8 +11,7 @@ use Rattle.font_metrics.specs.declared.keyword.Keyword.TheVariants.{Version, Upe
 use Rattle.font_metrics.specs.Metrics.{NamedGlyph, IsInDesign, place_of_name, place_of_code}
 use Rattle.font_metrics.specs.Words.{◌>>=◌, number_of, if_between, number_in, natural_in, code_of, name_in}
 use Rattle.font_metrics.specs.Short.{Words, keyword_of, version_in, upem_in, line_in, x_height_in, glyph_in, char_in}
-use Rattle.font_metrics.specs.Taking.{Given, nothing, with_glyph, with_character, after_fields, after_keyword, after, may_follow, IsUpem, IsGiven}
-use Rattle.font_metrics.proofs.Distinct.{both}
+use Rattle.font_metrics.specs.Taking.{Given, nothing, with_glyph, with_character, after_fields, after, may_follow, IsUpem, IsGiven}
 use Rattle.font_metrics.proofs.Tables.{place_within}
 
 -- a step that gave something had something

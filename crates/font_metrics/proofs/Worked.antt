@@ -1,6 +1,6 @@
 -- Worked files: the definitions, computed.
-use Rattle.std.proofs.Common.{◌≡◌, ℕ, pos, List, [], ◌∷◌, ◌++◌, codes, Option, Some, None, refl}
-use Rattle.font_metrics.specs.Metrics.{MetricsValue, NamedGlyph}
+use Rattle.std.proofs.Common.{◌≡◌, ℕ, pos, List, [], ◌∷◌, ◌++◌, codes, Some, None, refl}
+use Rattle.font_metrics.specs.Metrics.{NamedGlyph}
 use Rattle.font_metrics.specs.Words.{value_of_digits, numeral_of, number_of, number_in, natural_in, code_of, is_name, name_in}
 use Rattle.font_metrics.specs.Short.{lines_of, keyword_of, short_of, short_metrics}
 

@@ -1,5 +1,5 @@
 -- What the maps of a reader stand for.
-use Rattle.std.specs.Prelude.{ℕ, ℤ, pos, List, map, None, String, string_bytes}
+use Rattle.std.specs.Prelude.{ℕ, pos, List, map, String, string_bytes}
 use Rattle.std.specs.declared.alloc.Global.{Global}
 use Rattle.font_metrics.specs.declared.glyph.Glyph.{Glyph}
 use Rattle.font_metrics.specs.declared.glyph.Measures.{Measures}

@@ -5,7 +5,7 @@ use Rattle.std.specs.Str.{bytes_eq}
 use Rattle.std.specs.Borrow.{Bor}
 use Rattle.font_metrics.specs.declared.keyword.Keyword.{Keyword}
 use Rattle.font_metrics.specs.declared.keyword.Keyword.TheVariants.{Version, Upem, Line, XHeight, Glyph, Char, Other}
-use Rattle.font_metrics.specs.Metrics.{NamedGlyph, MetricsValue, metrics_value, plain_glyph, place_of_name}
+use Rattle.font_metrics.specs.Metrics.{NamedGlyph, MetricsValue, plain_glyph, place_of_name}
 use Rattle.font_metrics.specs.Words.{◌>>=◌, only_if, number_in, natural_in, code_of, name_in}
 
 abbrev pub line_feed : ℕ

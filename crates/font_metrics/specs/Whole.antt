@@ -1,5 +1,5 @@
 -- What a `Metrics` stands for, and what holds of each.
-use Rattle.std.specs.Prelude.{◌≡◌, ℕ, codes, Some}
+use Rattle.std.specs.Prelude.{◌≡◌, codes, Some}
 use Rattle.font_metrics.specs.declared.metrics.Metrics.TheInside.{Inside}
 use Rattle.font_metrics.specs.Metrics.{MetricsValue, IsTaken, place_of_name}
 

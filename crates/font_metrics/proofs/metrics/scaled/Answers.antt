@@ -1,5 +1,4 @@
-use Rattle.std.proofs.Common.{◌≡◌, ◌∙◌, ap, subst, sym, lit<, lit≤, to_z, of_z, w64, ℤ, ◌*ℤ◌, pos, ◌^◌, ◌≤ℤ◌, ◌<ℤ◌, arith}
-use Rattle.std.specs.Int.{w128}
+use Rattle.std.proofs.Common.{◌∙◌, ap, subst, sym, lit<, lit≤, to_z, of_z, w64, ◌*ℤ◌, pos, ◌^◌, ◌≤ℤ◌, ◌<ℤ◌, arith}
 use Rattle.fixed_units.specs.Numbers.{IsWithin, rounded}
 use Rattle.fixed_units.proofs.Within.{product_in, widened, quotient_in}
 use Rattle.fixed_units.proofs.Signed.{signed}

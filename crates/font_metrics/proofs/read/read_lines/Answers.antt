@@ -1,11 +1,11 @@
-use Rattle.std.proofs.Common.{◌≡◌, ◌∙◌, ℕ, ◌+◌, ◌<◌, ap, sym, subst, List, length, map, drop, get_or, rules, tests, arith, nat_eq, Err}
+use Rattle.std.proofs.Common.{◌≡◌, ◌∙◌, ◌+◌, ap, sym, subst, length, map, drop, rules, tests, arith, nat_eq, Err}
 use Rattle.std.proofs.lemmas.Iterator.Consumers.{YieldsList-turn, YieldsList-end}
 use Rattle.std.proofs.lemmas.Iterator.Splits.{YieldsList-from_slice_split}
 use Rattle.std.proofs.lemmas.List.{length_push, drop_all, length-map}
 use Rattle.std.specs.Slice.Iter.{split_rest, split_done, split_callee}
 use Rattle.font_metrics.specs.Reads.{Reads}
 use Rattle.font_metrics.specs.Short.{line_feed, parts_at, words_of}
-use Rattle.font_metrics.specs.Taking.{nothing, after, after_lines}
+use Rattle.font_metrics.specs.Taking.{after_lines}
 use Rattle.font_metrics.specs.Words.{◌>>=◌}
 use Rattle.font_metrics.proofs.Ranges.{after_keeps}
 use Rattle.font_metrics.proofs.Turns.{turn, stopped, handed_on}

@@ -1,4 +1,4 @@
-use Rattle.std.proofs.Common.{◌≡◌, ◌∙◌, ◌-◌, ap, sym, subst, length, drop, take, nat_eq, Err}
+use Rattle.std.proofs.Common.{◌∙◌, ◌-◌, ap, sym, subst, length, drop, take, nat_eq, Err}
 use Rattle.std.specs.Cmp.Lexicographic.{pointwise}
 use Rattle.font_metrics.specs.Reads.{Reads}
 use Rattle.font_metrics.specs.Taking.{finished}

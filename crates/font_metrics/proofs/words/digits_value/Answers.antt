@@ -1,4 +1,4 @@
-use Rattle.std.proofs.Common.{◌≡◌, ◌∙◌, ◌<◌, ◌*◌, ◌+◌, ◌^◌, ap, sym, subst, lit<, arith, drop}
+use Rattle.std.proofs.Common.{◌∙◌, ◌<◌, ◌*◌, ◌+◌, ap, sym, subst, lit<, arith, drop}
 use Rattle.std.specs.Char.{digit_value}
 use Rattle.font_metrics.proofs.Digits.{value_in_front, next_digit, no_digit, next_small, six_small, value_behind}
 use Rattle.std.proofs.Math.Nat.{mul-le-mul_left}

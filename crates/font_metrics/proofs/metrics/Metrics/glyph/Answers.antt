@@ -1,5 +1,5 @@
-use Rattle.std.proofs.Common.{◌∙◌, ap, sym, rules}
-use Rattle.font_metrics.specs.Metrics.{place_of_letter, missing_place, glyph_at, name_at}
+use Rattle.std.proofs.Common.{rules}
+use Rattle.font_metrics.specs.Metrics.{place_of_letter, missing_place, glyph_at}
 use Rattle.font_metrics.proofs.metrics.Metrics.glyph.Goals as goal
 
 pub returns-clause-value : goal.returns-clause-value

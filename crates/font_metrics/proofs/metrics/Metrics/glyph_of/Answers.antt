@@ -1,6 +1,6 @@
 use Rattle.std.proofs.Common.{◌≡◌, ◌∙◌, ◌<◌, ap, sym, codes, length, nat_eq, arith}
 use Rattle.std.specs.Option.{unwrap_or}
-use Rattle.font_metrics.specs.Metrics.{MetricsValue, place_of_letter, missing_place, place_of_name, place_of_code}
+use Rattle.font_metrics.specs.Metrics.{MetricsValue, place_of_letter, missing_place, place_of_code}
 use Rattle.font_metrics.proofs.Tables.{place_below, place_within}
 use Rattle.font_metrics.proofs.metrics.Metrics.glyph_of.Goals as goal
 

@@ -1,4 +1,4 @@
-use Rattle.std.proofs.Common.{◌≡◌, rules, subst, sym, ◌^◌}
+use Rattle.std.proofs.Common.{rules, subst, sym, ◌^◌}
 use Rattle.fixed_units.specs.Numbers.{IsWithin}
 use Rattle.fixed_units.proofs.Within.{product_in}
 use Rattle.font_metrics.specs.Metrics.{IsTaken, scale_of}

@@ -1,4 +1,4 @@
-use Rattle.std.proofs.Common.{◌∙◌, ap, sym, subst, map}
+use Rattle.std.proofs.Common.{◌∙◌, ap, subst, map}
 use Rattle.font_metrics.specs.Taking.{Takes, after}
 use Rattle.font_metrics.specs.Short.{words_of}
 use Rattle.font_metrics.proofs.Header.{after-take}
