@@ -4,7 +4,7 @@ use Rattle.font_metrics.specs.declared.keyword.Keyword.{Keyword}
 use Rattle.font_metrics.specs.declared.keyword.Keyword.TheVariants.{Version, Upem, Line, XHeight, Glyph, Char, Other}
 use Rattle.font_metrics.specs.Metrics.{NamedGlyph, MetricsValue}
 use Rattle.font_metrics.specs.Words.{◌>>=◌}
-use Rattle.font_metrics.specs.Short.{Words, keyword_of, version_in, upem_in, line_in, x_height_in, by_keyword}
+use Rattle.font_metrics.specs.Lines.{Words, keyword_of, version_in, upem_in, line_in, x_height_in, by_keyword}
 use Rattle.font_metrics.specs.Taking.{Given, nothing, after_keyword, after, after_lines, finished}
 
 -- ---- the words of a line beyond the sixth make no difference

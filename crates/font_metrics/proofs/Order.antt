@@ -8,7 +8,9 @@ use Rattle.font_metrics.specs.declared.keyword.Keyword.{Keyword}
 use Rattle.font_metrics.specs.declared.keyword.Keyword.TheVariants.{Version, Upem, Line, XHeight, Glyph, Char, Other}
 use Rattle.font_metrics.specs.Metrics.{NamedGlyph, MetricsValue, metrics_value, place_of_name, place_of_code}
 use Rattle.font_metrics.specs.Words.{◌>>=◌, only_if}
-use Rattle.font_metrics.specs.Short.{Words, most_glyphs, keyword_of, version_in, upem_in, line_in, x_height_in, glyph_in, char_in, by_keyword, is_glyph, is_glyph_line, front_by, behind_by, each_gives, is_distinct, have_distinct_names, have_distinct_codes, has_missing, are_right, short_of}
+use Rattle.font_metrics.specs.Lines.{Words, keyword_of, version_in, upem_in, line_in, x_height_in, glyph_in, char_in, by_keyword}
+use Rattle.font_metrics.specs.Short.{is_glyph, is_glyph_line, front_by, behind_by, each_gives, is_distinct, have_distinct_names, have_distinct_codes, has_missing, are_right, short_of}
+use Rattle.font_metrics.specs.Metrics.{most_glyphs}
 use Rattle.font_metrics.specs.Taking.{Given, nothing, with_glyph, with_character, after_keyword, after, after_lines, may_follow, whole_of, finished}
 use Rattle.font_metrics.proofs.Header.{ended, ends, absent, step, dead, version_step, upem_step, line_step, given, x_height_step}
 use Rattle.font_metrics.proofs.Tables.{map-append}

@@ -10,7 +10,7 @@ use Rattle.font_metrics.specs.declared.keyword.Keyword.{Keyword}
 use Rattle.font_metrics.specs.declared.keyword.Keyword.TheVariants.{Version, Upem, Line, XHeight, Glyph, Char, Other}
 use Rattle.font_metrics.specs.Metrics.{NamedGlyph, IsInDesign, place_of_name, place_of_code}
 use Rattle.font_metrics.specs.Words.{◌>>=◌, number_of, if_between, number_in, natural_in, code_of, name_in}
-use Rattle.font_metrics.specs.Short.{Words, keyword_of, version_in, upem_in, line_in, x_height_in, glyph_in, char_in}
+use Rattle.font_metrics.specs.Lines.{Words, keyword_of, version_in, upem_in, line_in, x_height_in, glyph_in, char_in}
 use Rattle.font_metrics.specs.Taking.{Given, nothing, with_glyph, with_character, after_fields, after, may_follow, IsUpem, IsGiven}
 use Rattle.font_metrics.proofs.Tables.{place_within}
 

@@ -2,7 +2,8 @@
 use Rattle.std.proofs.Common.{◌≡◌, ℕ, pos, List, [], ◌∷◌, ◌++◌, codes, Some, None, refl}
 use Rattle.font_metrics.specs.Metrics.{NamedGlyph}
 use Rattle.font_metrics.specs.Words.{value_of_digits, numeral_of, number_of, number_in, natural_in, code_of, is_name, name_in}
-use Rattle.font_metrics.specs.Short.{lines_of, keyword_of, short_of, short_metrics}
+use Rattle.font_metrics.specs.Lines.{keyword_of}
+use Rattle.font_metrics.specs.Short.{lines_of, short_of, short_metrics}
 
 -- lines with their line feeds
 abbrev feed : List ℕ

@@ -1,5 +1,6 @@
 pub mod Metrics
 pub mod Words
+pub mod Lines
 pub mod Short
 pub mod Reads
 pub mod Kept

@@ -89,6 +89,10 @@ line_descent_of m size = scale_of m (pos m.line_descent) size
 
 -- ---- what holds of every metrics file that is taken
 
+-- a glyph's number has 16 bits, and the last of them isn't given
+abbrev pub most_glyphs : ℕ
+most_glyphs = 65535
+
 -- each number of a glyph lies within 2^16 design units
 pub record IsInDesign (g : Glyph) : Type 0 where
   pub advance : IsWithin (2 ^ 16) g.advance
@@ -103,7 +107,7 @@ pub record IsTaken (m : MetricsValue) : Type 0 where
   pub line_ascent : m.line_ascent ≤ 65535
   pub line_descent : m.line_descent ≤ 65535
   pub x_height : m.x_height ≤ 65535
-  pub count : length m.glyphs ≤ 65535
+  pub count : length m.glyphs ≤ most_glyphs
   pub glyphs : All (λ g. IsInDesign g.glyph) m.glyphs
   pub missing : IsSome (place_of_name m.glyphs (codes "missing"))
   pub characters : All (λ c. c.1 < length m.glyphs) m.characters

@@ -1,5 +1,5 @@
 ghost use Rattle.std.specs.Prelude.{◌≡◌};
-ghost use Rattle.font_metrics.specs.Short.{keyword_of};
+ghost use Rattle.font_metrics.specs.Lines.{keyword_of};
 
 /// The first word of a line, which says what its fields are.
 #[derive(Clone, Copy, Debug, PartialEq, Eq)]
@@ -13,7 +13,7 @@ pub enum Keyword {
     Other,
 }
 
-#[tactic(auto, unfolding(crate::specs::Short::keyword_of))]
+#[tactic(auto, unfolding(crate::specs::Lines::keyword_of))]
 pub fn keyword_of(word: &[u8]) -> Keyword
     ensures { result ≡ keyword_of word.now }
 {

@@ -9,7 +9,7 @@
 //! - Proved: `read_metrics` gives what `short_metrics` says of the bytes, or answers that they say
 //!   nothing, exactly (`specs/Short.antt`); each accessor is a definition of `specs/Metrics.antt`.
 //! - Knows nothing of: trees, elements, layout, where the bytes came from.
-//! - Change a line of the format: `specs/Short.antt`, then `src/lines.rt`, then `rt check`.
+//! - Change a line of the format: `specs/Lines.antt`, then `src/lines.rt`, then `rt check`.
 #![tactic(auto)]
 
 mod characters; // which glyph shows a character

@@ -1,6 +1,6 @@
 ghost use Rattle.std.specs.Prelude.{◌≡◌, ◌≤◌, length, option_map};
 ghost use Rattle.font_metrics.specs.declared.keyword.Keyword.TheVariants as keyword;
-ghost use Rattle.font_metrics.specs.Short.{lent, version_in, upem_in, line_in, x_height_in, glyph_in, char_in};
+ghost use Rattle.font_metrics.specs.Lines.{lent, version_in, upem_in, line_in, x_height_in, glyph_in, char_in};
 ghost use Rattle.font_metrics.specs.Kept.{named_glyph};
 
 use crate::glyph::Measures;

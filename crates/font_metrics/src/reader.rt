@@ -3,7 +3,8 @@ ghost use Rattle.font_metrics.specs.declared.keyword.Keyword.TheVariants as keyw
 ghost use Rattle.font_metrics.specs.Taking.{Given, IsGiven, Takes, nothing, may_follow, after_fields, after_keyword, after, finished};
 ghost use Rattle.font_metrics.specs.Metrics.{IsTaken};
 ghost use Rattle.font_metrics.specs.Reads.{Reads};
-ghost use Rattle.font_metrics.specs.Short.{lent, words_of};
+ghost use Rattle.font_metrics.specs.Lines.{lent};
+ghost use Rattle.font_metrics.specs.Short.{words_of};
 
 use crate::characters::CharacterMap;
 use crate::glyphs::GlyphTable;
