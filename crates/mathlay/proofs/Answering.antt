@@ -2,16 +2,16 @@
 use Rattle.std.proofs.Common.{◌≡◌, ◌⊎◌, inl, inr, ℕ, List, refl, ap, sym, ◌∙◌, subst, arith, Option, Some, None, IfSome, ◌≤◌}
 use Rattle.std.specs.Prelude.{Result, Ok, Err, IsErrOf, IsSomeAnd, IsNone, IsOk}
 use Rattle.std.specs.Option.{option_map}
-use Rattle.doc_io.specs.Causes.{Files, Rose}
+use Rattle.doc_io.specs.Causes.{Files}
 use Rattle.font_metrics.specs.Metrics.{MetricsValue}
 use Rattle.math_tree.specs.Trees.{TreeValue}
-use Rattle.mathlay.specs.Command.{FileNames, layout_files}
+use Rattle.mathlay.specs.Command.{FileNames}
 use Rattle.mathlay.specs.Placed.{place}
 use Rattle.mathlay.specs.Lines.{text_of}
-use Rattle.mathlay.specs.Answer.{content, metrics_in, tree_in, ◌>>=◌, answer_in, answer_to, answer}
-use Rattle.mathlay.specs.Ends.{Seen, IsReachedOf, LacksFileOf, LacksFile, HasReadCause, IsCut, GivesOr, Answers}
+use Rattle.mathlay.specs.Answer.{content, metrics_in, tree_in, ◌>>=◌, answer_in, answer_to}
+use Rattle.mathlay.specs.Ends.{Seen, LacksFileOf, HasReadCause, IsCut, GivesOr, Answers}
 use Rattle.mathlay.specs.declared.refusal.Refusal.{Refusal}
-use Rattle.mathlay.specs.declared.refusal.Refusal.TheVariants.{Usage, ReadFault, Memory}
+use Rattle.mathlay.specs.declared.refusal.Refusal.TheVariants.{ReadFault}
 
 -- the same refusal, of another type of answer
 cut_again : {A B : Type 0} (r : Refusal) → IsCut {V = A} (Err r) → IsCut {V = B} (Err r)

@@ -1,11 +1,11 @@
 -- How the answer and its delivery make the ending of a run.
-use Rattle.std.proofs.Common.{◌≡◌, ◌⊎◌, inl, inr, ℕ, List, [], take, refl, ap, sym, ◌∙◌, subst, append-nil, Option, Some, None, IfSome}
+use Rattle.std.proofs.Common.{◌≡◌, ◌⊎◌, inl, inr, ℕ, List, take, refl, ap, sym, ◌∙◌, subst, append-nil, Option, Some, None, IfSome}
 use Rattle.std.specs.Prelude.{Result, Ok, Err, IsErrOf, IsSomeAnd, IsNone}
 use Rattle.std.specs.Option.{option_map}
 use Rattle.std.specs.Io.KnownBytes.{Appends, Keeps}
 use Rattle.doc_io.specs.Causes.{Files, Rose}
 use Rattle.mathlay.specs.Command.{layout_files}
-use Rattle.mathlay.specs.Refusals.{line_of, status_of}
+use Rattle.mathlay.specs.Refusals.{status_of}
 use Rattle.mathlay.specs.Answer.{answer, Output, output_of, output}
 use Rattle.mathlay.specs.Ends.{Seen, Told, LacksFile, HasReadCause, IsCut, IsCutShort, Answers, Delivers, Ends, KnowsWords}
 use Rattle.mathlay.specs.declared.status.Status.{Status}

@@ -2,3 +2,4 @@ pub mod Ending
 pub mod Loading
 pub mod Answering
 pub mod Placing
+mod Worked

@@ -1,6 +1,6 @@
 -- What a file's bytes, or the lack of them, make of an answer.
 use Rattle.std.proofs.Common.{◌≡◌, ◌⊎◌, inl, inr, ℕ, ◌<◌, ◌≤◌, List, [], length, refl, ap, sym, ◌∙◌, subst, Option, Some, None, IfSome, Bool, true, false, nat_lt, unwrap_or}
-use Rattle.std.specs.Prelude.{Result, Ok, Err, IsErrOf, IsSomeAnd, IsNone, IsOk}
+use Rattle.std.specs.Prelude.{Result, Ok, Err, IsErrOf, IsSomeAnd, IsNone}
 use Rattle.std.specs.Option.{option_map}
 use Rattle.std.proofs.lemmas.Bool.{le-ltb, lt-ltb}
 use Rattle.doc_io.specs.Causes.{Files, Rose}
@@ -17,9 +17,9 @@ use Rattle.std.specs.Str.{IsUtf8, is_utf8}
 use Rattle.std.proofs.lemmas.Str.{IsUtf8-from_is_utf8, is_utf8-from_IsUtf8}
 use Rattle.mathlay.specs.Refusals.{of_reading}
 use Rattle.mathlay.specs.Answer.{content, value_or, metrics_in, json_in, tree_of_json, tree_in}
-use Rattle.mathlay.specs.Ends.{Seen, HasReadCause, IsCut, GivesOr, Answers}
+use Rattle.mathlay.specs.Ends.{Seen, IsCut, GivesOr, Answers}
 use Rattle.mathlay.specs.declared.refusal.Refusal.{Refusal}
-use Rattle.mathlay.specs.declared.refusal.Refusal.TheVariants.{Usage, MetricsLong, MetricsLater, TreeLong, TreeJson, TreeLater, ReadFault, Memory}
+use Rattle.mathlay.specs.declared.refusal.Refusal.TheVariants.{MetricsLong, MetricsLater, TreeLong, TreeJson, TreeLater, ReadFault, Memory}
 
 -- ---- a file's bytes
 

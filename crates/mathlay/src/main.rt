@@ -1,17 +1,27 @@
-//! The program `mathlay`.
+//! The program `mathlay`: it lays out the tree of one file with the metrics of another, and writes
+//! what stands where.
+//!
+//! `run` does all that the program does, over any inputs and any sink. `main` hands it the words of
+//! the command line, the system's files and standard output, and ends with its status.
+//!
+//! - Models: tokens and rows of MathML Core 3.2 and 3.3.1; words, lines and statuses are own.
+//! - Proved: `run` ends as `Ends` says (`specs/Ends.antt`): with the bytes and the status of `output`
+//!   (`specs/Answer.antt`), or cut short for a cause.
+//! - Knows nothing of: operators, styles, edits; how a metrics file or a tree is read.
+//! - Change what is answered: `specs/Answer.antt`, then the file of `src/` below, then `rt check`.
 #![tactic(auto)]
 
-mod layout;
-mod lines;
-mod load;
-mod place;
-mod placed;
-mod refusal;
-mod run;
-mod status;
+mod layout; // the boxes of tokens and rows
+mod lines; // the lines of output
+mod load; // the two files
+mod place; // what stands where
+mod placed; // the items that stand
+mod refusal; // why there are no boxes
+mod run; // the top call
+mod status; // how a run ends
 #[cfg(test)]
 mod tests;
-mod words;
+mod words; // the words of the command line
 
 ghost use Rattle.std.specs.Prelude.{◌≡◌, ◌<◌};
 

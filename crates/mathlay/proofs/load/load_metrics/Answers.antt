@@ -1,4 +1,4 @@
-use Rattle.std.proofs.Common.{◌≡◌, subst, sym, Err}
+use Rattle.std.proofs.Common.{◌≡◌}
 use Rattle.mathlay.specs.Answer.{metrics_in}
 use Rattle.mathlay.specs.declared.refusal.Refusal.TheVariants.{MetricsLong, ReadFault}
 use Rattle.mathlay.proofs.Loading.{metrics_read, metrics_long, not_read}

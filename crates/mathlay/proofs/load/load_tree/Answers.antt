@@ -1,4 +1,4 @@
-use Rattle.std.proofs.Common.{◌≡◌, subst, sym, Err}
+use Rattle.std.proofs.Common.{◌≡◌}
 use Rattle.mathlay.specs.Answer.{tree_in}
 use Rattle.mathlay.specs.declared.refusal.Refusal.TheVariants.{TreeLong, ReadFault}
 use Rattle.mathlay.proofs.Loading.{tree_read, tree_long, not_read}

@@ -1,4 +1,4 @@
-use Rattle.std.proofs.Common.{◌≡◌, subst, sym, ap, inr}
+use Rattle.std.proofs.Common.{subst, sym, ap, inr}
 use Rattle.serde_json.specs.Errors.{IsMemory}
 use Rattle.mathlay.specs.Answer.{tree_of_json}
 use Rattle.mathlay.specs.Ends.{GivesOr}

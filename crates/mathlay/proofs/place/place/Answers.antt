@@ -1,6 +1,5 @@
-use Rattle.std.proofs.Common.{◌≡◌, ◌∙◌, ap, subst, [], ◌∷◌, IfOk}
+use Rattle.std.proofs.Common.{◌≡◌, subst, IfOk}
 use Rattle.mathlay.proofs.Placing.{placed_alone, placed_over}
-use Rattle.mathlay.specs.Placed.{place, row_items, frame_at_origin}
 use Rattle.mathlay.proofs.place.place.Goals as goal
 
 pub returns-in-None-clause-items : goal.returns-in-None-clause-items

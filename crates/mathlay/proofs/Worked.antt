@@ -1,0 +1,120 @@
+-- Worked runs: the definitions of the program, computed from the bytes of the files and the words.
+use Rattle.std.proofs.Common.{◌≡◌, ◌∙◌, ap, ℕ, pos, List, [], ◌∷◌, ◌++◌, codes, Some, None, refl}
+use Rattle.std.specs.Prelude.{⊤, Ok, Err, slice_get}
+use Rattle.std.specs.Fmt.{digits}
+use Rattle.serde_json.specs.Read.{read}
+use Rattle.serde_json.proofs.OnLiterals.{serde_json_on_literals}
+use Rattle.fixed_units.specs.Numbers.{rounded, halved}
+use Rattle.font_metrics.specs.Words.{value_of_digits, numeral_of, number_of, number_in, natural_in, code_of, is_name, name_in as glyph_name_in}
+use Rattle.font_metrics.specs.Short.{lines_of, keyword_of, short_of, short_metrics}
+use Rattle.font_metrics.specs.Metrics.{MetricsValue, NamedGlyph, missing_place, place_of_letter, glyph_at, name_at, scale_of}
+use Rattle.math_tree.specs.Elements.{name_in, kind_in, text_in, children_in, has_only}
+use Rattle.math_tree.specs.Kinds.{kind_of}
+use Rattle.math_tree.specs.Short.{short_tree, short_number, is_short_text}
+use Rattle.math_tree.specs.declared.kind.Kind.{Kind}
+use Rattle.math_tree.specs.declared.kind.Kind.TheVariants.{Math, Mn}
+use Rattle.math_tree.specs.declared.node.Node.{Node}
+use Rattle.math_tree.specs.declared.node.Node.TheViews.{roll-Node, out-roll-Node}
+use Rattle.math_tree.specs.declared.node.Node.TheOpen.{Node-F}
+use Rattle.mathlay.specs.Command.{layout_files}
+use Rattle.mathlay.specs.Layout.{glyph_box, no_box, token_of}
+use Rattle.mathlay.specs.Placed.{place, place_over, frame_at_origin, glyphs_of}
+use Rattle.mathlay.specs.Lines.{box_line, glyph_line, text_of}
+use Rattle.mathlay.specs.Answer.{metrics_in, tree_of_json}
+use Rattle.mathlay.specs.declared.refusal.Refusal.TheVariants.{TreeJson, TreeLater}
+
+-- what the definitions are computed by, from literals
+unfoldable on_literals : ⊤
+unfolding
+    serde_json_on_literals digits rounded halved
+    value_of_digits numeral_of number_of number_in natural_in code_of is_name glyph_name_in
+    lines_of keyword_of short_of short_metrics
+    missing_place place_of_letter glyph_at name_at scale_of
+    name_in kind_in text_in children_in has_only kind_of short_tree short_number is_short_text
+    glyph_box place box_line glyph_line metrics_in
+on_literals = tt
+
+-- ---- a metrics file and the text of a tree's boxes
+
+abbrev metrics_file : List ℕ
+metrics_file =
+    codes "mathlay-metrics 1\nupem 1024\nline 900 300\nxheight 512\n"
+    ++ codes "glyph missing 512 600 0\nglyph one 512 680 0\nchar 0031 one\n"
+
+abbrev glyph_named : List ℕ → ℕ → NamedGlyph
+glyph_named name ink =
+    record { name = name; glyph = record { advance = pos 512; ink_ascent = pos ink; ink_descent = pos 0; italic = pos 0; accent = None } }
+
+abbrev font : MetricsValue
+font = record {
+  upem = 1024;
+  line_ascent = 900;
+  line_descent = 300;
+  x_height = 512;
+  glyphs = glyph_named (codes "missing") 600 ∷ glyph_named (codes "one") 680 ∷ [];
+  characters = (0x31, 1) ∷ [];
+}
+
+metrics_of_file : metrics_in metrics_file ≡ Ok font
+unfolding on_literals
+metrics_of_file = refl
+
+-- an element's own layer, over children
+abbrev layer : ℕ → List ℕ → Kind → List ℕ → List Node → Node-F Node
+layer id name kind text children =
+    record { head = record { id = record { 0 = id }; name = name; kind = kind; text = text }; children = children }
+
+-- the items of a `math` over an `mn`, and over nothing
+over_number : (text : List ℕ) → place font (roll-Node (layer 1 (codes "math") Math [] (roll-Node (layer 2 (codes "mn") Mn text []) ∷ [])))
+    ≡ frame_at_origin (layer 1 (codes "math") Math [] []).head (token_of font text)
+    ∷ frame_at_origin (layer 2 (codes "mn") Mn text []).head (token_of font text) ∷ glyphs_of font text
+unfolding place
+over_number text =
+    ap (λ l. place_over font l.head (slice_get l.children 0)) (out-roll-Node (layer 1 (codes "math") Math [] (roll-Node (layer 2 (codes "mn") Mn text []) ∷ [])))
+    ∙ ap (λ l. frame_at_origin (layer 1 (codes "math") Math [] []).head (token_of font l.head.text)
+    ∷ frame_at_origin l.head (token_of font l.head.text) ∷ glyphs_of font l.head.text) (out-roll-Node (layer 2 (codes "mn") Mn text []))
+
+over_nothing : place font (roll-Node (layer 1 (codes "math") Math [] [])) ≡ frame_at_origin (layer 1 (codes "math") Math [] []).head no_box ∷ []
+unfolding place
+over_nothing = ap (λ l. place_over font l.head (slice_get l.children 0)) (out-roll-Node (layer 1 (codes "math") Math [] []))
+
+-- their text
+abbrev text_over : List ℕ → List ℕ
+text_over text = text_of font (frame_at_origin (layer 1 (codes "math") Math [] []).head (token_of font text)
+    ∷ frame_at_origin (layer 2 (codes "mn") Mn text []).head (token_of font text) ∷ glyphs_of font text)
+
+one_digit : text_over (codes "1") ≡
+    codes "box 1 math 0 0 8192 14400 4800 10880 0\n"
+    ++ codes "box 2 mn 0 0 8192 14400 4800 10880 0\n"
+    ++ codes "glyph 0 0 16384 one\n"
+unfolding on_literals
+one_digit = refl
+
+unknown_digit : text_over (codes "2") ≡
+    codes "box 1 math 0 0 8192 14400 4800 9600 0\n"
+    ++ codes "box 2 mn 0 0 8192 14400 4800 9600 0\n"
+    ++ codes "glyph 0 0 16384 missing\n"
+unfolding on_literals
+unknown_digit = refl
+
+empty_math : text_of font (frame_at_origin (layer 1 (codes "math") Math [] []).head no_box ∷ []) ≡ codes "box 1 math 0 0 0 0 0 0 0\n"
+unfolding on_literals
+empty_math = refl
+
+-- ---- refused trees
+
+child_mi : tree_of_json (read (codes "{\"name\":\"math\",\"children\":[{\"name\":\"mi\"}]}")) ≡ Err TreeLater
+unfolding on_literals
+child_mi = refl
+
+cut_tree : tree_of_json (read (codes "{\"name\":\"ma")) ≡ Err TreeJson
+unfolding on_literals
+cut_tree = refl
+
+-- ---- words
+
+two_words : layout_files (codes "layout" ∷ codes "m" ∷ []) ≡ None
+two_words = refl
+
+three_words : layout_files (codes "layout" ∷ codes "m" ∷ codes "t" ∷ []) ≡ Some record { metrics = codes "m"; tree = codes "t" }
+three_words = refl
