@@ -1,0 +1,5 @@
+mod Worked
+mod Keys
+mod Found
+mod Lines
+mod Triples

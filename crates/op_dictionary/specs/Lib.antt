@@ -1,0 +1,4 @@
+pub mod Pairs
+pub mod BuiltIn
+pub mod Dictionary
+pub mod Kept
