@@ -130,8 +130,8 @@ module _ (words : List (List ℕ)) (before after : Seen) (old new : Told) (s : S
     ]
   ]
 
-  usage : layout_files words ≡ None → (s ≡ status.Usage) ⊎ (s ≡ status.WriteFault)
-  usage none = elim d.whole [ inl w ↦ inr w | inr e ↦ inl (e.0 ∙ ap (λ r. (output_of r).status) (k.unknown none)) ]
+  no_command : layout_files words ≡ None → (s ≡ status.Usage) ⊎ (s ≡ status.WriteFault)
+  no_command none = elim d.whole [ inl w ↦ inr w | inr e ↦ inl (e.0 ∙ ap (λ r. (output_of r).status) (k.unknown none)) ]
 
   pub ends : Ends words before after old new s
   ends = record {
@@ -141,7 +141,8 @@ module _ (words : List (List ℕ)) (before after : Seen) (old new : Told) (s : S
     write_fault = d.fault;
     lacking = λ lack. cut_ends result old new s (a.lacking lack) d;
     complete = complete before.files refl a.answer;
-    usage = (λ is. k.known (told_usage result old new s d is), usage);
+    usage = λ is. k.known (told_usage result old new s d is);
+    no_command = no_command;
   }
 
 -- the same, where the words, the text and the status were handed on

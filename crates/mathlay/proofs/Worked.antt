@@ -6,7 +6,8 @@ use Rattle.serde_json.specs.Read.{read}
 use Rattle.serde_json.proofs.OnLiterals.{serde_json_on_literals}
 use Rattle.fixed_units.specs.Numbers.{rounded, halved}
 use Rattle.font_metrics.specs.Words.{value_of_digits, numeral_of, number_of, number_in, natural_in, code_of, is_name, name_in as glyph_name_in}
-use Rattle.font_metrics.specs.Short.{lines_of, keyword_of, short_of, short_metrics}
+use Rattle.font_metrics.specs.Lines.{keyword_of}
+use Rattle.font_metrics.specs.Short.{lines_of, short_of, short_metrics}
 use Rattle.font_metrics.specs.Metrics.{MetricsValue, NamedGlyph, missing_place, place_of_letter, glyph_at, name_at, scale_of}
 use Rattle.math_tree.specs.Elements.{name_in, kind_in, text_in, children_in, has_only}
 use Rattle.math_tree.specs.Kinds.{kind_of}

@@ -29,7 +29,9 @@ value_or refusal (Some value) = Ok value
 
 -- the metrics of a file's bytes, which are at most 8 MiB
 unfoldable pub metrics_in : List ℕ → Result MetricsValue Refusal
-metrics_in bytes = if nat_lt 8388608 (length bytes) then Err MetricsLong else value_or MetricsLater (short_metrics bytes)
+metrics_in bytes =
+    if nat_lt 8388608 (length bytes) then Err MetricsLong
+    else value_or MetricsLater (short_metrics bytes)
 
 -- the JSON value of a file's bytes: they are UTF-8, and `serde_json` reads the text
 abbrev pub json_in : List ℕ → Option Data
@@ -41,7 +43,9 @@ tree_of_json (Some value) = value_or TreeLater (short_tree value)
 
 -- the tree of a file's bytes, which are at most 4 MiB
 unfoldable pub tree_in : List ℕ → Result TreeValue Refusal
-tree_in bytes = if nat_lt 4194304 (length bytes) then Err TreeLong else tree_of_json (json_in bytes)
+tree_in bytes =
+    if nat_lt 4194304 (length bytes) then Err TreeLong
+    else tree_of_json (json_in bytes)
 
 -- ---- the answer
 

@@ -11,7 +11,8 @@ pub record FileNames : Type 0 where
 -- the words are `layout METRICS TREE`, and nothing else
 abbrev pub layout_files : List (List ℕ) → Option FileNames
 layout_files (command ∷ metrics ∷ tree ∷ []) =
-    if bytes_eq command (codes "layout") then Some (record { metrics = metrics; tree = tree }) else None
+    if bytes_eq command (codes "layout") then Some (record { metrics = metrics; tree = tree })
+    else None
 layout_files words = None
 
 abbrev pub names_of : LayoutFiles → FileNames

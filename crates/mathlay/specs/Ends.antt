@@ -16,7 +16,8 @@ pub record Seen : Type 0 where
   pub missing : ℕ
 
 abbrev pub seen : {X : Type 0} → (X → Option Files) → (X → ℕ) → (X → ℕ) → X → Seen
-seen files faults missing inputs = record { files = files inputs; faults = faults inputs; missing = missing inputs }
+seen files faults missing inputs =
+    record { files = files inputs; faults = faults inputs; missing = missing inputs }
 
 -- what a sink tells at a moment
 pub record Told : Type 0 where
@@ -31,7 +32,9 @@ told written faults out = record { written = written out; faults = faults out }
 -- the metrics file always, and the tree file where the metrics file gives metrics
 abbrev pub IsReachedOf : Option FileNames → Files → List ℕ → Type 0
 IsReachedOf None files name = ⊥
-IsReachedOf (Some names) files name = (name ≡ names.metrics) ⊎ ((name ≡ names.tree) × IsOk (metrics_in (content files names.metrics)))
+IsReachedOf (Some names) files name =
+    (name ≡ names.metrics)
+    ⊎ ((name ≡ names.tree) × IsOk (metrics_in (content files names.metrics)))
 
 -- a reached file isn't there
 abbrev pub LacksFileOf : Option FileNames → Files → Type 0
@@ -70,12 +73,14 @@ pub record Answers {V : Type 0} (wanted : Option (Result V Refusal)) (lacks : Fi
   pub missing : before.missing ≤ after.missing
 
 -- the words are told to be no command exactly where they are none
-pub record KnowsWords {V : Type 0} (words : List (List ℕ)) (result : Result V Refusal) : Type 0 where
+pub record KnowsWords {V : Type 0} (words : List (List ℕ))
+    (result : Result V Refusal) : Type 0 where
   pub known : IsErrOf result refusal.Usage → layout_files words ≡ None
   pub unknown : layout_files words ≡ None → IsErrOf result refusal.Usage
 
 -- the text was written and the status is the wanted one, or a write failed
-pub record Delivers (text : List ℕ) (wanted : Status) (old new : Told) (status : Status) : Type 0 where
+pub record Delivers (text : List ℕ) (wanted : Status) (old new : Told)
+    (status : Status) : Type 0 where
   pub whole : (status ≡ WriteFault) ⊎ ((status ≡ wanted) × Appends old.written new.written text)
   pub front : (n : ℕ) × Appends old.written new.written (take n text)
   pub fault : status ≡ WriteFault → Rose old.faults new.faults
@@ -86,12 +91,16 @@ pub record Delivers (text : List ℕ) (wanted : Status) (old new : Told) (status
 abbrev pub IsCutShort : Status → Type 0
 IsCutShort status = (status ≡ ReadFault) ⊎ ((status ≡ WriteFault) ⊎ (status ≡ Memory))
 
-pub record Ends (words : List (List ℕ)) (before after : Seen) (old new : Told) (status : Status) : Type 0 where
+pub record Ends (words : List (List ℕ)) (before after : Seen) (old new : Told)
+    (status : Status) : Type 0 where
   -- the output's status with its bytes written, or one of the three endings that cut a run short
   pub outcome : IfSome before.files (λ files.
-      IsCutShort status ⊎ ((status ≡ (output words files).status) × Appends old.written new.written (output words files).bytes))
+      IsCutShort status
+      ⊎ ((status ≡ (output words files).status)
+      × Appends old.written new.written (output words files).bytes))
   -- what was written is a front of the output, at every ending
-  pub front : IfSome before.files (λ files. (n : ℕ) × Appends old.written new.written (take n (output words files).bytes))
+  pub front : IfSome before.files (λ files.
+      (n : ℕ) × Appends old.written new.written (take n (output words files).bytes))
   pub read_fault : status ≡ ReadFault → HasReadCause (LacksFile words) before after
   pub write_fault : status ≡ WriteFault → Rose old.faults new.faults
   -- where a reached file isn't there nothing is written
@@ -101,5 +110,6 @@ pub record Ends (words : List (List ℕ)) (before after : Seen) (old new : Told)
   pub complete : IfSome before.files (λ files.
       ¬ LacksFile words files → ¬ Rose before.faults after.faults → ¬ Rose old.faults new.faults →
       (status ≡ (output words files).status) ⊎ (status ≡ Memory))
-  -- words that are no command are told so, whatever the files
-  pub usage : (status ≡ Usage → layout_files words ≡ None) × (layout_files words ≡ None → (status ≡ Usage) ⊎ (status ≡ WriteFault))
+  -- words that are no command are told so, and no others are, whatever the inputs tell
+  pub usage : status ≡ Usage → layout_files words ≡ None
+  pub no_command : layout_files words ≡ None → (status ≡ Usage) ⊎ (status ≡ WriteFault)

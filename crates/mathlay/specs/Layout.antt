@@ -11,7 +11,15 @@ font_size = pos 16384
 
 -- nothing to show
 abbrev pub no_box : MathBox
-no_box = record { width = pos 0; ascent = pos 0; descent = pos 0; ink_ascent = pos 0; ink_descent = pos 0; italic = pos 0; accent = pos 0 }
+no_box = record {
+  width = pos 0;
+  ascent = pos 0;
+  descent = pos 0;
+  ink_ascent = pos 0;
+  ink_descent = pos 0;
+  italic = pos 0;
+  accent = pos 0;
+}
 
 -- where an accent above the glyph stands: as the font says, else over the middle of the advance
 abbrev pub accent_of : MetricsValue → Option ℤ → ℤ → ℤ
@@ -35,7 +43,8 @@ glyph_box metrics glyph =
 -- a token of at most one character of ASCII; an empty text gives a box of zeros
 abbrev pub token_of : MetricsValue → List ℕ → MathBox
 token_of metrics [] = no_box
-token_of metrics (letter ∷ rest) = glyph_box metrics (glyph_at metrics (place_of_letter metrics letter))
+token_of metrics (letter ∷ rest) =
+    glyph_box metrics (glyph_at metrics (place_of_letter metrics letter))
 
 -- A row of at most one child that is no operator: the child stands at its start, so the row is as
 -- wide, as high and as deep as the child, and so is its ink. A row of none is a box of zeros.

@@ -18,12 +18,15 @@ line first others = first ++ flat_map spaced others ++ 10 ∷ []
 
 -- id, name, x, y, width, ascent, descent, ink ascent, ink descent
 unfoldable pub box_line : PlacedBox → List ℕ
-box_line box = line (codes "box") (decimal box.id.0 ∷ box.name ∷ map signed_decimal
-    (box.x ∷ box.y ∷ box.frame.width ∷ box.frame.ascent ∷ box.frame.descent ∷ box.frame.ink_ascent ∷ box.frame.ink_descent ∷ []))
+box_line box =
+    let frame = box.frame in
+    line (codes "box") (decimal box.id.0 ∷ box.name ∷ map signed_decimal
+    (box.x ∷ box.y ∷ frame.width ∷ frame.ascent ∷ frame.descent ∷ frame.ink_ascent ∷ frame.ink_descent ∷ []))
 
 -- x, y, font size, the glyph's name
 unfoldable pub glyph_line : PlacedGlyph → List ℕ → List ℕ
-glyph_line mark name = line (codes "glyph") (map signed_decimal (mark.x ∷ mark.y ∷ mark.size ∷ []) ++ name ∷ [])
+glyph_line mark name =
+    line (codes "glyph") (map signed_decimal (mark.x ∷ mark.y ∷ mark.size ∷ []) ++ name ∷ [])
 
 abbrev pub item_line : MetricsValue → PlacedItem → List ℕ
 item_line metrics (Frame box) = box_line box

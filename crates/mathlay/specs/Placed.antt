@@ -2,6 +2,7 @@
 use Rattle.std.specs.Prelude.{ℕ, pos, ◌<◌, List, [], ◌∷◌, length, Option, Some, None, slice_get}
 use Rattle.fixed_units.specs.declared.boxes.MathBox.{MathBox}
 use Rattle.font_metrics.specs.Metrics.{MetricsValue, place_of_letter}
+use Rattle.font_metrics.specs.declared.glyph.GlyphId.{GlyphId}
 use Rattle.math_tree.specs.declared.node.Node.{Node}
 use Rattle.math_tree.specs.declared.node.Node.TheViews.{out-Node}
 use Rattle.math_tree.specs.declared.node.Head.{Head}
@@ -11,13 +12,15 @@ use Rattle.mathlay.specs.declared.placed.PlacedItem.TheVariants.{Frame, Glyph}
 
 -- an element's box at the start of the root's baseline, where all of a short tree stands
 abbrev pub frame_at_origin : Head → MathBox → PlacedItem
-frame_at_origin head frame = Frame (record { id = head.id; name = head.name; x = pos 0; y = pos 0; frame = frame })
+frame_at_origin head frame =
+    Frame (record { id = head.id; name = head.name; x = pos 0; y = pos 0; frame = frame })
 
 -- a token's marks: the glyph of its character
 abbrev pub glyphs_of : MetricsValue → List ℕ → List PlacedItem
 glyphs_of metrics [] = []
 glyphs_of metrics (letter ∷ rest) =
-    Glyph (record { x = pos 0; y = pos 0; size = font_size; glyph = record { 0 = place_of_letter metrics letter } }) ∷ []
+    let glyph : GlyphId = record { 0 = place_of_letter metrics letter } in
+    Glyph (record { x = pos 0; y = pos 0; size = font_size; glyph = glyph }) ∷ []
 
 abbrev pub text_of_node : Node → List ℕ
 text_of_node node = (out-Node node).head.text
@@ -25,12 +28,14 @@ text_of_node node = (out-Node node).head.text
 -- a token's box, then its marks
 abbrev pub token_items : MetricsValue → Node → List PlacedItem
 token_items metrics node =
-    frame_at_origin (out-Node node).head (token_of metrics (text_of_node node)) ∷ glyphs_of metrics (text_of_node node)
+    frame_at_origin (out-Node node).head (token_of metrics (text_of_node node))
+    ∷ glyphs_of metrics (text_of_node node)
 
 -- the box of a row, then what its only child has
 abbrev pub row_items : MetricsValue → Head → Node → List PlacedItem
 row_items metrics head child =
-    frame_at_origin head (row_of (Some (token_of metrics (text_of_node child)))) ∷ token_items metrics child
+    frame_at_origin head (row_of (Some (token_of metrics (text_of_node child))))
+    ∷ token_items metrics child
 
 abbrev pub place_over : MetricsValue → Head → Option Node → List PlacedItem
 place_over metrics head None = frame_at_origin head (row_of None) ∷ []

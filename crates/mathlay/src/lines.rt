@@ -82,7 +82,8 @@ impl Lines {
 
     /// A space before each number.
     fn add_numbers(&mut self, numbers: &[i64]) -> Result<(), Memory>
-        ensures { OnOk result (self.new ≡ self.old ++ flat_map (λ n. spaced (signed_decimal n)) numbers.now) }
+        ensures { OnOk result
+            (self.new ≡ self.old ++ flat_map (λ n. spaced (signed_decimal n)) numbers.now) }
     {
         for number in numbers {
             self.add_number(*number)?;

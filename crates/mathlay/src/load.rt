@@ -26,9 +26,11 @@ pub fn load_metrics<I: Inputs>(
     name: &str,
     inputs: &mut I,
 ) -> Result<Metrics, Refusal>
-    ensures answers { Answers (option_map (λ files. metrics_in (content files name.now)) (I.files inputs.old))
+    ensures answers { Answers
+        (option_map (λ files. metrics_in (content files name.now)) (I.files inputs.old))
         (λ files. files name.now ≡ None)
-        (seen I.files I.faults I.missing inputs.old) (seen I.files I.faults I.missing inputs.new) result }
+        (seen I.files I.faults I.missing inputs.old)
+        (seen I.files I.faults I.missing inputs.new) result }
     ensures known { ¬ IsErrOf result Refusal.Usage }
 {
     match read_all(alloc, inputs, name, METRICS_LIMIT) {
@@ -48,9 +50,11 @@ fn metrics_of(alloc: Global, bytes: &[u8]) -> Result<Metrics, Refusal>
 
 /// Reads the tree of a file.
 pub fn load_tree<I: Inputs>(alloc: Global, name: &str, inputs: &mut I) -> Result<Tree, Refusal>
-    ensures answers { Answers (option_map (λ files. tree_in (content files name.now)) (I.files inputs.old))
+    ensures answers { Answers
+        (option_map (λ files. tree_in (content files name.now)) (I.files inputs.old))
         (λ files. files name.now ≡ None)
-        (seen I.files I.faults I.missing inputs.old) (seen I.files I.faults I.missing inputs.new) result }
+        (seen I.files I.faults I.missing inputs.old)
+        (seen I.files I.faults I.missing inputs.new) result }
     ensures known { ¬ IsErrOf result Refusal.Usage }
 {
     match read_all(alloc, inputs, name, TREE_LIMIT) {

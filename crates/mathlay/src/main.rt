@@ -5,8 +5,8 @@
 //! the command line, the system's files and standard output, and ends with its status.
 //!
 //! - Models: tokens and rows of MathML Core 3.2 and 3.3.1; words, lines and statuses are own.
-//! - Proved: `run` ends as `Ends` says (`specs/Ends.antt`): with the bytes and the status of `output`
-//!   (`specs/Answer.antt`), or cut short for a cause.
+//! - Proved: `run` ends as `Ends` says (`specs/Ends.antt`): with the bytes and the status of
+//!   `output` (`specs/Answer.antt`), or cut short for a cause.
 //! - Knows nothing of: operators, styles, edits; how a metrics file or a tree is read.
 //! - Change what is answered: `specs/Answer.antt`, then the file of `src/` below, then `rt check`.
 #![tactic(auto)]

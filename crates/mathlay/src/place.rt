@@ -52,7 +52,8 @@ fn place_token(
     items: &mut List<PlacedItem>,
 ) -> Result<(), Memory>
     ensures items { OnOk result (items.new ≡ items.old ++ token_items metrics.now node.now) }
-    ensures glyphs { OnOk result (All (IsOfFont metrics.now) items.old → All (IsOfFont metrics.now) items.new) }
+    ensures glyphs { OnOk result
+        (All (IsOfFont metrics.now) items.old → All (IsOfFont metrics.now) items.new) }
 {
     let text = node.head.text.as_str();
     items.push(at_origin(alloc, &node.head, token(metrics, text))?)?;

@@ -29,7 +29,8 @@ pub fn run<I: Inputs, O: Sink, L: Ledger>(
     steps: &mut Steps<L>,
 ) -> Status
     ensures ends { Ends (map string_bytes words.now.items)
-        (seen I.files I.faults I.missing inputs.old) (seen I.files I.faults I.missing inputs.new)
+        (seen I.files I.faults I.missing inputs.old)
+        (seen I.files I.faults I.missing inputs.new)
         (told O.written O.faults out.old) (told O.written O.faults out.new) result }
     ensures steps { steps.new ≡ steps.old }
 {
@@ -42,7 +43,8 @@ pub fn run<I: Inputs, O: Sink, L: Ledger>(
 /// Writes a text and answers the status, unless a write fails.
 fn deliver<O: Sink>(out: &mut O, text: &str, status: Status) -> Status
     requires { status ≢ Status.WriteFault }
-    ensures { Delivers text.now status (told O.written O.faults out.old) (told O.written O.faults out.new) result }
+    ensures { Delivers text.now status
+        (told O.written O.faults out.old) (told O.written O.faults out.new) result }
 {
     // Nothing to write: no write can fail.
     if text.is_empty() {
@@ -56,9 +58,11 @@ fn deliver<O: Sink>(out: &mut O, text: &str, status: Status) -> Status
 
 /// The text of the boxes of the tree that the words name, or why there is none.
 fn lay_out<I: Inputs>(alloc: Global, words: &[String], inputs: &mut I) -> Result<Lines, Refusal>
-    ensures answers { Answers (option_map (answer (map string_bytes words.now)) (I.files inputs.old))
+    ensures answers { Answers
+        (option_map (answer (map string_bytes words.now)) (I.files inputs.old))
         (LacksFile (map string_bytes words.now))
-        (seen I.files I.faults I.missing inputs.old) (seen I.files I.faults I.missing inputs.new) result }
+        (seen I.files I.faults I.missing inputs.old)
+        (seen I.files I.faults I.missing inputs.new) result }
     ensures knows { KnowsWords (map string_bytes words.now) result }
 {
     match LayoutFiles::from_words(words) {
@@ -73,9 +77,11 @@ fn lay_out_files<I: Inputs>(
     files: LayoutFiles,
     inputs: &mut I,
 ) -> Result<Lines, Refusal>
-    ensures answers { Answers (option_map (answer_to (Some (names_of files.entry))) (I.files inputs.old))
+    ensures answers { Answers
+        (option_map (answer_to (Some (names_of files.entry))) (I.files inputs.old))
         (LacksFileOf (Some (names_of files.entry)))
-        (seen I.files I.faults I.missing inputs.old) (seen I.files I.faults I.missing inputs.new) result }
+        (seen I.files I.faults I.missing inputs.old)
+        (seen I.files I.faults I.missing inputs.new) result }
     ensures known { ¬ IsErrOf result Refusal.Usage }
 {
     let metrics = load_metrics(alloc, files.metrics, inputs)?;
