@@ -24,19 +24,24 @@ use Rattle.op_dictionary.specs.contracts.extra.PairPartialEq.TheImpl as pairs
 use Rattle.op_dictionary.proofs.Found.{find-shown, is_some-option_map, lookup-append, option_map-option_or}
 use Rattle.op_dictionary.proofs.Keys.{eq-same_text, eq-same_pair, same_text-equal}
 
+-- whether a key is the pair
+abbrev is_pair : OpText → Form → Pair → Bool
+is_pair t f = pairs.eq-value.it (record { text = t; form = f })
+
 module _ (es : List (Pair × Listing)) (t : OpText) (f : Form) where
   -- the category that a line gives is that of its entry
-  pub line_category-entries : line_category (lines_of_entries es) t f ≡ option_map (λ k. k.category) (lookup (pairs.eq-value.it (record { text = t; form = f })) es)
+  pub line_category-entries : line_category (lines_of_entries es) t f ≡ option_map (λ k. k.category) (lookup (is_pair t f) es)
   line_category-entries =
-      find-shown (pairs.eq-value.it (record { text = t; form = f })) (λ l. same_text t l.text && same_form f l.form) line_of_entry (λ k. k.category) (λ l. l.category)
+      find-shown (is_pair t f) (λ l. same_text t l.text && same_form f l.form) line_of_entry
+      (λ k. k.category) (λ l. l.category)
       (λ e. sym (eq-same_pair (record { text = t; form = f }) e.0)) (λ e. refl) es
 
   -- a line names the pair where there is an entry
-  pub is_named-entries : is_named (lines_of_entries es) t f ≡ is_some (lookup (pairs.eq-value.it (record { text = t; form = f })) es)
+  pub is_named-entries : is_named (lines_of_entries es) t f ≡ is_some (lookup (is_pair t f) es)
   is_named-entries =
       sym (is_some-option_map (λ l. l.category) (line_of (lines_of_entries es) t f))
       ∙ ap is_some line_category-entries
-      ∙ is_some-option_map (λ k. k.category) (lookup (pairs.eq-value.it (record { text = t; form = f })) es)
+      ∙ is_some-option_map (λ k. k.category) (lookup (is_pair t f) es)
 
 -- the axis of a text after one more line
 line_axis-append : (lines : List OperatorLine) (l : OperatorLine) (t : OpText)
@@ -50,18 +55,27 @@ line_axis-append lines l t =
     one true = refl
     one false = refl
 
--- a pair that no line names has no entry
+-- ---- one more line
+
+abbrev pair_of : OperatorLine → Pair
+pair_of line = record { text = line.text; form = line.form }
+
+abbrev listing_of : OperatorLine → Listing
+listing_of line = record { category = line.category; axis = line.axis }
+
 none-from_is_some : {X : Type 0} (o : Option X) → is_some o ≡ false → o ≡ None
 none-from_is_some None h = refl
 none-from_is_some (Some x) h = cc
 
--- an entry under a new pair goes last, and so does its line
-pub lines-insert : (m : IndexMap Pair Listing (BuildHasherDefault FoldHasher)) (p : Pair) (k : Listing)
-    → is_named (lines_of_entries m.entries) p.text p.form ≡ false
-    → lines_of_entries (insert_entry pairs.eq-value.it m.entries p k) ≡ lines_of_entries m.entries ++ line_of_entry (p, k) ∷ []
-lines-insert m p k h =
-    ap lines_of_entries (insert_entry-new pairs.eq-value.it m p k (none-from_is_some (lookup (pairs.eq-value.it p) m.entries) (sym (is_named-entries m.entries p.text p.form) ∙ h)))
-    ∙ map-append line_of_entry m.entries ((p, k) ∷ [])
+-- a line under a new pair goes last
+pub lines-insert : (m : IndexMap Pair Listing (BuildHasherDefault FoldHasher)) (line : OperatorLine)
+    → is_named (lines_of_entries m.entries) line.text line.form ≡ false
+    → lines_of_entries (insert_entry pairs.eq-value.it m.entries (pair_of line) (listing_of line)) ≡ lines_of_entries m.entries ++ line ∷ []
+lines-insert m line h =
+    let absent : is_some (lookup (is_pair line.text line.form) m.entries) ≡ false = sym (is_named-entries m.entries line.text line.form) ∙ h in
+    ap lines_of_entries
+    (insert_entry-new pairs.eq-value.it m (pair_of line) (listing_of line) (none-from_is_some (lookup (is_pair line.text line.form) m.entries) absent))
+    ∙ map-append line_of_entry m.entries ((pair_of line, listing_of line) ∷ [])
 
 -- ---- the axes of texts
 

@@ -43,16 +43,19 @@ one code = (code, code)
 abbrev pub runs_of : Category → List (ℕ × ℕ)
 runs_of Default = []
 runs_of A = (0x2190, 0x2195) ∷ (0x21D0, 0x21D5) ∷ []
-runs_of B = one 0x2B ∷ one 0x2D ∷ one 0x2F ∷ one 0xB1 ∷ one 0xF7 ∷ (0x2212, 0x2213) ∷ (0x2227, 0x222A) ∷ []
+runs_of B = one 0x2B ∷ one 0x2D ∷ one 0x2F ∷ one 0xB1 ∷ one 0xF7 ∷ (0x2212, 0x2213)
+    ∷ (0x2227, 0x222A) ∷ []
 runs_of C = one 0x25 ∷ one 0x2A ∷ one 0xB7 ∷ one 0xD7 ∷ (0x2217, 0x2218) ∷ one 0x22C5 ∷ []
-runs_of D = one 0x21 ∷ one 0x2B ∷ one 0x2D ∷ one 0xAC ∷ one 0xB1 ∷ one 0x2200 ∷ one 0x2203 ∷ one 0x2207
-    ∷ (0x2212, 0x2213) ∷ []
+runs_of D = one 0x21 ∷ one 0x2B ∷ one 0x2D ∷ one 0xAC ∷ one 0xB1 ∷ one 0x2200 ∷ one 0x2203
+    ∷ one 0x2207 ∷ (0x2212, 0x2213) ∷ []
 runs_of E = one 0x21 ∷ one 0x25 ∷ one 0x27 ∷ one 0xB0 ∷ (0x2032, 0x2033) ∷ []
-runs_of F = one 0x28 ∷ one 0x5B ∷ (0x7B, 0x7C) ∷ one 0x2016 ∷ one 0x2308 ∷ one 0x230A ∷ one 0x27E8 ∷ []
-runs_of G = one 0x29 ∷ one 0x5D ∷ (0x7C, 0x7D) ∷ one 0x2016 ∷ one 0x2309 ∷ one 0x230B ∷ one 0x27E9 ∷ []
+runs_of F = one 0x28 ∷ one 0x5B ∷ (0x7B, 0x7C) ∷ one 0x2016 ∷ one 0x2308 ∷ one 0x230A
+    ∷ one 0x27E8 ∷ []
+runs_of G = one 0x29 ∷ one 0x5D ∷ (0x7C, 0x7D) ∷ one 0x2016 ∷ one 0x2309 ∷ one 0x230B
+    ∷ one 0x27E9 ∷ []
 runs_of H = (0x222B, 0x2233) ∷ []
-runs_of I = (0x5E, 0x5F) ∷ one 0x7E ∷ one 0xAF ∷ (0x2C6, 0x2C7) ∷ one 0x2DC ∷ one 0x203E ∷ (0x23B4, 0x23B5)
-    ∷ (0x23DC, 0x23DF) ∷ []
+runs_of I = (0x5E, 0x5F) ∷ one 0x7E ∷ one 0xAF ∷ (0x2C6, 0x2C7) ∷ one 0x2DC ∷ one 0x203E
+    ∷ (0x23B4, 0x23B5) ∷ (0x23DC, 0x23DF) ∷ []
 runs_of J = (0x220F, 0x2211) ∷ (0x22C0, 0x22C3) ∷ []
 runs_of K = (0x2061, 0x2064) ∷ []
 runs_of L = (0x2145, 0x2146) ∷ one 0x2202 ∷ []
@@ -68,7 +71,8 @@ in_form form category = option_map_or (same_form form) (nominal_form category) f
 
 -- the built-in triples: a character of the category's runs, in the category's nominal form
 abbrev pub is_built_in : OpText → Form → Category → Bool
-is_built_in (One letter) form category = in_form form category && list_any (in_run letter) (runs_of category)
+is_built_in (One letter) form category =
+    in_form form category && list_any (in_run letter) (runs_of category)
 is_built_in _ form category = false
 
 abbrev pub overlap : ℕ × ℕ → ℕ × ℕ → Bool
@@ -83,19 +87,28 @@ share form category other =
 -- ---- the axis of a character (MathML Core, B.2)
 
 -- the characters that stretch along the inline axis, an own list: six arrows, and category I
+abbrev pub inline_runs : List (ℕ × ℕ)
+inline_runs = one 0x2190 ∷ one 0x2192 ∷ one 0x2194 ∷ one 0x21D0 ∷ one 0x21D2 ∷ one 0x21D4
+    ∷ runs_of I
+
 abbrev pub is_inline : OpText → Bool
-is_inline (One letter) =
-    list_any (in_run letter) (one 0x2190 ∷ one 0x2192 ∷ one 0x2194 ∷ one 0x21D0 ∷ one 0x21D2 ∷ one 0x21D4 ∷ runs_of I)
+is_inline (One letter) = list_any (in_run letter) inline_runs
 is_inline _ = false
 
 -- ---- what a category says of an operator
 
--- the spaces before and after in 18ths of the font size; stretchy, symmetric, largeop, movablelimits
+-- spaces are in 18ths of the font size; those of Default are an own choice
 abbrev row : ℕ → ℕ → Bool → Bool → Bool → Bool → Properties
-row before after stretchy symmetric largeop movablelimits =
-    record { lspace = before; rspace = after; stretchy = stretchy; symmetric = symmetric; largeop = largeop; movablelimits = movablelimits }
+row before after stretchy symmetric largeop movablelimits = record {
+  lspace = before;
+  rspace = after;
+  stretchy = stretchy;
+  symmetric = symmetric;
+  largeop = largeop;
+  movablelimits = movablelimits;
+}
 
---                          spaces  stretchy  symmetric  largeop  movablelimits
+--                           spaces stretchy  symmetric  largeop  movablelimits
 unfoldable pub properties_of : Category → Properties
 properties_of Default = row 5 5 false false false false
 properties_of A = row 5 5 true false false false

@@ -1,4 +1,4 @@
--- The operator dictionary (MathML Core, Appendix B): the category of a text in a form, and its axis.
+-- The operator dictionary (MathML Core, Appendix B): the category of a text in a form; its axis.
 use Rattle.std.specs.Prelude.{◌≡◌, ◌==◌, ◌||◌, ◌&&◌, not, Bool, true, false, List, [], ◌∷◌, Option, is_some, unwrap_or, if◌then◌else◌, map, Contains, ◌⊎◌, IsTrue}
 use Rattle.std.specs.List.{find, IsDistinct}
 use Rattle.std.specs.Option.{option_map}
@@ -30,7 +30,8 @@ line_category lines text form = option_map (λ line. line.category) (line_of lin
 
 -- the axis that the first line with the text gives it
 abbrev pub line_axis : List OperatorLine → OpText → Option Axis
-line_axis lines text = option_map (λ line. line.axis) (find (λ line. same_text text line.text) lines)
+line_axis lines text =
+    option_map (λ line. line.axis) (find (λ line. same_text text line.text) lines)
 
 -- ---- the dictionary, a set of triples
 
@@ -38,7 +39,8 @@ line_axis lines text = option_map (λ line. line.axis) (find (λ line. same_text
 -- no line names
 abbrev pub IsEntry : List OperatorLine → OpText → Form → Category → Type 0
 IsEntry lines text form category =
-    ((axis : Axis) × Contains lines (record { text = text; form = form; category = category; axis = axis }))
+    ((axis : Axis) × Contains lines
+    (record { text = text; form = form; category = category; axis = axis }))
     ⊎ ((is_named lines text form ≡ false) × IsTrue (is_built_in text form category))
 
 -- the category in which the built-in table has a text in a form, else Default
@@ -47,7 +49,8 @@ built_in_category text form = unwrap_or (find (is_built_in text form) categories
 
 -- a pair's own category: that of its triple, else Default
 unfoldable pub own_category : OpText → Form → List OperatorLine → Category
-own_category text form lines = unwrap_or (line_category lines text form) (built_in_category text form)
+own_category text form lines =
+    unwrap_or (line_category lines text form) (built_in_category text form)
 
 -- ---- the category of an operator
 
@@ -69,7 +72,8 @@ abbrev pub category_of_base : OpText → Form → Bool → List OperatorLine →
 category_of_base text form fixed lines =
     if is_bare text form && not (is_named lines text form) then Default
     else if fixed then own_category text form lines
-    else first_listed (map (λ other. own_category text other lines) (form ∷ Infix ∷ Postfix ∷ Prefix ∷ []))
+    else first_listed
+    (map (λ other. own_category text other lines) (form ∷ Infix ∷ Postfix ∷ Prefix ∷ []))
 
 -- the category of an operator: texts of more than two characters, and none, have Default
 unfoldable pub category_of : OpText → Form → Bool → List OperatorLine → Category
@@ -78,10 +82,12 @@ category_of text form fixed lines =
 
 -- ---- the axis of an operator
 
--- that of the first line with the text, else that of the list of inline characters
+-- that of the first line with the base text, else that of the built-in list
+abbrev pub axis_of_base : OpText → List OperatorLine → Axis
+axis_of_base text lines = unwrap_or (line_axis lines text) (if is_inline text then Inline else Block)
+
 unfoldable pub axis_of : OpText → List OperatorLine → Axis
-axis_of text lines =
-    unwrap_or (line_axis lines (base_text text)) (if is_inline (base_text text) then Inline else Block)
+axis_of text lines = axis_of_base (base_text text) lines
 
 -- ---- lists of lines
 

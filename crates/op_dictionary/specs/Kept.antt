@@ -14,7 +14,8 @@ use Rattle.op_dictionary.specs.Pairs.{same_text, IsLineText}
 
 -- the line of an entry
 abbrev pub line_of_entry : Pair × Listing → OperatorLine
-line_of_entry e = record { text = e.0.text; form = e.0.form; category = e.1.category; axis = e.1.axis }
+line_of_entry (pair, listing) =
+    record { text = pair.text; form = pair.form; category = listing.category; axis = listing.axis }
 
 -- the entries of the map of lines, in order
 abbrev pub lines_of_entries : List (Pair × Listing) → List OperatorLine
@@ -27,7 +28,8 @@ Axes = List (OpText × Axis)
 -- the axes after one more line: its text gets its axis where that text is new
 pub record AddsAxis (old new : Axes) (line : OperatorLine) : Type 0 where
   pub added : (text : OpText) → lookup (same_text text) new
-      ≡ option_or (lookup (same_text text) old) (if same_text text line.text then Some line.axis else None)
+      ≡ option_or (lookup (same_text text) old)
+      (if same_text text line.text then Some line.axis else None)
 
 -- the axis of each text is that of its first line, and each line's text is one that a line may have
 pub record IsKept (extra : Inside) : Type 0 where

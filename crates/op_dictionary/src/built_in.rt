@@ -31,15 +31,15 @@ fn prefix_category(letter: char) -> Category
     match letter {
         // factorial, plus, minus, not, plus-minus, quantifiers, nabla, minus signs
         '!' | '+' | '-' | '\u{00AC}' | '\u{00B1}' | '\u{2200}' | '\u{2203}' | '\u{2207}'
-        | '\u{2212}' | '\u{2213}'                                                      => Category::D,
+        | '\u{2212}' | '\u{2213}'                                                    => Category::D,
         // opening fences: parenthesis, brackets, bars, ceiling, floor, angle bracket
-        '(' | '[' | '{' | '|' | '\u{2016}' | '\u{2308}' | '\u{230A}' | '\u{27E8}'       => Category::F,
+        '(' | '[' | '{' | '|' | '\u{2016}' | '\u{2308}' | '\u{230A}' | '\u{27E8}'    => Category::F,
         // integrals
-        '\u{222B}'..='\u{2233}'                                                        => Category::H,
+        '\u{222B}'..='\u{2233}'                                                      => Category::H,
         // products and sum; logic and sets
-        '\u{220F}'..='\u{2211}' | '\u{22C0}'..='\u{22C3}'                              => Category::J,
+        '\u{220F}'..='\u{2211}' | '\u{22C0}'..='\u{22C3}'                            => Category::J,
         // differentials
-        '\u{2145}' | '\u{2146}' | '\u{2202}'                                           => Category::L,
+        '\u{2145}' | '\u{2146}' | '\u{2202}'                                         => Category::L,
         _ => Category::Default,
     }
 }
@@ -51,16 +51,16 @@ fn infix_category(letter: char) -> Category
 {
     match letter {
         // arrows; double arrows
-        '\u{2190}'..='\u{2195}' | '\u{21D0}'..='\u{21D5}'                              => Category::A,
+        '\u{2190}'..='\u{2195}' | '\u{21D0}'..='\u{21D5}'                            => Category::A,
         // plus, minus, slash, plus-minus, division, minus signs; logic and sets
         '+' | '-' | '/' | '\u{00B1}' | '\u{00F7}' | '\u{2212}' | '\u{2213}'
-        | '\u{2227}'..='\u{222A}'                                                      => Category::B,
+        | '\u{2227}'..='\u{222A}'                                                    => Category::B,
         // percent, asterisk, dot, times, asterisk, ring, dot
-        '%' | '*' | '\u{00B7}' | '\u{00D7}' | '\u{2217}' | '\u{2218}' | '\u{22C5}'      => Category::C,
+        '%' | '*' | '\u{00B7}' | '\u{00D7}' | '\u{2217}' | '\u{2218}' | '\u{22C5}'   => Category::C,
         // invisible: function application, times, separator, plus
-        '\u{2061}'..='\u{2064}'                                                        => Category::K,
+        '\u{2061}'..='\u{2064}'                                                      => Category::K,
         // separators
-        ',' | ':' | ';'                                                                => Category::M,
+        ',' | ':' | ';'                                                              => Category::M,
         _ => Category::Default,
     }
 }
@@ -72,12 +72,12 @@ fn postfix_category(letter: char) -> Category
 {
     match letter {
         // factorial, percent, apostrophe, degree, primes
-        '!' | '%' | '\'' | '\u{00B0}' | '\u{2032}' | '\u{2033}'                         => Category::E,
-        // closing fences: parenthesis, bracket, bar, brace, double bar, ceiling, floor, angle bracket
-        ')' | ']' | '|' | '}' | '\u{2016}' | '\u{2309}' | '\u{230B}' | '\u{27E9}'       => Category::G,
+        '!' | '%' | '\'' | '\u{00B0}' | '\u{2032}' | '\u{2033}'                      => Category::E,
+        // closing fences: parenthesis, brackets, bars, ceiling, floor, angle bracket
+        ')' | ']' | '|' | '}' | '\u{2016}' | '\u{2309}' | '\u{230B}' | '\u{27E9}'    => Category::G,
         // accents; brackets, parentheses and braces above and below
         '^' | '_' | '~' | '\u{00AF}' | '\u{02C6}' | '\u{02C7}' | '\u{02DC}' | '\u{203E}'
-        | '\u{23B4}' | '\u{23B5}' | '\u{23DC}'..='\u{23DF}'                             => Category::I,
+        | '\u{23B4}' | '\u{23B5}' | '\u{23DC}'..='\u{23DF}'                          => Category::I,
         _ => Category::Default,
     }
 }
@@ -93,14 +93,15 @@ pub fn is_inline(text: OpText) -> bool
     };
     match letter {
         // arrows and double arrows: left, right, both
-        '\u{2190}' | '\u{2192}' | '\u{2194}' | '\u{21D0}' | '\u{21D2}' | '\u{21D4}'     => true,
+        '\u{2190}' | '\u{2192}' | '\u{2194}' | '\u{21D0}' | '\u{21D2}' | '\u{21D4}'  => true,
         // those of category I
         '^' | '_' | '~' | '\u{00AF}' | '\u{02C6}' | '\u{02C7}' | '\u{02DC}' | '\u{203E}'
-        | '\u{23B4}' | '\u{23B5}' | '\u{23DC}'..='\u{23DF}'                             => true,
+        | '\u{23B4}' | '\u{23B5}' | '\u{23DC}'..='\u{23DF}'                          => true,
         _ => false,
     }
 }
 
+// Neither spaces nor a behaviour of its own.
 const PLAIN: Properties = Properties {
     lspace: 0,
     rspace: 0,
@@ -108,6 +109,15 @@ const PLAIN: Properties = Properties {
     symmetric: false,
     largeop: false,
     movablelimits: false,
+};
+
+// A large operator.
+const LARGE: Properties = Properties {
+    lspace: 3,
+    rspace: 3,
+    symmetric: true,
+    largeop: true,
+    ..PLAIN
 };
 
 /// What a category says of its operators (MathML Core, B.1).
@@ -128,9 +138,9 @@ pub fn properties(category: Category) -> Properties
         Category::E       => PLAIN,
         Category::F       => Properties { stretchy: true, symmetric: true, ..PLAIN },
         Category::G       => Properties { stretchy: true, symmetric: true, ..PLAIN },
-        Category::H       => Properties { lspace: 3, rspace: 3, symmetric: true, largeop: true, ..PLAIN },
+        Category::H       => LARGE,
         Category::I       => Properties { stretchy: true, ..PLAIN },
-        Category::J       => Properties { lspace: 3, rspace: 3, symmetric: true, largeop: true, movablelimits: true, ..PLAIN },
+        Category::J       => Properties { movablelimits: true, ..LARGE },
         Category::K       => PLAIN,
         Category::L       => Properties { lspace: 3, ..PLAIN },
         Category::M       => Properties { rspace: 3, ..PLAIN },
