@@ -7,7 +7,8 @@ use Rattle.std.specs.List.{find, list_any, IsDistinct}
 use Rattle.std.specs.Map.{lookup}
 use Rattle.std.specs.Option.{option_map, option_or}
 
-option_map-cond : {X Y : Type 0} (f : X → Y) (b : Bool) (x y : Option X) → option_map f (cond b x y) ≡ cond b (option_map f x) (option_map f y)
+option_map-cond : {X Y : Type 0} (f : X → Y) (b : Bool) (x y : Option X)
+    → option_map f (cond b x y) ≡ cond b (option_map f x) (option_map f y)
 option_map-cond f true x y = refl
 option_map-cond f false x y = refl
 
@@ -25,16 +26,19 @@ pub is_some-option_map : {X Y : Type 0} (f : X → Y) (o : Option X) → is_some
 is_some-option_map f None = refl
 is_some-option_map f (Some x) = refl
 
-pub option_map-option_or : {X Y : Type 0} (f : X → Y) (o p : Option X) → option_map f (option_or o p) ≡ option_or (option_map f o) (option_map f p)
+pub option_map-option_or : {X Y : Type 0} (f : X → Y) (o p : Option X)
+    → option_map f (option_or o p) ≡ option_or (option_map f o) (option_map f p)
 option_map-option_or f None p = refl
 option_map-option_or f (Some x) p = refl
 
-option_or-cond : {X : Type 0} (b : Bool) (x : X) (o p : Option X) → cond b (Some x) (option_or o p) ≡ option_or (cond b (Some x) o) p
+option_or-cond : {X : Type 0} (b : Bool) (x : X) (o p : Option X)
+    → cond b (Some x) (option_or o p) ≡ option_or (cond b (Some x) o) p
 option_or-cond true x o p = refl
 option_or-cond false x o p = refl
 
 -- the first entry with the key, after more entries
-pub lookup-append : {K X : Type 0} (key : K → Bool) (es fs : List (K × X)) → lookup key (es ++ fs) ≡ option_or (lookup key es) (lookup key fs)
+pub lookup-append : {K X : Type 0} (key : K → Bool) (es fs : List (K × X))
+    → lookup key (es ++ fs) ≡ option_or (lookup key es) (lookup key fs)
 lookup-append key [] fs = refl
 lookup-append key (e ∷ es) fs =
     ap (cond (key e.0) (Some e.1)) (lookup-append key es fs) ∙ option_or-cond (key e.0) e.1 (lookup key es) (lookup key fs)
@@ -51,7 +55,8 @@ find-at p (x ∷ xs) (suc i) d l h before =
     ∙ find-at p xs i d (omega arith) h (λ j k. before (suc j) (omega arith))
 
 -- of distinct items, one that passes is found where all others that pass would clash with it
-pub find-distinct : {X : Type 0} (e : X → X → Bool) (p : X → Bool) (xs : List X) (x : X) → IsDistinct e xs → Contains xs x
+pub find-distinct : {X : Type 0} (e : X → X → Bool) (p : X → Bool) (xs : List X) (x : X) → IsDistinct e xs
+    → Contains xs x
     → p x ≡ true → ((y : X) → p y ≡ true → e y x ≡ true) → find p xs ≡ Some x
 find-distinct {X} e p xs x distinct at passes clash =
     find-at p xs at.0 x at.1 (ap p at.2 ∙ passes) (λ j l. by j l (p (get_or xs j x)) refl) ∙ ap Some at.2
@@ -64,7 +69,8 @@ find-distinct {X} e p xs x distinct at passes clash =
     by j l false h = refl
 
 -- what is found passes, and is an item
-pub find-Some : {X : Type 0} (p : X → Bool) (xs : List X) (x : X) → find p xs ≡ Some x → (p x ≡ true) × Contains xs x
+pub find-Some : {X : Type 0} (p : X → Bool) (xs : List X) (x : X) → find p xs ≡ Some x
+    → (p x ≡ true) × Contains xs x
 find-Some p [] x h = absurd (none-some x h)
 find-Some {X} p (y ∷ ys) x h = by (p y) refl h (find-Some p ys x)
   where
@@ -74,7 +80,8 @@ find-Some {X} p (y ∷ ys) x h = by (p y) refl h (find-Some p ys x)
     by false passes e rest = let r = rest e in (r.0, (suc r.1.0, omega (arith, r.1.1), r.1.2))
 
 -- an item of each list passes, and two such items meet
-pub any-meet : {X : Type 0} (p : X → Bool) (meet : X → X → Bool) → ((x y : X) → p x ≡ true → p y ≡ true → meet x y ≡ true)
+pub any-meet : {X : Type 0} (p : X → Bool) (meet : X → X → Bool)
+    → ((x y : X) → p x ≡ true → p y ≡ true → meet x y ≡ true)
     → (xs ys : List X) → list_any p xs ≡ true → list_any p ys ≡ true → list_any (λ x. list_any (meet x) ys) xs ≡ true
 any-meet p meet step xs ys h k =
     let x = Any-from_list_any p xs h in

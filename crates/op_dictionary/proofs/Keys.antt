@@ -92,4 +92,5 @@ same-parts t u f g h =
 
 pub same-from_parts : (t u : OpText) (f g : Form) → t ≡ u → f ≡ g → (same_text t u && same_form f g) ≡ true
 same-from_parts t u f g e k =
-    and_from (same_text t u) (same_form f g) (ap (same_text t) (sym e) ∙ same_text-self t) (ap (same_form f) (sym k) ∙ same_form-self f)
+    and_from (same_text t u) (same_form f g)
+    (ap (same_text t) (sym e) ∙ same_text-self t) (ap (same_form f) (sym k) ∙ same_form-self f)

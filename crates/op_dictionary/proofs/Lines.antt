@@ -22,7 +22,7 @@ use Rattle.op_dictionary.specs.Kept.{line_of_entry, lines_of_entries, Axes, Adds
 use Rattle.op_dictionary.specs.contracts.text.OpTextPartialEq.TheImpl as texts
 use Rattle.op_dictionary.specs.contracts.extra.PairPartialEq.TheImpl as pairs
 use Rattle.op_dictionary.proofs.Found.{find-shown, is_some-option_map, lookup-append, option_map-option_or}
-use Rattle.op_dictionary.proofs.Keys.{eq-same_text, eq-same_pair, same_text-equal}
+use Rattle.op_dictionary.proofs.Keys.{eq-same_pair}
 
 -- whether a key is the pair
 abbrev is_pair : OpText → Form → Pair → Bool
@@ -30,7 +30,8 @@ is_pair t f = pairs.eq-value.it (record { text = t; form = f })
 
 module _ (es : List (Pair × Listing)) (t : OpText) (f : Form) where
   -- the category that a line gives is that of its entry
-  pub line_category-entries : line_category (lines_of_entries es) t f ≡ option_map (λ k. k.category) (lookup (is_pair t f) es)
+  pub line_category-entries : line_category (lines_of_entries es) t f
+      ≡ option_map (λ k. k.category) (lookup (is_pair t f) es)
   line_category-entries =
       find-shown (is_pair t f) (λ l. same_text t l.text && same_form f l.form) line_of_entry
       (λ k. k.category) (λ l. l.category)
@@ -48,7 +49,8 @@ line_axis-append : (lines : List OperatorLine) (l : OperatorLine) (t : OpText)
     → line_axis (lines ++ l ∷ []) t ≡ option_or (line_axis lines t) (cond (same_text t l.text) (Some l.axis) None)
 line_axis-append lines l t =
     ap (option_map (λ line. line.axis)) (find-append (λ line. same_text t line.text) lines (l ∷ []))
-    ∙ option_map-option_or (λ line. line.axis) (find (λ line. same_text t line.text) lines) (find (λ line. same_text t line.text) (l ∷ []))
+    ∙ option_map-option_or (λ line. line.axis) (find (λ line. same_text t line.text) lines)
+    (find (λ line. same_text t line.text) (l ∷ []))
     ∙ ap (option_or (line_axis lines t)) (one (same_text t l.text))
   where
     one : (b : Bool) → option_map (λ line. line.axis) (cond b (Some l) None) ≡ cond b (Some l.axis) None
@@ -63,6 +65,7 @@ pair_of line = record { text = line.text; form = line.form }
 abbrev listing_of : OperatorLine → Listing
 listing_of line = record { category = line.category; axis = line.axis }
 
+-- what isn't there is none
 none-from_is_some : {X : Type 0} (o : Option X) → is_some o ≡ false → o ≡ None
 none-from_is_some None h = refl
 none-from_is_some (Some x) h = cc
@@ -70,15 +73,18 @@ none-from_is_some (Some x) h = cc
 -- a line under a new pair goes last
 pub lines-insert : (m : IndexMap Pair Listing (BuildHasherDefault FoldHasher)) (line : OperatorLine)
     → is_named (lines_of_entries m.entries) line.text line.form ≡ false
-    → lines_of_entries (insert_entry pairs.eq-value.it m.entries (pair_of line) (listing_of line)) ≡ lines_of_entries m.entries ++ line ∷ []
+    → lines_of_entries (insert_entry pairs.eq-value.it m.entries (pair_of line) (listing_of line))
+    ≡ lines_of_entries m.entries ++ line ∷ []
 lines-insert m line h =
-    let absent : is_some (lookup (is_pair line.text line.form) m.entries) ≡ false = sym (is_named-entries m.entries line.text line.form) ∙ h in
+    let at = lookup (is_pair line.text line.form) m.entries in
+    let absent : is_some at ≡ false = sym (is_named-entries m.entries line.text line.form) ∙ h in
     ap lines_of_entries
-    (insert_entry-new pairs.eq-value.it m (pair_of line) (listing_of line) (none-from_is_some (lookup (is_pair line.text line.form) m.entries) absent))
+    (insert_entry-new pairs.eq-value.it m (pair_of line) (listing_of line) (none-from_is_some at absent))
     ∙ map-append line_of_entry m.entries ((pair_of line, listing_of line) ∷ [])
 
 -- ---- the axes of texts
 
+-- the axes that are kept are those of the lines, before and after one more line
 pub axes-after : (old new : Axes) (before after : List OperatorLine) (line : OperatorLine)
     → ((t : OpText) → lookup (same_text t) old ≡ line_axis before t)
     → AddsAxis old new line → after ≡ before ++ line ∷ []
@@ -89,45 +95,27 @@ axes-after old new before after line kept adds is t =
     ∙ sym (line_axis-append before line t)
     ∙ ap (λ lines. line_axis lines t) (sym is)
 
-option_or-none : {X : Type 0} (o : Option X) → o ≡ option_or o None
-option_or-none None = refl
-option_or-none (Some x) = refl
-
-option_or-some : {X : Type 0} (o p : Option X) → is_some o ≡ true → o ≡ option_or o p
-option_or-some None p h = cc
-option_or-some (Some x) p h = refl
-
--- a text that is there keeps its axis
-pub axes-kept : (axes : Axes) (line : OperatorLine) → is_some (lookup (texts.eq-value.it line.text) axes) ≡ true → AddsAxis axes axes line
-axes-kept axes line there = record { added = λ t. by t (same_text t line.text) refl }
-  where
-    found : is_some (lookup (same_text line.text) axes) ≡ true
-    found = ap (λ test. is_some (lookup test axes)) (λ i t. sym (eq-same_text line.text t) i) ∙ there
-
-    by : (t : OpText) (b : Bool) → same_text t line.text ≡ b
-        → lookup (same_text t) axes ≡ option_or (lookup (same_text t) axes) (cond b (Some line.axis) None)
-    by t false h = option_or-none (lookup (same_text t) axes)
-    by t true h =
-        let same : line.text ≡ t = sym (same_text-equal t line.text h) in
-        option_or-some (lookup (same_text t) axes) (Some line.axis) (ap (λ u. is_some (lookup (same_text u) axes)) (sym same) ∙ found)
-
 -- a text that isn't there gets the axis
 pub axes-added : (m : IndexMap OpText Axis (BuildHasherDefault FoldHasher)) (line : OperatorLine)
     → is_some (lookup (texts.eq-value.it line.text) m.entries) ≡ false
     → AddsAxis m.entries (insert_entry texts.eq-value.it m.entries line.text line.axis) line
-axes-added m line absent = record {
-  added = λ t.
-      ap (lookup (same_text t)) (insert_entry-new texts.eq-value.it m line.text line.axis (none-from_is_some (lookup (texts.eq-value.it line.text) m.entries) absent))
-      ∙ lookup-append (same_text t) m.entries ((line.text, line.axis) ∷ []);
-}
+axes-added m line free =
+    let none = none-from_is_some (lookup (texts.eq-value.it line.text) m.entries) free in
+    record {
+      added = λ t.
+          ap (lookup (same_text t)) (insert_entry-new texts.eq-value.it m line.text line.axis none)
+          ∙ lookup-append (same_text t) m.entries ((line.text, line.axis) ∷ []);
+    }
 
 -- ---- distinct keys are distinct lines
-apart-entries : (p : Pair) (k : Listing) (es : List (Pair × Listing)) → AllByRecursion (λ q. pairs.eq-value.it p q ≡ false) (keys_of es)
+apart-entries : (p : Pair) (k : Listing) (es : List (Pair × Listing))
+    → AllByRecursion (λ q. pairs.eq-value.it p q ≡ false) (keys_of es)
     → AllByRecursion (λ l. same_pair (line_of_entry (p, k)) l ≡ false) (lines_of_entries es)
 apart-entries p k [] h = tt
 apart-entries p k (e ∷ es) h = (sym (eq-same_pair p e.0) ∙ h.0, apart-entries p k es h.1)
 
-pub distinct-entries : (es : List (Pair × Listing)) → IsDistinct pairs.eq-value.it (keys_of es) → AreDistinct (lines_of_entries es)
+pub distinct-entries : (es : List (Pair × Listing)) → IsDistinct pairs.eq-value.it (keys_of es)
+    → AreDistinct (lines_of_entries es)
 unfolding IsDistinct
 distinct-entries [] h = tt
 distinct-entries (e ∷ es) h = (apart-entries e.0 e.1 es h.0, distinct-entries es h.1)
@@ -136,6 +124,7 @@ distinct-entries (e ∷ es) h = (apart-entries e.0 e.1 es h.0, distinct-entries 
 pub line_text-at : (es : List (Pair × Listing)) (i : ℕ) (e : Pair × Listing) → slice_get es i ≡ Some e
     → All (λ l. IsLineText l.text) (lines_of_entries es) → IsLineText e.0.text
 line_text-at es i e h all =
-    let at : slice_get (lines_of_entries es) i ≡ Some (line_of_entry e) = slice_get-map line_of_entry es i ∙ ap (option_map line_of_entry) h in
+    let at : slice_get (lines_of_entries es) i ≡ Some (line_of_entry e) =
+    slice_get-map line_of_entry es i ∙ ap (option_map line_of_entry) h in
     subst (λ l. IsLineText l.text) (get_or_from_slice_get (lines_of_entries es) i (line_of_entry e) (line_of_entry e) at)
     (all i (line_of_entry e) (slice_get_within (lines_of_entries es) i (line_of_entry e) at))

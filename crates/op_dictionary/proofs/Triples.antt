@@ -23,15 +23,20 @@ distinct_test : (Category → Category → Bool) → List Category → Bool
 distinct_test e [] = true
 distinct_test e (x ∷ xs) = list_all (λ y. not (e x y)) xs && distinct_test e xs
 
-all-apart : (e : Category → Bool) (xs : List Category) → list_all (λ y. not (e y)) xs ≡ true → AllByRecursion (λ y. e y ≡ false) xs
+all-apart : (e : Category → Bool) (xs : List Category) → list_all (λ y. not (e y)) xs ≡ true
+    → AllByRecursion (λ y. e y ≡ false) xs
 all-apart e [] h = tt
-all-apart e (x ∷ xs) h = let p = and_parts (not (e x)) (list_all (λ y. not (e y)) xs) h in (not-true (e x) p.0, all-apart e xs p.1)
+all-apart e (x ∷ xs) h =
+    let p = and_parts (not (e x)) (list_all (λ y. not (e y)) xs) h in
+    (not-true (e x) p.0, all-apart e xs p.1)
 
-distinct-tested : (e : Category → Category → Bool) (xs : List Category) → distinct_test e xs ≡ true → IsDistinct e xs
+distinct-tested : (e : Category → Category → Bool) (xs : List Category) → distinct_test e xs ≡ true
+    → IsDistinct e xs
 unfolding IsDistinct distinct_test
 distinct-tested e [] h = tt
 distinct-tested e (x ∷ xs) h =
-    let p = and_parts (list_all (λ y. not (e x y)) xs) (distinct_test e xs) h in (all-apart (e x) xs p.0, distinct-tested e xs p.1)
+    let p = and_parts (list_all (λ y. not (e x y)) xs) (distinct_test e xs) h in
+    (all-apart (e x) xs p.0, distinct-tested e xs p.1)
 
 -- the rule over the whole table: in no form do two categories list one character
 pub categories_distinct : (form : Form) → IsDistinct (share form) categories
@@ -41,11 +46,13 @@ categories_distinct Infix = distinct-tested (share Infix) categories refl
 categories_distinct Postfix = distinct-tested (share Postfix) categories refl
 
 -- two runs that have a code point in common overlap
-runs-overlap : (code : ℕ) (run other : ℕ × ℕ) → in_run code run ≡ true → in_run code other ≡ true → overlap run other ≡ true
+runs-overlap : (code : ℕ) (run other : ℕ × ℕ) → in_run code run ≡ true → in_run code other ≡ true
+    → overlap run other ≡ true
 runs-overlap code (first, last) (begin, end) h k = grind (arith, nat_tests)
 
 -- a category that the built-in table gives is one of the list
-among : (text : OpText) (form : Form) (category : Category) → is_built_in text form category ≡ true → Contains categories category
+among : (text : OpText) (form : Form) (category : Category) → is_built_in text form category ≡ true
+    → Contains categories category
 among (One letter) form Default h = cc
 among (One letter) form A h = (0, lit< tt, refl)
 among (One letter) form B h = (1, lit< tt, refl)
@@ -65,12 +72,14 @@ among (Two first second) form category h = cc
 among Other form category h = cc
 
 -- two categories in which the table has one text share its character
-shares : (text : OpText) (form : Form) (category other : Category) → is_built_in text form category ≡ true → is_built_in text form other ≡ true
+shares : (text : OpText) (form : Form) (category other : Category) → is_built_in text form category ≡ true
+    → is_built_in text form other ≡ true
     → share form category other ≡ true
 shares (One letter) form category other h k =
     let p = and_parts (in_form form category) (list_any (in_run letter) (runs_of category)) h in
     let q = and_parts (in_form form other) (list_any (in_run letter) (runs_of other)) k in
-    and_from (in_form form category && in_form form other) _ (and_from (in_form form category) (in_form form other) p.0 q.0)
+    and_from (in_form form category && in_form form other) _
+    (and_from (in_form form category) (in_form form other) p.0 q.0)
     (any-meet (in_run letter) overlap (runs-overlap letter) (runs_of category) (runs_of other) p.1 q.1)
 shares Empty form category other h k = cc
 shares (Two first second) form category other h k = cc
@@ -80,14 +89,17 @@ shares Other form category other h k = cc
 pub found_built_in : (text : OpText) (form : Form) (category : Category) → is_built_in text form category ≡ true
     → find (is_built_in text form) categories ≡ Some category
 found_built_in text form category h =
-    find-distinct (share form) (is_built_in text form) categories category (categories_distinct form) (among text form category h)
+    find-distinct (share form) (is_built_in text form) categories category (categories_distinct form)
+    (among text form category h)
     h (λ other k. shares text form other category k h)
 
 -- so a text in a form has one built-in category
-pub one_built_in : (text : OpText) (form : Form) (category other : Category) → is_built_in text form category ≡ true
+pub one_built_in : (text : OpText) (form : Form) (category other : Category)
+    → is_built_in text form category ≡ true
     → is_built_in text form other ≡ true → category ≡ other
 one_built_in text form category other h k =
-    let both : Some category ≡ Some other = sym (found_built_in text form category h) ∙ found_built_in text form other k in cc
+    let found = found_built_in text form category h in
+    let both : Some category ≡ Some other = sym found ∙ found_built_in text form other k in cc
 
 -- ---- the operator lines
 
@@ -97,15 +109,23 @@ found_line : (lines : List OperatorLine) (line : OperatorLine) → AreDistinct l
 found_line lines line distinct at =
     find-distinct same_pair (λ l. same_text line.text l.text && same_form line.form l.form) lines line distinct at
     (same-from_parts line.text line.text line.form line.form refl refl)
-    (λ l h. let p = same-parts line.text l.text line.form l.form h in same-from_parts l.text line.text l.form line.form (sym p.0) (sym p.1))
+    (λ l h.
+    let p = same-parts line.text l.text line.form l.form h in
+    same-from_parts l.text line.text l.form line.form (sym p.0) (sym p.1))
 
 -- and what is found is a line with the pair
-line_is_entry : (lines : List OperatorLine) (text : OpText) (form : Form) (line : OperatorLine) → line_of lines text form ≡ Some line
+line_is_entry : (lines : List OperatorLine) (text : OpText) (form : Form) (line : OperatorLine)
+    → line_of lines text form ≡ Some line
     → IsEntry lines text form line.category
 line_is_entry lines text form line h =
     let found = find-Some (λ l. same_text text l.text && same_form form l.form) lines line h in
     let p = same-parts text line.text form line.form found.0 in
-    inl (line.axis, subst (Contains lines) (λ i. record { text = sym p.0 i; form = sym p.1 i; category = line.category; axis = line.axis }) found.1)
+    inl (
+      line.axis,
+      subst (Contains lines)
+          (λ i. record { text = sym p.0 i; form = sym p.1 i; category = line.category; axis = line.axis })
+          found.1,
+    )
 
 -- ---- the dictionary
 
@@ -121,7 +141,8 @@ own_category-entry lines text form category distinct (inl (axis, at)) =
     ap (λ o. unwrap_or (option_map (λ l. l.category) o) (built_in_category text form))
     (found_line lines (record { text = text; form = form; category = category; axis = axis }) distinct at)
 own_category-entry lines text form category distinct (inr (free, built_in)) =
-    ap (λ o. unwrap_or (option_map (λ l. l.category) o) (built_in_category text form)) (none-from_is_some (line_of lines text form) free)
+    ap (λ o. unwrap_or (option_map (λ l. l.category) o) (built_in_category text form))
+    (none-from_is_some (line_of lines text form) free)
     ∙ ap (λ o. unwrap_or o Default) (found_built_in text form category built_in)
 
 -- and Default where the pair has none
@@ -130,7 +151,8 @@ pub own_category-none : (lines : List OperatorLine) (text : OpText) (form : Form
 unfolding own_category built_in_category
 own_category-none lines text form none = by (line_of lines text form) refl (find (is_built_in text form) categories) refl
   where
-    by : (o : Option OperatorLine) → line_of lines text form ≡ o → (b : Option Category) → find (is_built_in text form) categories ≡ b
+    by : (o : Option OperatorLine) → line_of lines text form ≡ o → (b : Option Category)
+        → find (is_built_in text form) categories ≡ b
         → unwrap_or (option_map (λ l. l.category) o) (unwrap_or b Default) ≡ Default
     by (Some line) h b k = absurd (none line.category (line_is_entry lines text form line h))
     by None h None k = refl
