@@ -1,6 +1,6 @@
 ghost use Rattle.std.specs.Prelude.{◌≡◌, ◌<◌, ◌≤◌, [], ◌∷◌, ◌++◌, length, None, Some, option_map, OnOk, OnErr};
 ghost use Rattle.font_metrics.specs.Metrics.{place_of_name, glyph_in_list, name_in_list};
-ghost use Rattle.font_metrics.specs.Kept.{glyph_of_measures};
+ghost use Rattle.font_metrics.specs.Kept.{named_glyph};
 
 use crate::glyph::{Glyph, Measures};
 use fixed_units::Memory;
@@ -52,7 +52,7 @@ impl GlyphTable {
     /// Adds a glyph at the end, under a name that isn't there yet.
     pub fn add(&mut self, alloc: Global, name: &str, measures: Measures) -> Result<(), Memory>
         requires { place_of_name self.old name.now ≡ None }
-        ensures ok { OnOk result (self.new ≡ self.old ++ record { name = name.now; glyph = glyph_of_measures measures } ∷ []) }
+        ensures ok { OnOk result (self.new ≡ self.old ++ named_glyph name.now measures ∷ []) }
         ensures err { OnErr result (self.new ≡ self.old) }
     {
         let name = String::from_str(alloc, name)?;

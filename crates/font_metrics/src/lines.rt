@@ -52,7 +52,8 @@ pub fn x_height_line(fields: &[&[u8]]) -> Option<u16>
 
 /// `glyph NAME ADVANCE INKASCENT INKDESCENT`
 pub fn glyph_line<'a>(fields: &[&'a [u8]]) -> Option<(&'a str, Measures)>
-    ensures { option_map (λ g. named_glyph g.0.now g.1) result ≡ glyph_in keyword.Glyph (lent fields.now) }
+    ensures { let given = option_map (λ g. named_glyph g.0.now g.1) result in
+        given ≡ glyph_in keyword.Glyph (lent fields.now) }
 {
     match fields {
         [name, advance, ink_ascent, ink_descent] => {

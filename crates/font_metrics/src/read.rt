@@ -25,7 +25,8 @@ pub fn read_metrics(alloc: Global, bytes: &[u8]) -> Result<Metrics, MetricsRefus
 
 /// Takes each line of a text in which a line feed stands between two lines.
 fn read_lines(alloc: Global, text: &[u8]) -> Result<Reader, MetricsRefusal>
-    ensures reads { Reads (after_lines nothing (map words_of (parts_at line_feed text.now))) result }
+    ensures reads { let lines = map words_of (parts_at line_feed text.now) in
+        Reads (after_lines nothing lines) result }
     ensures given { IfOk result IsGiven }
 {
     let mut reader = Reader::new(alloc);

@@ -47,8 +47,8 @@ fn is_short(rt: &(impl Abort + AllocGlobal), bytes: &[u8]) -> Result<bool, Fail>
     }
 }
 
-// Changes of the file above, one a line: a part of it, `=`, and what stands in its place. Here `|` is
-// a line feed, `~` a carriage return and `^` a tab. Which of them leave a short metrics file was
+// Changes of the file above, one a line: a part of it, `=`, and what stands in its place. Here `|`
+// is a line feed, `~` a carriage return and `^` a tab. Which of them leave a short metrics file was
 // answered by a reader that was written on its own, in another language.
 const STILL_SHORT: &str = "char 0031 one|=
 glyph one 512 680 0|char 0031 one|=
