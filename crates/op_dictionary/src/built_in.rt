@@ -1,5 +1,5 @@
-// The tables, to be held beside MathML Core, Appendix B: a row for each category, first the
-// characters that a keyboard has. Which characters are built in is an own choice.
+// The tables, to be held beside MathML Core, Appendix B: a row for each category, by code points.
+// Which characters are built in is an own choice.
 ghost use Rattle.std.specs.Prelude.{◌≡◌};
 ghost use Rattle.op_dictionary.specs.BuiltIn.{properties_of, is_inline};
 ghost use Rattle.op_dictionary.specs.Dictionary.{built_in_category};
@@ -101,7 +101,7 @@ pub fn is_inline(text: OpText) -> bool
     }
 }
 
-// Neither spaces nor a behaviour of its own.
+// No space, and no behaviour of its own.
 const PLAIN: Properties = Properties {
     lspace: 0,
     rspace: 0,
@@ -123,7 +123,7 @@ const LARGE: Properties = Properties {
 /// What a category says of its operators (MathML Core, B.1).
 ///
 /// Spaces are 18ths of the font size: 5 for 0.2777em, 4 for 0.2222em, 3 for 0.1666em. Those of
-/// `Default`, which no operator line can change, are an own choice.
+/// `Default` are an own choice.
 #[rattlefmt::skip]
 #[tactic(auto, unfolding(crate::specs::BuiltIn::properties_of))]
 pub fn properties(category: Category) -> Properties
