@@ -1,15 +1,8 @@
 -- Known bytes and counts over several calls: laws for whoever makes the calls.
-use Rattle.std.proofs.Common.{◌≡◌, ℕ, ◌+◌, ◌-◌, ◌≤◌, List, [], ◌++◌, length, take, drop, ap, sym, ◌∙◌, subst, arith, append_assoc, append-nil, Option, Some, None}
-use Rattle.std.proofs.Math.Seq.{take-add, take-append-add}
+use Rattle.std.proofs.Common.{◌≡◌, ℕ, ◌+◌, ◌-◌, List, [], ◌++◌, length, take, drop, ap, sym, ◌∙◌, subst, arith, append_assoc, append-nil, Option, Some, None}
+use Rattle.std.proofs.Math.Seq.{take-add}
 use Rattle.std.proofs.lemmas.Grind.{common_steps}
-use Rattle.std.proofs.lemmas.List.{take-append-le}
 use Rattle.std.specs.Io.KnownBytes.{Appends, Consumes, Keeps}
-use Rattle.doc_io.specs.Causes.{Rose}
-
--- nothing is appended to bytes that stay
-pub appends_nothing : (a : Option (List ℕ)) → Appends a a []
-appends_nothing None = tt
-appends_nothing (Some a) = sym (append-nil a)
 
 -- and bytes that were kept had nothing appended
 pub appends_kept : (a b : Option (List ℕ)) → Keeps a b → Appends a b []
@@ -24,16 +17,6 @@ appends_both None b c xs ys h k = tt
 appends_both (Some a) None c xs ys h k = absurd h
 appends_both (Some a) (Some b) None xs ys h k = absurd k
 appends_both (Some a) (Some b) (Some c) xs ys h k = k ∙ ap (λ l. l ++ ys) h ∙ append_assoc a xs ys
-
--- a front of the first piece is a front of both
-pub appends_front_left : (a b : Option (List ℕ)) (xs ys : List ℕ) (n : ℕ) → n ≤ length xs →
-    Appends a b (take n xs) → Appends a b (take n (xs ++ ys))
-appends_front_left a b xs ys n within h = subst (Appends a b) (sym (take-append-le n xs ys within)) h
-
--- a piece, and then a front of the next
-pub appends_front_right : (a b c : Option (List ℕ)) (xs ys : List ℕ) (n : ℕ) → Appends a b xs →
-    Appends b c (take n ys) → Appends a c (take (length xs + n) (xs ++ ys))
-appends_front_right a b c xs ys n h k = subst (Appends a c) (sym (take-append-add xs ys n)) (appends_both a b c xs (take n ys) h k)
 
 -- a front of a piece, and then a front of its rest
 pub appends_fronts : (a b c : Option (List ℕ)) (xs : List ℕ) (m n : ℕ) → Appends a b (take m xs) →
@@ -56,11 +39,3 @@ consumes_both None b c xs ys h k = tt
 consumes_both (Some a) None c xs ys h k = absurd h
 consumes_both (Some a) (Some b) None xs ys h k = absurd k
 consumes_both (Some a) (Some b) (Some c) xs ys h k = h ∙ ap (λ l. xs ++ l) k ∙ sym (append_assoc xs ys c)
-
--- a count that rose since a later moment rose since an earlier one
-pub rose_since : (a b c : ℕ) → a ≤ b → Rose b c → Rose a c
-rose_since a b c earlier rose = omega arith
-
--- and it is risen at each later moment
-pub rose_until : (a b c : ℕ) → Rose a b → b ≤ c → Rose a c
-rose_until a b c rose later = omega arith

@@ -4,3 +4,4 @@ pub mod Cuts
 pub mod MemoryFiles
 pub mod MemoryCalls
 pub mod Worked
+pub mod SystemFiles

@@ -1,14 +1,14 @@
-ghost use Rattle.std.specs.Prelude.{◌≡◌, ◌<◌, ◌≤◌, [], false, length, IfOk, None, Some, MatchResult};
+ghost use Rattle.std.specs.Prelude.{◌≡◌, ◌≢◌, ◌<◌, ◌≤◌, [], false, length, IfOk, IsErr, None, Ok, OnErr, Some, MatchResult};
 ghost use Rattle.std.specs.Io.{ReadsAtMost};
 ghost use Rattle.std.specs.Io.KnownBytes.{ReadConsumes, WriteAppends};
 ghost use Rattle.doc_io.specs.Causes.{HasCause, Selects, raised};
-ghost use Rattle.doc_io.specs.Edge.{ReadsFile, SelectsFile};
+ghost use Rattle.doc_io.specs.Edge.{RaisesOne, ReadsFile, SelectsFile};
 
 use crate::{Failed, Inputs, Sink};
-use std::fs;
 use std::io::{ErrorKind, Read};
 use std::marker::Model;
 use std::rt::Files;
+use std::{fs, io};
 
 /// The files of the system, by their paths. Of their content nothing is told but what the readers
 /// that `R` opens tell, and those of a real system tell nothing: trust begins here.
@@ -51,6 +51,26 @@ impl<'a, R: Files> FileInputs<'a, R> {
     }
 }
 
+impl<'a, R: Files> FileInputs<'a, R> {
+    /// Counts an error of the system: a file that isn't found is missing, and all else is a fault.
+    fn count(&mut self, kind: ErrorKind)
+        ensures missing { kind ≡ ErrorKind.NotFound →
+            self.new ≡ record self.old { missing = raised self.old.missing } }
+        ensures fault { kind ≢ ErrorKind.NotFound →
+            self.new ≡ record self.old { faults = raised self.old.faults } }
+        ensures one { RaisesOne self.old self.new }
+        ensures later { self.old.faults ≤ self.new.faults }
+        ensures later_missing { self.old.missing ≤ self.new.missing }
+        ensures left { self.new.left ≡ self.old.left }
+        ensures selected { self.new.selected ≡ self.old.selected }
+    {
+        match kind {
+            ErrorKind::NotFound => self.missing = self.missing.saturating_add(1),
+            _ => self.faults = self.faults.saturating_add(1),
+        }
+    }
+}
+
 impl<'a, R: Files> Inputs for FileInputs<'a, R> {
     ghost files = { λ _. None };
 
@@ -72,11 +92,7 @@ impl<'a, R: Files> Inputs for FileInputs<'a, R> {
                 Ok(())
             }
             Err(error) => {
-                if error.kind() == ErrorKind::NotFound {
-                    self.missing = self.missing.saturating_add(1);
-                } else {
-                    self.faults = self.faults.saturating_add(1);
-                }
+                self.count(error.kind());
                 Err(Failed)
             }
         }
@@ -128,6 +144,26 @@ impl<'a, R: Print> StdSink<'a, R> {
     }
 }
 
+impl<'a, R: Print> StdSink<'a, R> {
+    /// What the system answered to a write: bytes that it took, or else a fault that is counted.
+    fn counted(&mut self, answer: io::Result<usize>) -> Result<usize, Failed>
+        ensures taken { IfOk answer (λ n. 0 < n → result ≡ Ok n) }
+        ensures none { IfOk answer (λ n. n ≡ 0 → IsErr result) }
+        ensures failed { OnErr answer (IsErr result) }
+        ensures cause { HasCause self.old self.new result }
+        ensures counts { MatchResult result
+            (λ _. self.new ≡ self.old) (λ _. self.new ≡ raised self.old) }
+    {
+        if let Ok(count) = answer
+            && count > 0
+        {
+            return Ok(count);
+        }
+        self.faults = self.faults.saturating_add(1);
+        Err(Failed)
+    }
+}
+
 impl<'a, R: Print> Sink for StdSink<'a, R> {
     ghost written = { λ _. None };
 
@@ -142,12 +178,7 @@ impl<'a, R: Print> Sink for StdSink<'a, R> {
         ensures counts { MatchResult result
             (λ _. self.new ≡ self.old) (λ _. self.new ≡ raised self.old) }
     {
-        if let Ok(count) = self.rt.write_some(from)
-            && count > 0
-        {
-            return Ok(count);
-        }
-        self.faults = self.faults.saturating_add(1);
-        Err(Failed)
+        let answer = self.rt.write_some(from);
+        self.counted(answer)
     }
 }

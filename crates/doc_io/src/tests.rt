@@ -6,6 +6,7 @@ use crate::{
 use fixed_units::List;
 use std::cell::Cell;
 use std::fmt::Display;
+use std::io::ErrorKind;
 use std::process::Abort;
 use std::test::Fail;
 use std::{fs, io};
@@ -160,6 +161,34 @@ impl Print for Narrow {
         self.room.set(room - count);
         Ok(count)
     }
+}
+
+// Prints nothing: each call is an error of the system.
+#[derive(Drop)]
+struct Broken;
+
+impl Print for Broken {
+    fn print<D: Display + Drop>(&self, _value: D) -> io::Result<()> {
+        Err(io::Error::from(ErrorKind::BrokenPipe))
+    }
+
+    fn println<D: Display + Drop>(&self, _value: D) -> io::Result<()> {
+        Err(io::Error::from(ErrorKind::BrokenPipe))
+    }
+
+    fn write_all(&self, _bytes: &[u8]) -> io::Result<()> {
+        Err(io::Error::from(ErrorKind::BrokenPipe))
+    }
+
+    fn write_some(&self, _bytes: &[u8]) -> io::Result<usize> {
+        Err(io::Error::from(ErrorKind::BrokenPipe))
+    }
+}
+
+#[test]
+fn an_output_that_answers_an_error_has_failed(rt: HostRuntime) {
+    let mut out = StdSink::make(&Broken);
+    assert_eq!(rt; write_all(&mut out, b"box "), Err(WriteFault));
 }
 
 #[test]

@@ -88,7 +88,7 @@ short_of (version ∷ upem ∷ line ∷ x_height ∷ rest) = do
   Some (metrics_value units reach.0 reach.1 height glyphs characters)
 short_of lines = None
 
--- what a short metrics file says; None where the bytes are none
+-- what a short metrics file says; None where the bytes aren't one
 unfoldable pub short_metrics : List ℕ → Option MetricsValue
 short_metrics bytes = do
   lines ← lines_of bytes

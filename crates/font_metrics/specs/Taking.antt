@@ -5,10 +5,9 @@ use Rattle.font_metrics.specs.declared.keyword.Keyword.{Keyword}
 use Rattle.font_metrics.specs.declared.keyword.Keyword.TheVariants.{Version, Upem, Line, XHeight, Glyph, Char, Other}
 use Rattle.font_metrics.specs.declared.refusal.MetricsRefusal.{MetricsRefusal}
 use Rattle.font_metrics.specs.declared.refusal.MetricsRefusal.TheVariants.{Later, Memory}
-use Rattle.font_metrics.specs.Metrics.{NamedGlyph, MetricsValue, metrics_value, IsInDesign, place_of_name, place_of_code}
+use Rattle.font_metrics.specs.Metrics.{NamedGlyph, MetricsValue, metrics_value, IsInDesign, place_of_name, place_of_code, most_glyphs}
 use Rattle.font_metrics.specs.Words.{◌>>=◌}
 use Rattle.font_metrics.specs.Lines.{Words, keyword_of, version_in, upem_in, line_in, x_height_in, glyph_in, char_in}
-use Rattle.font_metrics.specs.Metrics.{most_glyphs}
 
 -- what lines have given, and the keyword of the last of them
 pub record Given : Type 0 where

@@ -13,6 +13,7 @@ pub enum Keyword {
     Other,
 }
 
+/// What the first word of a line says; words are compared exactly.
 #[tactic(auto, unfolding(crate::specs::Lines::keyword_of))]
 pub fn keyword_of(word: &[u8]) -> Keyword
     ensures { result ≡ keyword_of word.now }

@@ -189,6 +189,7 @@ fn may_follow(last: Option<Keyword>, next: Keyword) -> bool
     )
 }
 
+/// The most glyphs of a file, so that a glyph's number fits a `u16` of OpenType.
 const MOST_GLYPHS: usize = 65535;
 
 // One more than the longest line has, so that a line of too many words shows.

@@ -20,7 +20,7 @@ pub fn number_in(low: i32, high: i32, word: &[u8]) -> Option<i32>
     }
 }
 
-/// The same, where no number is negative.
+/// A whole number from `low` to `high`, none of which is negative.
 #[tactic(auto, unfolding(crate::specs::Words::natural_in))]
 pub fn natural_in(low: u16, high: u16, word: &[u8]) -> Option<u16>
     ensures { result ≡ natural_in low high word.now }

@@ -3,4 +3,3 @@ mod Keys
 mod Shapes
 mod Names
 mod Forms
-pub mod Callers

@@ -39,17 +39,17 @@ cause_of_more lacks lacks' before mid after same f m more (inr (inr untold)) = i
 
 -- ---- the definition, by what the two files give
 
-refused_by_metrics : (m t : List ℕ) (r : Refusal) → metrics_in m ≡ Err r → answer_in m t ≡ Err r
+pub refused_by_metrics : (m t : List ℕ) (r : Refusal) → metrics_in m ≡ Err r → answer_in m t ≡ Err r
 unfolding answer_in
 refused_by_metrics m t r h = ap (λ x. x >>= λ metrics. tree_in t >>= λ tree. Ok (text_of metrics (place metrics tree.root))) h
 
-refused_by_tree : (m t : List ℕ) (metrics : MetricsValue) (r : Refusal) → metrics_in m ≡ Ok metrics → tree_in t ≡ Err r → answer_in m t ≡ Err r
+pub refused_by_tree : (m t : List ℕ) (metrics : MetricsValue) (r : Refusal) → metrics_in m ≡ Ok metrics → tree_in t ≡ Err r → answer_in m t ≡ Err r
 unfolding answer_in
 refused_by_tree m t metrics r h k =
     ap (λ x. x >>= λ metrics. tree_in t >>= λ tree. Ok (text_of metrics (place metrics tree.root))) h
     ∙ ap (λ x. x >>= λ tree. Ok (text_of metrics (place metrics tree.root))) k
 
-answered : (m t : List ℕ) (metrics : MetricsValue) (tree : TreeValue) → metrics_in m ≡ Ok metrics → tree_in t ≡ Ok tree
+pub answered : (m t : List ℕ) (metrics : MetricsValue) (tree : TreeValue) → metrics_in m ≡ Ok metrics → tree_in t ≡ Ok tree
     → answer_in m t ≡ Ok (text_of metrics (place metrics tree.root))
 unfolding answer_in
 answered m t metrics tree h k =

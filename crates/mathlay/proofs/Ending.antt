@@ -1,9 +1,10 @@
 -- How the answer and its delivery make the ending of a run.
-use Rattle.std.proofs.Common.{◌≡◌, ◌⊎◌, inl, inr, ℕ, List, take, refl, ap, sym, ◌∙◌, subst, append-nil, Option, Some, None, IfSome}
+use Rattle.std.proofs.Common.{◌≡◌, ◌⊎◌, inl, inr, ℕ, List, take, refl, ap, sym, ◌∙◌, subst, Option, Some, None, IfSome}
 use Rattle.std.specs.Prelude.{Result, Ok, Err, IsErrOf, IsSomeAnd, IsNone}
 use Rattle.std.specs.Option.{option_map}
 use Rattle.std.specs.Io.KnownBytes.{Appends, Keeps}
 use Rattle.doc_io.specs.Causes.{Files, Rose}
+use Rattle.doc_io.proofs.Known.{appends_kept}
 use Rattle.mathlay.specs.Command.{layout_files}
 use Rattle.mathlay.specs.Refusals.{status_of}
 use Rattle.mathlay.specs.Answer.{answer, Output, output_of, output}
@@ -13,13 +14,7 @@ use Rattle.mathlay.specs.declared.status.Status.TheVariants as status
 use Rattle.mathlay.specs.declared.refusal.Refusal.{Refusal}
 use Rattle.mathlay.specs.declared.refusal.Refusal.TheVariants.{Usage, MetricsLong, MetricsLater, TreeLong, TreeJson, TreeLater, ReadFault, Memory}
 
--- what stays has nothing appended
-appends_none : (old new : Option (List ℕ)) (bytes : List ℕ) → Keeps old new → Appends old new (take 0 bytes)
-appends_none None new bytes keeps = tt
-appends_none (Some a) None bytes keeps = absurd keeps
-appends_none (Some a) (Some b) bytes keeps = keeps ∙ sym (append-nil a)
-
--- the status tells a failed read, and words that are no command
+-- the status tells a failed read, want of memory, and words that are no command
 is_read_fault : (refusal : Refusal) → status_of refusal ≡ status.ReadFault → refusal ≡ ReadFault
 is_read_fault Usage e = cc
 is_read_fault MetricsLong e = cc
@@ -29,6 +24,16 @@ is_read_fault TreeJson e = cc
 is_read_fault TreeLater e = cc
 is_read_fault ReadFault e = refl
 is_read_fault Memory e = cc
+
+is_memory : (refusal : Refusal) → status_of refusal ≡ status.Memory → refusal ≡ Memory
+is_memory Usage e = cc
+is_memory MetricsLong e = cc
+is_memory MetricsLater e = cc
+is_memory TreeLong e = cc
+is_memory TreeJson e = cc
+is_memory TreeLater e = cc
+is_memory ReadFault e = cc
+is_memory Memory e = refl
 
 is_usage : (refusal : Refusal) → status_of refusal ≡ status.Usage → refusal ≡ Usage
 is_usage Usage e = refl
@@ -73,6 +78,11 @@ told_usage : (result : Result (List ℕ) Refusal) (old new : Told) (s : Status) 
 told_usage (Ok text) old new s d is = elim d.whole [ inl w ↦ absurd cc | inr e ↦ let f = e.0 in absurd cc ]
 told_usage (Err r) old new s d is = elim d.whole [ inl w ↦ absurd cc | inr e ↦ ap Err (is_usage r (sym e.0 ∙ is)) ]
 
+told_memory : (result : Result (List ℕ) Refusal) (old new : Told) (s : Status) → DeliversAnswer result old new s
+    → s ≡ status.Memory → IsErrOf result Memory
+told_memory (Ok text) old new s d is = elim d.whole [ inl w ↦ absurd cc | inr e ↦ let f = e.0 in absurd cc ]
+told_memory (Err r) old new s d is = elim d.whole [ inl w ↦ absurd cc | inr e ↦ ap Err (is_memory r (sym e.0 ∙ is)) ]
+
 -- the bytes and the status are those of an output, or the run was cut short
 abbrev IsOutput : Output → Told → Told → Status → Type 0
 IsOutput o old new s = IsCutShort s ⊎ ((s ≡ o.status) × Appends old.written new.written o.bytes)
@@ -84,7 +94,7 @@ told_output : (result wanted : Result (List ℕ) Refusal) (old new : Told) (s : 
     → IsCut result ⊎ (result ≡ wanted) → IsOutput (output_of wanted) old new s × HasFront (output_of wanted) old new
 told_output result wanted old new s d (inl cut) =
     let end = cut_ends result old new s cut d in
-    (inl (elim end.0 [ inl r ↦ inl r | inr m ↦ inr (inr m) ]), (0, appends_none old.written new.written (output_of wanted).bytes end.1))
+    (inl (elim end.0 [ inl r ↦ inl r | inr m ↦ inr (inr m) ]), (0, appends_kept old.written new.written end.1))
 told_output result wanted old new s d (inr same) =
     let whole = subst (λ r. DeliversAnswer r old new s) same d in
     (elim whole.whole [ inl w ↦ inl (inr (inl w)) | inr e ↦ inr e ], whole.front)
@@ -133,6 +143,10 @@ module _ (words : List (List ℕ)) (before after : Seen) (old new : Told) (s : S
   no_command : layout_files words ≡ None → (s ≡ status.Usage) ⊎ (s ≡ status.WriteFault)
   no_command none = elim d.whole [ inl w ↦ inr w | inr e ↦ inl (e.0 ∙ ap (λ r. (output_of r).status) (k.unknown none)) ]
 
+  cut : (s ≡ status.ReadFault) ⊎ (s ≡ status.Memory) → Keeps old.written new.written
+  cut (inl fault) = (cut_ends result old new s (inl (told_fault result old new s d fault)) d).1
+  cut (inr memory) = (cut_ends result old new s (inr (told_memory result old new s d memory)) d).1
+
   pub ends : Ends words before after old new s
   ends = record {
     outcome = IfSome-first _ _ _ (whole before.files a.answer);
@@ -140,9 +154,13 @@ module _ (words : List (List ℕ)) (before after : Seen) (old new : Told) (s : S
     read_fault = λ is. a.fault (told_fault result old new s d is);
     write_fault = d.fault;
     lacking = λ lack. cut_ends result old new s (a.lacking lack) d;
+    cut = cut;
     complete = complete before.files refl a.answer;
     usage = λ is. k.known (told_usage result old new s d is);
     no_command = no_command;
+    files = a.files;
+    faults = a.faults;
+    missing = a.missing;
   }
 
 -- the same, where the words, the text and the status were handed on

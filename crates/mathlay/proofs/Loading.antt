@@ -146,7 +146,7 @@ metrics_read name bytes shown before after result same reads is gives =
 
 -- ---- trees
 
-tree_short : (bytes : List ℕ) → length bytes ≤ 4194304 → tree_in bytes ≡ tree_of_json (json_in bytes)
+pub tree_short : (bytes : List ℕ) → length bytes ≤ 4194304 → tree_in bytes ≡ tree_of_json (json_in bytes)
 unfolding tree_in
 tree_short bytes short = let no : nat_lt 4194304 (length bytes) ≡ false = le-ltb 4194304 (length bytes) short in rw no refl
 

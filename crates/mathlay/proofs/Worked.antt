@@ -1,6 +1,6 @@
 -- Worked runs: the definitions of the program, computed from the bytes of the files and the words.
-use Rattle.std.proofs.Common.{◌≡◌, ◌∙◌, ap, ℕ, pos, List, [], ◌∷◌, ◌++◌, codes, Some, None, refl}
-use Rattle.std.specs.Prelude.{⊤, Ok, Err, slice_get}
+use Rattle.std.proofs.Common.{◌≡◌, ◌∙◌, ap, ℕ, pos, List, [], ◌∷◌, ◌++◌, codes, Some, None, refl, lit≤}
+use Rattle.std.specs.Prelude.{⊤, Ok, Err, slice_get, if◌then◌else◌}
 use Rattle.std.specs.Fmt.{digits}
 use Rattle.serde_json.specs.Read.{read}
 use Rattle.serde_json.proofs.OnLiterals.{serde_json_on_literals}
@@ -21,8 +21,14 @@ use Rattle.mathlay.specs.Command.{layout_files}
 use Rattle.mathlay.specs.Layout.{glyph_box, no_box, token_of}
 use Rattle.mathlay.specs.Placed.{place, place_over, frame_at_origin, glyphs_of}
 use Rattle.mathlay.specs.Lines.{box_line, glyph_line, text_of}
-use Rattle.mathlay.specs.Answer.{metrics_in, tree_of_json}
-use Rattle.mathlay.specs.declared.refusal.Refusal.TheVariants.{TreeJson, TreeLater}
+use Rattle.mathlay.specs.Answer.{metrics_in, tree_of_json, tree_in, output_of, output}
+use Rattle.mathlay.proofs.Loading.{tree_short}
+use Rattle.mathlay.proofs.Answering.{answered, refused_by_metrics}
+use Rattle.mathlay.specs.declared.status.Status.TheVariants.{Done, Usage, Metrics}
+use Rattle.doc_io.specs.Causes.{Files}
+use Rattle.std.specs.Str.{bytes_eq}
+use Rattle.std.proofs.lemmas.Str.{is_utf8-from_IsUtf8}
+use Rattle.mathlay.specs.declared.refusal.Refusal.TheVariants.{MetricsLater, TreeJson, TreeLater}
 
 -- what the definitions are computed by, from literals
 unfoldable on_literals : ⊤
@@ -111,6 +117,58 @@ child_mi = refl
 cut_tree : tree_of_json (read (codes "{\"name\":\"ma")) ≡ Err TreeJson
 unfolding on_literals
 cut_tree = refl
+
+-- ---- whole outputs
+
+-- a metrics file `m` and a tree file `t`
+abbrev files : List ℕ → Files
+files tree name =
+    if bytes_eq name (codes "m") then Some metrics_file
+    else if bytes_eq name (codes "t") then Some tree
+    else None
+
+abbrev one : List ℕ
+one = codes "{\"name\":\"math\",\"children\":[{\"name\":\"mn\",\"text\":\"1\"}]}"
+
+tree_of_text : tree_of_json (read one) ≡ Ok record {
+  root = roll-Node (layer 1 (codes "math") Math [] (roll-Node (layer 2 (codes "mn") Mn (codes "1") []) ∷ []));
+  next_id = 3;
+}
+unfolding on_literals
+tree_of_text = refl
+
+tree_of_one : tree_in one ≡ Ok record {
+  root = roll-Node (layer 1 (codes "math") Math [] (roll-Node (layer 2 (codes "mn") Mn (codes "1") []) ∷ []));
+  next_id = 3;
+}
+unfolding lib.Utf8.encode
+tree_of_one =
+    tree_short one (lit≤ tt)
+    ∙ ap (λ text. tree_of_json (if text then read one else None)) (is_utf8-from_IsUtf8 one (one, (refl, refl)))
+    ∙ tree_of_text
+
+output_of_one : output (codes "layout" ∷ codes "m" ∷ codes "t" ∷ []) (files one) ≡ record {
+  bytes = codes "box 1 math 0 0 8192 14400 4800 10880 0\n"
+      ++ codes "box 2 mn 0 0 8192 14400 4800 10880 0\n"
+      ++ codes "glyph 0 0 16384 one\n";
+  status = Done;
+}
+output_of_one =
+    ap output_of (answered metrics_file one font _ metrics_of_file tree_of_one)
+    ∙ ap (λ items. output_of (Ok (text_of font items))) (over_number (codes "1"))
+    ∙ ap (λ text. output_of (Ok text)) one_digit
+
+tree_is_no_metrics : metrics_in one ≡ Err MetricsLater
+unfolding on_literals
+tree_is_no_metrics = refl
+
+output_of_no_metrics : output (codes "layout" ∷ codes "t" ∷ codes "t" ∷ []) (files one)
+    ≡ record { bytes = codes "metrics later\n"; status = Metrics }
+output_of_no_metrics = ap output_of (refused_by_metrics one one MetricsLater tree_is_no_metrics)
+
+output_of_two_words : output (codes "layout" ∷ codes "m" ∷ []) (files one)
+    ≡ record { bytes = codes "usage: mathlay layout METRICS TREE\n"; status = Usage }
+output_of_two_words = refl
 
 -- ---- words
 

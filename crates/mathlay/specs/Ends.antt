@@ -106,6 +106,8 @@ pub record Ends (words : List (List ℕ)) (before after : Seen) (old new : Told)
   -- where a reached file isn't there nothing is written
   pub lacking : IsSomeAnd before.files (LacksFile words) →
       ((status ≡ ReadFault) ⊎ (status ≡ Memory)) × Keeps old.written new.written
+  -- a failed read and want of memory write nothing
+  pub cut : (status ≡ ReadFault) ⊎ (status ≡ Memory) → Keeps old.written new.written
   -- where every reached file is there and no count rose, only want of memory stands between
   pub complete : IfSome before.files (λ files.
       ¬ LacksFile words files → ¬ Rose before.faults after.faults → ¬ Rose old.faults new.faults →
@@ -113,3 +115,7 @@ pub record Ends (words : List (List ℕ)) (before after : Seen) (old new : Told)
   -- words that are no command are told so, and no others are, whatever the inputs tell
   pub usage : status ≡ Usage → layout_files words ≡ None
   pub no_command : layout_files words ≡ None → (status ≡ Usage) ⊎ (status ≡ WriteFault)
+  -- no file is changed, and no count of the inputs falls
+  pub files : after.files ≡ before.files
+  pub faults : before.faults ≤ after.faults
+  pub missing : before.missing ≤ after.missing

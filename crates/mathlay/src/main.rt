@@ -37,7 +37,7 @@ use std::sync::ledger::{Blank, Ledger};
 use std::{env, io};
 
 fn main(rt: HostRuntime) -> ExitCode {
-    ExitCode::from(run_counted::<Brand>(&rt, Blank::new(1)).number())
+    run_counted::<Brand>(&rt, Blank::new(1)).exit_code()
 }
 
 /// Runs with the words of the command line, real files and standard output, and counts on the

@@ -6,25 +6,34 @@ use doc_io::ReadRefusal;
 use fixed_units::Memory;
 use font_metrics::MetricsRefusal;
 use math_tree::TreeRefusal;
+use thiserror::Error;
 
 /// Why a run shows no boxes.
-#[derive(Clone, Copy, Debug, PartialEq, Eq)]
+#[derive(Clone, Copy, Debug, PartialEq, Eq, Error)]
 pub enum Refusal {
     /// The words are no command.
+    #[error("the words are no command")]
     Usage,
     /// The metrics file has more bytes than its limit.
+    #[error("the metrics file is too long")]
     MetricsLong,
     /// The metrics file isn't of the short form, which is all that is read yet.
+    #[error("only short metrics files are read for now")]
     MetricsLater,
     /// The tree file has more bytes than its limit.
+    #[error("the tree file is too long")]
     TreeLong,
     /// The tree file has no reading as JSON.
+    #[error("the tree file is no JSON")]
     TreeJson,
     /// The tree isn't of the short form, which is all that is read yet.
+    #[error("only short trees are read for now")]
     TreeLater,
     /// A read failed, or a file isn't there.
+    #[error("a read failed")]
     ReadFault,
     /// Memory was refused.
+    #[error("memory was refused")]
     Memory,
 }
 

@@ -1,5 +1,8 @@
 ghost use Rattle.std.specs.Prelude.{◌≡◌};
+ghost use Rattle.std.specs.Process.{exit_status};
 ghost use Rattle.mathlay.specs.Status.{number_of};
+
+use std::process::ExitCode;
 
 /// How a run ends.
 #[derive(Clone, Copy, Debug, PartialEq, Eq)]
@@ -21,7 +24,7 @@ pub enum Status {
 }
 
 impl Status {
-    /// The exit status of the program.
+    /// The number of the exit status.
     pub fn number(self) -> u8
         ensures { result ≡ number_of self }
     {
@@ -34,5 +37,12 @@ impl Status {
             Status::WriteFault => 6,
             Status::Memory => 7,
         }
+    }
+
+    /// The exit status as the program ends with it.
+    pub fn exit_code(self) -> ExitCode
+        ensures { exit_status result ≡ number_of self }
+    {
+        ExitCode::from(self.number())
     }
 }
