@@ -29,13 +29,13 @@ def characters():
     line = "char {:06X} missing\n"
     count = (LIMIT - len(HEAD)) // len(line.format(0)) - 1
     text = HEAD + "".join(line.format(code) for code in range(0x1_0000, 0x1_0000 + count))
-    return text + "?" * (LIMIT - len(text))
+    return text + "?" * (LIMIT - len(text) - 1) + "\n"
 
 
 FILES = [
     ("65,535 glyph lines, read", glyphs(65_535), 0),
     ("65,536 glyph lines, refused", glyphs(65_536), 3),
-    ("8,388,608 bytes of one line, refused", "7" * LIMIT, 3),
+    ("8,388,608 bytes of one line, refused", "7" * (LIMIT - 1) + "\n", 3),
     ("8,388,608 bytes of line feeds, refused", "\n" * LIMIT, 3),
     ("8,388,608 bytes of char lines, refused at the last", characters(), 3),
 ]

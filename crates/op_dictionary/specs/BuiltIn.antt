@@ -97,7 +97,7 @@ is_inline _ = false
 
 -- ---- what a category says of an operator
 
--- spaces are in 18ths of the font size; those of Default are an own choice
+-- spaces are in 18ths of the font size
 abbrev row : ℕ → ℕ → Bool → Bool → Bool → Bool → Properties
 row before after stretchy symmetric largeop movablelimits = record {
   lspace = before;

@@ -122,8 +122,7 @@ const LARGE: Properties = Properties {
 
 /// What a category says of its operators (MathML Core, B.1).
 ///
-/// Spaces are 18ths of the font size: 5 for 0.2777em, 4 for 0.2222em, 3 for 0.1666em. Those of
-/// `Default` are an own choice.
+/// Spaces are 18ths of the font size: 5 for 0.2777em, 4 for 0.2222em, 3 for 0.1666em.
 #[rattlefmt::skip]
 #[tactic(auto, unfolding(crate::specs::BuiltIn::properties_of))]
 pub fn properties(category: Category) -> Properties

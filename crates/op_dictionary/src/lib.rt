@@ -6,7 +6,7 @@
 //!
 //! - Models: MathML Core, Appendix B ("Operator Tables"). Own choices: which of its characters are
 //!   built in, which of them stretch to the sides, that a user's lines come before every other rule
-//!   (also where an infix vertical bar or tilde operator is `Default`), the spaces of `Default`.
+//!   (also where an infix vertical bar or tilde operator is `Default`).
 //! - Proved: the three look-ups are `category_of`, `axis_of` (`specs/Dictionary.antt`) and
 //!   `properties_of` (`specs/BuiltIn.antt`), exactly; the dictionary is a set of triples with one
 //!   category for a text in a form (`laws`). `Extra::add` alone takes memory.
