@@ -67,6 +67,17 @@ impl<T> List<T> {
     }
 }
 
+impl<T> From<Vec<T>> for List<T> {
+    ghost use Rattle.std.specs.Prelude.{◌≡◌};
+
+    ghost from_gives = { λ vec list. list ≡ vec.items };
+
+    /// The items of a vector. It takes no memory.
+    fn from(items: Vec<T>) -> Self {
+        List { items }
+    }
+}
+
 impl<T: Drop> List<T> {
     /// Adds an item at the end.
     pub fn push(&mut self, item: T) -> Result<(), Memory>
