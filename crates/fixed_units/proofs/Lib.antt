@@ -1,5 +1,8 @@
-pub mod Signed
+pub mod Digits
 pub mod Products
 pub mod Rounding
+pub mod Signed
+pub mod Sizes
+pub mod Stored
 pub mod Within
 pub mod Worked

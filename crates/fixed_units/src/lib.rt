@@ -1,26 +1,33 @@
-//! The ground under every other crate: numbers in units of 1/1024 px, and lists, texts and a count
-//! of steps that contracts see as lists, texts and numbers.
+//! The ground under every other crate: numbers and lengths in units of 1/1024 px, and lists, texts
+//! and a count of steps that contracts see as lists, texts and numbers.
 //!
-//! - Models: the rounding of lengths is this project's own; the seven fields of a box are those
-//!   that MathML Core 3.1.1 gives a box ("Box Model").
+//! - Models: the units of lengths are those of CSS Values and Units 4, the seven fields of a box
+//!   those that MathML Core 3.1.1 gives a box ("Box Model"); rounding and the form of a length text
+//!   are this project's own.
 //! - Proved: `round` and `half` give the one number that their relation allows
-//!   (`specs/Numbers.antt`, `laws`); `List` and `Txt` are lists, and a refused call leaves its list
-//!   as it was; `tick` alone raises a count of steps, by one.
+//!   (`specs/Numbers.antt`, `laws`); `read_length` and `resolve` are exact (`specs/Lengths.antt`),
+//!   and so is `fits` (`specs/Boxes.antt`); `List` and `Txt` are lists, and a refused call leaves
+//!   its list as it was; `tick` alone raises a count of steps, by one.
 //! - Knows nothing of: fonts, trees, files.
 //! - Change a number's rule: `specs/Numbers.antt`, then `src/numbers.rt`, then `rt check`.
+//!   Change the form of lengths: `specs/Lengths.antt`, then `src/reading.rt`.
 #![tactic(auto)]
 
 mod boxes;
 pub mod laws;
+mod lengths;
 mod list;
 mod memory;
 mod numbers;
+mod reading;
 mod steps;
 mod text;
 
-pub use boxes::MathBox;
+pub use boxes::{MathBox, fits};
+pub use lengths::{LengthText, Unit, resolve};
 pub use list::List;
 pub use memory::Memory;
 pub use numbers::{Ratio, half, round};
+pub use reading::read_length;
 pub use steps::Steps;
 pub use text::Txt;

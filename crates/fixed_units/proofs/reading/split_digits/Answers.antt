@@ -1,0 +1,7 @@
+use Rattle.std.proofs.Common.{◌∙◌, ap, take}
+use Rattle.fixed_units.proofs.Digits.{front_digits}
+use Rattle.fixed_units.proofs.reading.split_digits.Goals as goal
+
+pub returns-clause-digits : goal.returns-clause-digits
+returns-clause-digits c =
+    front_digits c.args.text.now _ (c.split_at.ensures.front ∙ ap (λ n. take n c.args.text.now) c.digit_count.ensures.value)
