@@ -18,7 +18,11 @@ one_digit_more n d i small below = let more = pow-add 10 i 1 in omega (arith, mo
 
 power_positive : (k : ℕ) → 0 < 10 ^ k
 power_positive zero = lit< tt
-power_positive (suc k) = let more = pow-add 10 k 1 in let before = power_positive k in let e : 10 ^ suc k ≡ 10 ^ (k + 1) = ap (λ j. 10 ^ j) (omega arith) in omega (arith, more, before, e)
+power_positive (suc k) =
+    let more = pow-add 10 k 1 in
+    let before = power_positive k in
+    let next : 10 ^ suc k ≡ 10 ^ (k + 1) = ap (λ j. 10 ^ j) (omega arith) in
+    omega (arith, more, before, next)
 
 -- n of i digits, in units of the last of six
 pub six_digits : (n i k : ℕ) → n < 10 ^ i → i + k ≡ 6 → n * 10 ^ k < 10 ^ 6
@@ -28,7 +32,8 @@ six_digits n i k small e =
     omega (arith, times, six)
 
 -- the digits in front are digits
-pub front_digits : (text front : List ℕ) → front ≡ take (prefix_len is_ascii_digit text) text → AreDigits front
+pub front_digits : (text front : List ℕ) → front ≡ take (prefix_len is_ascii_digit text) text
+    → AreDigits front
 front_digits text front e = rw e by
   where
     n : ℕ
