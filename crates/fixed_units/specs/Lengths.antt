@@ -2,10 +2,9 @@
 --
 -- A length text has, between white space, a sign or none, at most nine digits, then a point with
 -- one digit or more behind it or neither, and a unit. At least one digit stands in it.
-use Rattle.std.specs.Prelude.{ℕ, ◌+◌, ◌-◌, ◌*◌, ◌^◌, ℤ, pos, neg_ℤ, ◌*ℤ◌, ◌≤ℤ◌, Bool, true, false, ◌||◌, nat_eq, nat_le, if◌then◌else◌, List, [], ◌∷◌, length, map, take, drop, slice_index, EachIndex, IsTrue, codes, Option, Some, None}
-use Rattle.std.specs.Char.{is_ascii_digit, is_ascii_whitespace, to_ascii_lowercase}
+use Rattle.std.specs.Prelude.{ℕ, ◌+◌, ◌-◌, ◌*◌, ◌^◌, ℤ, pos, neg_ℤ, ◌*ℤ◌, ◌≤ℤ◌, Bool, true, false, ◌||◌, nat_eq, nat_le, if◌then◌else◌, List, [], ◌∷◌, length, take, drop, slice_index, EachIndex, IsTrue, codes, Option, Some, None}
+use Rattle.std.specs.Char.{is_ascii_digit, is_ascii_whitespace}
 use Rattle.std.specs.List.{prefix_len, suffix_len}
-use Rattle.std.specs.Str.{bytes_eq}
 use Rattle.std.specs.Str.Parse.{digits_value}
 use Rattle.fixed_units.specs.declared.lengths.LengthText.{LengthText}
 use Rattle.fixed_units.specs.declared.lengths.Unit.{Unit as LengthUnit}
@@ -13,6 +12,7 @@ use Rattle.fixed_units.specs.declared.lengths.Unit.TheVariants.{Em, Ex, Px, Pt, 
 use Rattle.fixed_units.specs.declared.numbers.Ratio.{Ratio}
 use Rattle.fixed_units.specs.Numbers.{rounded}
 use Rattle.fixed_units.specs.Optional.{◌>>=◌, ◌>>◌, only_if}
+use Rattle.fixed_units.specs.Words.{is_word}
 
 -- ---- the parts of a text
 
@@ -83,10 +83,6 @@ number_of text = do
   Some (digits_value 10 whole * 1000000 + fraction_value fraction.0, fraction.1)
 
 -- ---- the unit
-
--- whether a name is a word, in any case of ASCII letters
-abbrev pub is_word : List ℕ → List ℕ → Bool
-is_word name word = bytes_eq (map to_ascii_lowercase name) (map to_ascii_lowercase word)
 
 unfoldable pub unit_of : List ℕ → Option LengthUnit
 unit_of name =

@@ -22,6 +22,7 @@ mod numbers;
 mod reading;
 mod steps;
 mod text;
+mod words;
 
 pub use boxes::{MathBox, fits};
 pub use lengths::{LengthText, Unit, resolve};
@@ -31,3 +32,4 @@ pub use numbers::{Ratio, half, round};
 pub use reading::read_length;
 pub use steps::Steps;
 pub use text::Txt;
+pub use words::is_word;

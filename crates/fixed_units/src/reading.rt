@@ -4,7 +4,8 @@ ghost use Rattle.std.specs.List.{prefix_len};
 ghost use Rattle.std.specs.Option.{option_map};
 ghost use Rattle.std.specs.Str.Parse.{digits_value};
 ghost use Rattle.fixed_units.specs.Numbers.{IsWithin};
-ghost use Rattle.fixed_units.specs.Lengths.{trimmed, is_negative, behind_sign, digits_in_front, behind_digits, fraction_of, fraction_value, number_of, is_word, unit_of, unit_at, length_of, AreDigits};
+ghost use Rattle.fixed_units.specs.Words.{is_word};
+ghost use Rattle.fixed_units.specs.Lengths.{trimmed, is_negative, behind_sign, digits_in_front, behind_digits, fraction_of, fraction_value, number_of, unit_of, unit_at, length_of, AreDigits};
 
 use crate::lengths::{LengthText, Unit};
 
@@ -145,36 +146,36 @@ fn unit_at(millionths: u64, name: &[u8]) -> Option<Unit>
 fn unit_of(name: &[u8]) -> Option<Unit>
     ensures { result ≡ unit_of name.now }
 {
-    if is_word(name, b"em") {
+    if is_name(name, b"em") {
         Some(Unit::Em)
-    } else if is_word(name, b"ex") {
+    } else if is_name(name, b"ex") {
         Some(Unit::Ex)
-    } else if is_word(name, b"px") {
+    } else if is_name(name, b"px") {
         Some(Unit::Px)
-    } else if is_word(name, b"pt") {
+    } else if is_name(name, b"pt") {
         Some(Unit::Pt)
-    } else if is_word(name, b"pc") {
+    } else if is_name(name, b"pc") {
         Some(Unit::Pc)
-    } else if is_word(name, b"in") {
+    } else if is_name(name, b"in") {
         Some(Unit::Inch)
-    } else if is_word(name, b"cm") {
+    } else if is_name(name, b"cm") {
         Some(Unit::Cm)
-    } else if is_word(name, b"mm") {
+    } else if is_name(name, b"mm") {
         Some(Unit::Mm)
-    } else if is_word(name, b"q") {
+    } else if is_name(name, b"q") {
         Some(Unit::Quarter)
-    } else if is_word(name, b"%") {
+    } else if is_name(name, b"%") {
         Some(Unit::Percent)
     } else {
         None
     }
 }
 
-/// Whether a name is a word, in any case of ASCII letters.
-fn is_word(name: &[u8], word: &[u8]) -> bool
-    ensures { result ≡ is_word name.now word.now }
+/// Whether a name is that of a unit.
+fn is_name(name: &[u8], unit: &[u8]) -> bool
+    ensures { result ≡ is_word name.now unit.now }
 {
-    name.eq_ignore_ascii_case(word)
+    name.eq_ignore_ascii_case(unit)
 }
 
 #[cfg(test)]
