@@ -1,10 +1,20 @@
 pub mod Digits
 pub mod Names
-pub mod Distinct
-pub mod Header
-pub mod Order
-pub mod Ranges
-pub mod Turns
 pub mod Tables
+pub mod Listed
+pub mod Cuts
+pub mod Steps
+pub mod EachKind
+pub mod Finish
+pub mod SamePairs
+pub mod Ordered
+pub mod Ranges
+pub mod Forward
+pub mod Values
 pub mod Scaling
 pub mod Worked
+pub mod WorkedPrints
+mod ReadBack
+mod Padding
+mod Printing
+mod ConstantTexts

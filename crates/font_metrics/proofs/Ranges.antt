@@ -1,237 +1,327 @@
 -- What lines give lies in its ranges.
-use Rattle.std.proofs.Common.{◌≡◌, ◌∙◌, sym, ap, refl, subst, ℕ, ◌≤◌, ◌<◌, ◌^◌, Bool, true, false, ◌&&◌, true≢false, ℤ, pos, negsuc, int_le, unsigned_abs, List, [], ◌∷◌, ◌++◌, length, length-append, Option, Some, None, is_some, option_map, if◌then◌else◌, nat_lt, arith}
-use Rattle.std.proofs.lemmas.Bool.Decides.{nat_tests}
-use Rattle.std.proofs.lemmas.Option.{none-some, same_Some}
-use Rattle.std.proofs.lemmas.List.Elements.{All-nil, All-push, All-weaker}
-use Rattle.fixed_units.specs.Numbers.{IsWithin}
-use Rattle.fixed_units.proofs.Signed.{signed}
-use Rattle.fixed_units.proofs.Within.{natural_in as natural_within, widened}
+use Rattle.std.proofs.Common.{◌≡◌, ◌∙◌, sym, ap, refl, subst, ℕ, ◌+◌, ◌≤◌, ◌<◌, Bool, true, false, ℤ, nat_eq, nat_le, if◌then◌else◌, List, [], ◌∷◌, ◌++◌, length, is_some, codes, Option, Some, None, Ok, Err, arith, not}
+use Rattle.std.proofs.lemmas.List.{length_push}
+use Rattle.std.proofs.lemmas.List.Elements.{All-nil, All-weaker}
+use Rattle.std.specs.List.{IsDistinct}
+use Rattle.std.specs.List.Sorted.{IsStrictlySortedBy}
+use Rattle.std.specs.Map.{lookup}
+use Rattle.std.specs.Option.{IfSome}
+use Rattle.std.specs.BTreeMap.{insert_entry}
+use Rattle.std.specs.Ordering.{nat_cmp}
+use Rattle.op_dictionary.specs.Dictionary.{is_named}
+use Rattle.font_metrics.specs.declared.fault.LineFault.{LineFault}
+use Rattle.font_metrics.specs.declared.fault.LineFault.TheVariants.{ForeignByte, WrongFirstLine, UnknownWord, Repeated, TooMany, NoUpem, NoLine, NoXHeight, NoMissing}
+use Rattle.font_metrics.specs.declared.growth.Variant.{Variant}
+use Rattle.font_metrics.specs.declared.growth.Part.{Part}
 use Rattle.font_metrics.specs.declared.keyword.Keyword.{Keyword}
-use Rattle.font_metrics.specs.declared.keyword.Keyword.TheVariants.{Version, Upem, Line, XHeight, Glyph, Char, Other}
-use Rattle.font_metrics.specs.Metrics.{NamedGlyph, IsInDesign, place_of_name, place_of_code}
-use Rattle.font_metrics.specs.Words.{◌>>=◌, number_of, if_between, number_in, natural_in, code_of, name_in}
-use Rattle.font_metrics.specs.Lines.{Words, keyword_of, version_in, upem_in, line_in, x_height_in, glyph_in, char_in}
-use Rattle.font_metrics.specs.Taking.{Given, nothing, with_glyph, with_character, after_fields, after, may_follow, IsUpem, IsGiven}
-use Rattle.font_metrics.proofs.Tables.{place_within}
+use Rattle.font_metrics.specs.declared.keyword.Keyword.TheVariants.{Upem, Line, XHeight, Overlap, Constant, Glyph, Char, BlockVariant, InlineVariant, BlockPart, InlinePart, Operator, Unknown}
+use Rattle.font_metrics.specs.Faults.{Step, ◌>>=◌, or_fault, fault_if}
+use Rattle.font_metrics.specs.Lines.{Words, keyword_of, upem_in, line_in, one_length_in, constant_in, glyph_in, character_in, variant_in, part_in, operator_in}
+use Rattle.font_metrics.specs.Metrics.{NamedGlyph, MetricsValue, ByGlyph, place_of_name}
+use Rattle.font_metrics.specs.Reading.{Given, nothing, is_full, is_foreign, is_comment, is_version, words_of, one_variant_more, one_part_more, after_fields, after_words, after, after_first, whole_of, finished}
+use Rattle.font_metrics.specs.Taken.{IsTaken, IsGlyph, IsConstant, IsCharacter, IsTable, IsVariant, IsPart, most_glyphs, most_variants, most_parts}
+use Rattle.font_metrics.specs.Whole.{IsGiven, AreGlyphs, AreConstants, AreCharacters, AreOperators}
+use Rattle.font_metrics.proofs.Steps.{same_Ok, no_value, had, free, found}
+use Rattle.font_metrics.proofs.EachKind.{upem_range, line_range, one_length_range, constant_range, glyph_range, character_range, variant_range, part_range, operator_range}
+use Rattle.font_metrics.proofs.Ordered.{ordered-insert, all-insert, table-item, table-wider, glyphs-push, operators-push}
 
--- a step that gave something had something
-had : {X Y : Type 0} (o : Option X) (f : X → Option Y) (y : Y) → (o >>= f) ≡ Some y
-    → (x : X) × (o ≡ Some x) × (f x ≡ Some y)
-had None f y h = absurd (none-some y h)
-had (Some x) f y h = (x, refl, h)
+-- ---- what each kind of line keeps
 
-mapped : {X Y : Type 0} (o : Option X) (f : X → Y) (y : Y) → option_map f o ≡ Some y
-    → (x : X) × (o ≡ Some x) × (f x ≡ y)
-mapped None f y h = absurd (none-some y h)
-mapped (Some x) f y h = (x, refl, same_Some (f x) y h)
+-- a step that is taken where a test fails
+past : {X Y : Type 0} (s : Step X) (test : X → Bool) (fault : LineFault) (make : X → Y) (y : Y)
+    → (s >>= λ x. fault_if (test x) fault >>= λ new. Ok (make x)) ≡ Ok y
+    → (x : X) × (s ≡ Ok x) × (test x ≡ false) × (make x ≡ y)
+past s test fault make y h =
+    let x = had s _ y h in
+    let n = had (fault_if (test x.0) fault) _ y x.2 in
+    (x.0, x.1, free (test x.0) fault n.0 n.1, same_Ok (make x.0) y n.2)
 
--- ---- numbers
+with_upem : (g : Given) (n : ℕ) → IsGiven g → (16 ≤ n) × (n ≤ 16384) → IsGiven (record g { upem = Some n })
+with_upem g n h k = record {
+  upem = k;
+  line = h.line;
+  x_height = h.x_height;
+  overlap = h.overlap;
+  constants = h.constants;
+  glyphs = h.glyphs;
+  characters = h.characters;
+  block_variants = h.block_variants;
+  inline_variants = h.inline_variants;
+  block_parts = h.block_parts;
+  inline_parts = h.inline_parts;
+  operators = h.operators;
+}
 
-between : (low high z y : ℤ) → if_between low high z ≡ Some y
-    → (z ≡ y) × (int_le low y ≡ true) × (int_le y high ≡ true)
-between low high z y h = by (int_le low z) (int_le z high) refl refl h
-  where
-    by : (a b : Bool) → int_le low z ≡ a → int_le z high ≡ b → (if a && b then Some z else None) ≡ Some y
-        → (z ≡ y) × (int_le low y ≡ true) × (int_le y high ≡ true)
-    by true true p q h = let e = same_Some z y h in (e, ap (int_le low) (sym e) ∙ p, ap (λ x. int_le x high) (sym e) ∙ q)
-    by true false p q h = absurd (none-some y h)
-    by false b p q h = absurd (none-some y h)
+with_line : (g : Given) (n : ℕ × ℕ) → IsGiven g → (n.0 ≤ 65535) × (n.1 ≤ 65535) → IsGiven (record g { line = Some n })
+with_line g n h k = record {
+  upem = h.upem;
+  line = k;
+  x_height = h.x_height;
+  overlap = h.overlap;
+  constants = h.constants;
+  glyphs = h.glyphs;
+  characters = h.characters;
+  block_variants = h.block_variants;
+  inline_variants = h.inline_variants;
+  block_parts = h.block_parts;
+  inline_parts = h.inline_parts;
+  operators = h.operators;
+}
 
-number_between : (low high : ℤ) (word : List ℕ) (y : ℤ) → number_in low high word ≡ Some y
-    → (int_le low y ≡ true) × (int_le y high ≡ true)
-unfolding number_in
-number_between low high word y h =
-    let x = had (number_of word) (if_between low high) y h in
-    let k = between low high x.0 y x.2 in
-    (k.1, k.2)
+with_x_height : (g : Given) (n : ℕ) → IsGiven g → n ≤ 65535 → IsGiven (record g { x_height = Some n })
+with_x_height g n h k = record {
+  upem = h.upem;
+  line = h.line;
+  x_height = k;
+  overlap = h.overlap;
+  constants = h.constants;
+  glyphs = h.glyphs;
+  characters = h.characters;
+  block_variants = h.block_variants;
+  inline_variants = h.inline_variants;
+  block_parts = h.block_parts;
+  inline_parts = h.inline_parts;
+  operators = h.operators;
+}
 
-pub natural_between : (low high : ℕ) (word : List ℕ) (n : ℕ) → natural_in low high word ≡ Some n
-    → (low ≤ n) × (n ≤ high)
-unfolding natural_in
-natural_between low high word n h =
-    let x = mapped (number_in (pos low) (pos high) word) unsigned_abs n h in
-    let k = number_between (pos low) (pos high) word x.0 x.1 in
-    by x.0 k.0 k.1 x.2
-  where
-    by : (z : ℤ) → int_le (pos low) z ≡ true → int_le z (pos high) ≡ true → unsigned_abs z ≡ n
-        → (low ≤ n) × (n ≤ high)
-    by (pos m) p q e = (grind (arith, nat_tests), grind (arith, nat_tests))
-    by (negsuc m) p q e = absurd (true≢false (sym p))
+with_overlap : (g : Given) (n : ℕ) → IsGiven g → n ≤ 65535 → IsGiven (record g { overlap = Some n })
+with_overlap g n h k = record {
+  upem = h.upem;
+  line = h.line;
+  x_height = h.x_height;
+  overlap = k;
+  constants = h.constants;
+  glyphs = h.glyphs;
+  characters = h.characters;
+  block_variants = h.block_variants;
+  inline_variants = h.inline_variants;
+  block_parts = h.block_parts;
+  inline_parts = h.inline_parts;
+  operators = h.operators;
+}
 
--- a number from -32768 to 65535
-pub signed_within : (word : List ℕ) (z : ℤ) → number_in (negsuc 32767) (pos 65535) word ≡ Some z
-    → IsWithin (2 ^ 16) z
-signed_within word z h = by z (number_between (negsuc 32767) (pos 65535) word z h)
-  where
-    by : (z : ℤ) → (int_le (negsuc 32767) z ≡ true) × (int_le z (pos 65535) ≡ true) → IsWithin (2 ^ 16) z
-    by (pos m) k = let small : m ≤ 65535 = grind (arith, nat_tests) in widened (2 ^ 16) (natural_within m) (omega arith)
-    by (negsuc m) k =
-        let small : m ≤ 32767 = grind (arith, nat_tests) in
-        record { low = omega (arith, signed); high = omega (arith, signed) }
+with_constant : (g : Given) (c : ℕ × ℤ) → IsGiven g → IsConstant c
+    → IsGiven (record g { constants = insert_entry nat_cmp g.constants c.0 c.1 })
+with_constant g c h k = record {
+  upem = h.upem;
+  line = h.line;
+  x_height = h.x_height;
+  overlap = h.overlap;
+  constants = record {
+    ranges = all-insert IsConstant c.0 c.1 g.constants h.constants.ranges k;
+    ordered = ordered-insert c.0 c.1 g.constants h.constants.ordered;
+  };
+  glyphs = h.glyphs;
+  characters = h.characters;
+  block_variants = h.block_variants;
+  inline_variants = h.inline_variants;
+  block_parts = h.block_parts;
+  inline_parts = h.inline_parts;
+  operators = h.operators;
+}
+
+with_glyph : (g : Given) (n : NamedGlyph) → IsGiven g → AreGlyphs (g.glyphs ++ n ∷ [])
+    → IsGiven (record g { glyphs = g.glyphs ++ n ∷ [] })
+with_glyph g n h k =
+    let size : length (g.glyphs ++ n ∷ []) ≡ length g.glyphs + 1 = length_push g.glyphs n in
+    let old = length g.glyphs in
+    let new = length (g.glyphs ++ n ∷ []) in
+    let grows : old ≤ new = omega (arith, size) in
+    let variant : (v : Variant) → IsVariant old v → IsVariant new v =
+    λ v is. record { glyph = let at = is.glyph in omega (arith, at, grows); measure = is.measure } in
+    let part : (p : Part) → IsPart old p → IsPart new p =
+    λ p is. record {
+      glyph = let at = is.glyph in omega (arith, at, grows);
+      start = is.start;
+      end = is.end;
+      full = is.full;
+    } in
+    record {
+      upem = h.upem;
+      line = h.line;
+      x_height = h.x_height;
+      overlap = h.overlap;
+      constants = h.constants;
+      glyphs = k;
+      characters = record {
+        ranges = All-weaker (IsCharacter old) (IsCharacter new) (λ c is. (is.0, let at = is.1 in omega (arith, at, grows))) g.characters h.characters.ranges;
+        ordered = h.characters.ordered;
+      };
+      block_variants = table-wider (IsVariant new) (IsVariant old) old new most_variants g.block_variants grows variant h.block_variants;
+      inline_variants = table-wider (IsVariant new) (IsVariant old) old new most_variants g.inline_variants grows variant h.inline_variants;
+      block_parts = table-wider (IsPart new) (IsPart old) old new most_parts g.block_parts grows part h.block_parts;
+      inline_parts = table-wider (IsPart new) (IsPart old) old new most_parts g.inline_parts grows part h.inline_parts;
+      operators = h.operators;
+    }
+
+with_character : (g : Given) (c : ℕ × ℕ) → IsGiven g → IsCharacter (length g.glyphs) c
+    → IsGiven (record g { characters = insert_entry nat_cmp g.characters c.0 c.1 })
+with_character g c h k = record {
+  upem = h.upem;
+  line = h.line;
+  x_height = h.x_height;
+  overlap = h.overlap;
+  constants = h.constants;
+  glyphs = h.glyphs;
+  characters = record {
+    ranges = all-insert (IsCharacter (length g.glyphs)) c.0 c.1 g.characters h.characters.ranges k;
+    ordered = ordered-insert c.0 c.1 g.characters h.characters.ordered;
+  };
+  block_variants = h.block_variants;
+  inline_variants = h.inline_variants;
+  block_parts = h.block_parts;
+  inline_parts = h.inline_parts;
+  operators = h.operators;
+}
+
+with_tables : (g : Given) (v w : ByGlyph Variant) (p q : ByGlyph Part) → IsGiven g
+    → IsTable (length g.glyphs) most_variants (IsVariant (length g.glyphs)) v
+    → IsTable (length g.glyphs) most_variants (IsVariant (length g.glyphs)) w
+    → IsTable (length g.glyphs) most_parts (IsPart (length g.glyphs)) p
+    → IsTable (length g.glyphs) most_parts (IsPart (length g.glyphs)) q
+    → IsGiven (record g { block_variants = v; inline_variants = w; block_parts = p; inline_parts = q })
+with_tables g v w p q h a b c d = record {
+  upem = h.upem;
+  line = h.line;
+  x_height = h.x_height;
+  overlap = h.overlap;
+  constants = h.constants;
+  glyphs = h.glyphs;
+  characters = h.characters;
+  block_variants = a;
+  inline_variants = b;
+  block_parts = c;
+  inline_parts = d;
+  operators = h.operators;
+}
+
+with_operators : (g : Given) (lines : List _) → IsGiven g → AreOperators lines → IsGiven (record g { operators = lines })
+with_operators g lines h k = record {
+  upem = h.upem;
+  line = h.line;
+  x_height = h.x_height;
+  overlap = h.overlap;
+  constants = h.constants;
+  glyphs = h.glyphs;
+  characters = h.characters;
+  block_variants = h.block_variants;
+  inline_variants = h.inline_variants;
+  block_parts = h.block_parts;
+  inline_parts = h.inline_parts;
+  operators = k;
+}
+
+variant_more : (glyphs : List NamedGlyph) (table : ByGlyph Variant) (fields : Words) (next : ByGlyph Variant)
+    → IsTable (length glyphs) most_variants (IsVariant (length glyphs)) table
+    → one_variant_more glyphs table fields ≡ Ok next
+    → IsTable (length glyphs) most_variants (IsVariant (length glyphs)) next
+variant_more glyphs table fields next h e =
+    let v = past (variant_in glyphs fields) (λ v. is_full most_variants table v.0) TooMany _ next e in
+    let is = variant_range glyphs fields v.0 v.1 in
+    subst (IsTable (length glyphs) most_variants (IsVariant (length glyphs))) v.3
+    (table-item (IsVariant (length glyphs)) (length glyphs) most_variants table v.0.0 v.0.1 h is.0 is.1 v.2)
+
+part_more : (glyphs : List NamedGlyph) (table : ByGlyph Part) (fields : Words) (next : ByGlyph Part)
+    → IsTable (length glyphs) most_parts (IsPart (length glyphs)) table
+    → one_part_more glyphs table fields ≡ Ok next
+    → IsTable (length glyphs) most_parts (IsPart (length glyphs)) next
+part_more glyphs table fields next h e =
+    let p = past (part_in glyphs fields) (λ p. is_full most_parts table p.0) TooMany _ next e in
+    let is = part_range glyphs fields p.0 p.1 in
+    subst (IsTable (length glyphs) most_parts (IsPart (length glyphs))) p.3
+    (table-item (IsPart (length glyphs)) (length glyphs) most_parts table p.0.0 p.0.1 h is.0 is.1 p.2)
+
+fields_keep : (g : Given) (k : Keyword) (fields : Words) (next : Given) → IsGiven g
+    → after_fields g k fields ≡ Ok next → IsGiven next
+fields_keep g Upem fields next h e =
+    let n = past (upem_in fields) (λ n. is_some g.upem) Repeated _ next e in
+    subst IsGiven n.3 (with_upem g n.0 h (upem_range fields n.0 n.1))
+fields_keep g Line fields next h e =
+    let n = past (line_in fields) (λ n. is_some g.line) Repeated _ next e in
+    subst IsGiven n.3 (with_line g n.0 h (line_range fields n.0 n.1))
+fields_keep g XHeight fields next h e =
+    let n = past (one_length_in fields) (λ n. is_some g.x_height) Repeated _ next e in
+    subst IsGiven n.3 (with_x_height g n.0 h (one_length_range fields n.0 n.1))
+fields_keep g Overlap fields next h e =
+    let n = past (one_length_in fields) (λ n. is_some g.overlap) Repeated _ next e in
+    subst IsGiven n.3 (with_overlap g n.0 h (one_length_range fields n.0 n.1))
+fields_keep g Constant fields next h e =
+    let c = past (constant_in fields) (λ c. is_some (lookup (nat_eq c.0) g.constants)) Repeated _ next e in
+    subst IsGiven c.3 (with_constant g c.0 h (constant_range fields c.0 c.1))
+fields_keep g Glyph fields next h e =
+    let n = had (glyph_in fields) _ next e in
+    let new = had (fault_if (is_some (place_of_name g.glyphs n.0.name)) Repeated) _ next n.2 in
+    let room = had (fault_if (nat_le most_glyphs (length g.glyphs)) TooMany) _ next new.2 in
+    subst IsGiven (same_Ok _ next room.2)
+    (with_glyph g n.0 h
+    (glyphs-push g.glyphs n.0 h.glyphs (glyph_range fields n.0 n.1) (free _ Repeated new.0 new.1) (free _ TooMany room.0 room.1)))
+fields_keep g Char fields next h e =
+    let c = past (character_in g.glyphs fields) (λ c. is_some (lookup (nat_eq c.0) g.characters)) Repeated _ next e in
+    subst IsGiven c.3 (with_character g c.0 h (character_range g.glyphs fields c.0 c.1))
+fields_keep g BlockVariant fields next h e =
+    let t = had (one_variant_more g.glyphs g.block_variants fields) _ next e in
+    subst IsGiven (same_Ok _ next t.2)
+    (with_tables g t.0 g.inline_variants g.block_parts g.inline_parts h
+    (variant_more g.glyphs g.block_variants fields t.0 h.block_variants t.1) h.inline_variants h.block_parts h.inline_parts)
+fields_keep g InlineVariant fields next h e =
+    let t = had (one_variant_more g.glyphs g.inline_variants fields) _ next e in
+    subst IsGiven (same_Ok _ next t.2)
+    (with_tables g g.block_variants t.0 g.block_parts g.inline_parts h h.block_variants
+    (variant_more g.glyphs g.inline_variants fields t.0 h.inline_variants t.1) h.block_parts h.inline_parts)
+fields_keep g BlockPart fields next h e =
+    let t = had (one_part_more g.glyphs g.block_parts fields) _ next e in
+    subst IsGiven (same_Ok _ next t.2)
+    (with_tables g g.block_variants g.inline_variants t.0 g.inline_parts h h.block_variants h.inline_variants
+    (part_more g.glyphs g.block_parts fields t.0 h.block_parts t.1) h.inline_parts)
+fields_keep g InlinePart fields next h e =
+    let t = had (one_part_more g.glyphs g.inline_parts fields) _ next e in
+    subst IsGiven (same_Ok _ next t.2)
+    (with_tables g g.block_variants g.inline_variants g.block_parts t.0 h h.block_variants h.inline_variants h.block_parts
+    (part_more g.glyphs g.inline_parts fields t.0 h.inline_parts t.1))
+fields_keep g Operator fields next h e =
+    let l = past (operator_in fields) (λ l. is_named g.operators l.text l.form) Repeated _ next e in
+    subst IsGiven l.3
+    (with_operators g (g.operators ++ l.0 ∷ []) h
+    (operators-push g.operators l.0 h.operators (operator_range fields l.0 l.1) l.2))
+fields_keep g Unknown fields next h e = no_value UnknownWord next e
+
+words_keep : (g : Given) (words : Words) (next : Given) → IsGiven g → after_words g words ≡ Ok next → IsGiven next
+words_keep g [] next h e = subst IsGiven (same_Ok g next e) h
+words_keep g (word ∷ fields) next h e = fields_keep g (keyword_of word) fields next h e
 
 -- ---- lines
 
-upem_range : (fields : Words) (n : ℕ) → upem_in Upem fields ≡ Some n → IsUpem n
-upem_range [] n h = absurd (none-some n h)
-upem_range (a ∷ []) n h = natural_between 16 16384 a n h
-upem_range (a ∷ b ∷ more) n h = absurd (none-some n h)
-
-line_range : (fields : Words) (n : ℕ × ℕ) → line_in Line fields ≡ Some n → (n.0 ≤ 65535) × (n.1 ≤ 65535)
-line_range [] n h = absurd (none-some n h)
-line_range (a ∷ []) n h = absurd (none-some n h)
-line_range (a ∷ b ∷ []) n h =
-    let up = had (natural_in 0 65535 a) _ n h in
-    let down = had (natural_in 0 65535 b) _ n up.2 in
-    let e = same_Some (up.0, down.0) n down.2 in
-    (subst (λ m. m.0 ≤ 65535) e (natural_between 0 65535 a up.0 up.1).1, subst (λ m. m.1 ≤ 65535) e (natural_between 0 65535 b down.0 down.1).1)
-line_range (a ∷ b ∷ c ∷ more) n h = absurd (none-some n h)
-
-x_height_range : (fields : Words) (n : ℕ) → x_height_in XHeight fields ≡ Some n → n ≤ 65535
-x_height_range [] n h = absurd (none-some n h)
-x_height_range (a ∷ []) n h = (natural_between 0 65535 a n h).1
-x_height_range (a ∷ b ∷ more) n h = absurd (none-some n h)
-
-glyph_range : (fields : Words) (g : NamedGlyph) → glyph_in Glyph fields ≡ Some g → IsInDesign g.glyph
-glyph_range [] g h = absurd (none-some g h)
-glyph_range (a ∷ []) g h = absurd (none-some g h)
-glyph_range (a ∷ b ∷ []) g h = absurd (none-some g h)
-glyph_range (a ∷ b ∷ c ∷ []) g h = absurd (none-some g h)
-glyph_range (a ∷ b ∷ c ∷ d ∷ []) g h =
-    let name = had (name_in a) _ g h in
-    let advance = had (natural_in 0 65535 b) _ g name.2 in
-    let up = had (number_in (negsuc 32767) (pos 65535) c) _ g advance.2 in
-    let down = had (number_in (negsuc 32767) (pos 65535) d) _ g up.2 in
-    let wide = natural_between 0 65535 b advance.0 advance.1 in
-    subst (λ n. IsInDesign n.glyph) (same_Some _ g down.2) (record {
-      advance = widened (2 ^ 16) (natural_within advance.0) (omega (arith, wide));
-      ink_ascent = signed_within c up.0 up.1;
-      ink_descent = signed_within d down.0 down.1;
-      italic = widened (2 ^ 16) (natural_within 0) (omega arith);
-      accent = tt;
-    })
-glyph_range (a ∷ b ∷ c ∷ d ∷ e ∷ more) g h = absurd (none-some g h)
-
-char_range : (glyphs : List NamedGlyph) (fields : Words) (c : ℕ × ℕ) → char_in glyphs Char fields ≡ Some c
-    → c.1 < length glyphs
-char_range glyphs [] c h = absurd (none-some c h)
-char_range glyphs (a ∷ []) c h = absurd (none-some c h)
-char_range glyphs (a ∷ b ∷ []) c h =
-    let letter = had (code_of a) _ c h in
-    let name = had (name_in b) _ c letter.2 in
-    let place = had (place_of_name glyphs name.0) _ c name.2 in
-    subst (λ m. m.1 < length glyphs) (same_Some (letter.0, place.0) c place.2) (place_within glyphs name.0 place.0 place.1)
-char_range glyphs (a ∷ b ∷ d ∷ more) c h = absurd (none-some c h)
-
--- ---- what lines give
-
-glyph_keeps : (g : Given) (n : NamedGlyph) (h : Given) → IsGiven g → IsInDesign n.glyph
-    → with_glyph g n ≡ Some h → IsGiven h
-glyph_keeps g n h given within e = by (is_some (place_of_name g.glyphs n.name)) (nat_lt (length g.glyphs) 65535) refl e
-  where
-    by : (used room : Bool) → nat_lt (length g.glyphs) 65535 ≡ room
-        → (if used then None else if room then Some (record g { glyphs = g.glyphs ++ n ∷ [] }) else None) ≡ Some h
-        → IsGiven h
-    by true room r e = absurd (none-some h e)
-    by false false r e = absurd (none-some h e)
-    by false true r e =
-        let size = length-append g.glyphs (n ∷ []) in
-        let small : length g.glyphs < 65535 = grind (arith, nat_tests) in
-        subst IsGiven (same_Some _ h e) (record {
-          upem = given.upem;
-          line = given.line;
-          x_height = given.x_height;
-          count = omega (arith, size, small);
-          glyphs = All-push (λ g. IsInDesign g.glyph) g.glyphs n given.glyphs within;
-          characters = All-weaker (λ c. c.1 < length g.glyphs) (λ c. c.1 < length (g.glyphs ++ n ∷ [])) (λ c k. omega (arith, size, k)) g.characters given.characters;
-        })
-
-char_keeps : (g : Given) (c : ℕ × ℕ) (h : Given) → IsGiven g → c.1 < length g.glyphs
-    → with_character g c ≡ Some h → IsGiven h
-char_keeps g c h given within e = by (is_some (place_of_code g.characters c.0)) e
-  where
-    by : (used : Bool)
-        → (if used then None else Some (record g { characters = g.characters ++ c ∷ [] })) ≡ Some h
-        → IsGiven h
-    by true e = absurd (none-some h e)
-    by false e =
-        subst IsGiven (same_Some _ h e) (record {
-          upem = given.upem;
-          line = given.line;
-          x_height = given.x_height;
-          count = given.count;
-          glyphs = given.glyphs;
-          characters = All-push (λ c. c.1 < length g.glyphs) g.characters c given.characters within;
-        })
-
-fields_keep : (g : Given) (k : Keyword) (fields : Words) (h : Given) → IsGiven g
-    → after_fields g k fields ≡ Some h → IsGiven h
-fields_keep g Version fields h given e = subst IsGiven (mapped (version_in Version fields) (λ one. g) h e).2 given
-fields_keep g Upem fields h given e =
-    let n = mapped (upem_in Upem fields) _ h e in
-    subst IsGiven n.2 (record {
-      upem = upem_range fields n.0 n.1;
-      line = given.line;
-      x_height = given.x_height;
-      count = given.count;
-      glyphs = given.glyphs;
-      characters = given.characters;
-    })
-fields_keep g Line fields h given e =
-    let n = mapped (line_in Line fields) _ h e in
-    subst IsGiven n.2 (record {
-      upem = given.upem;
-      line = line_range fields n.0 n.1;
-      x_height = given.x_height;
-      count = given.count;
-      glyphs = given.glyphs;
-      characters = given.characters;
-    })
-fields_keep g XHeight fields h given e =
-    let n = mapped (x_height_in XHeight fields) _ h e in
-    subst IsGiven n.2 (record {
-      upem = given.upem;
-      line = given.line;
-      x_height = x_height_range fields n.0 n.1;
-      count = given.count;
-      glyphs = given.glyphs;
-      characters = given.characters;
-    })
-fields_keep g Glyph fields h given e =
-    let n = had (glyph_in Glyph fields) (with_glyph g) h e in
-    glyph_keeps g n.0 h given (glyph_range fields n.0 n.1) n.2
-fields_keep g Char fields h given e =
-    let c = had (char_in g.glyphs Char fields) (with_character g) h e in
-    char_keeps g c.0 h given (char_range g.glyphs fields c.0 c.1) c.2
-fields_keep g Other fields h given e = absurd (none-some h e)
-
--- a line that may stand where it does keeps the ranges
-pub after_keeps : (g : Given) (line : Words) (h : Given) → IsGiven g → after g line ≡ Some h → IsGiven h
+-- a line that isn't faulty keeps the ranges
+pub after_keeps : (g : Given) (line : List ℕ) (next : Given) → IsGiven g → after g line ≡ Ok next → IsGiven next
 unfolding after
-after_keeps g [] h given e = absurd (none-some h e)
-after_keeps g (word ∷ fields) h given e = by (may_follow g.last (keyword_of word)) e
+after_keeps g line next h e =
+    let plain = had (fault_if (is_foreign line) ForeignByte) _ next e in
+    by (is_comment line) plain.2
   where
-    last : Given
-    last = record g { last = Some (keyword_of word) }
-
-    by : (b : Bool) → (if b then after_fields last (keyword_of word) fields else None) ≡ Some h → IsGiven h
-    by false e = absurd (none-some h e)
-    by true e =
-        fields_keep last (keyword_of word) fields h
-        (record {
-          upem = given.upem;
-          line = given.line;
-          x_height = given.x_height;
-          count = given.count;
-          glyphs = given.glyphs;
-          characters = given.characters;
-        }) e
+    by : (b : Bool) → (if b then Ok g else after_words g (words_of line)) ≡ Ok next → IsGiven next
+    by true k = subst IsGiven (same_Ok g next k) h
+    by false k = words_keep g (words_of line) next h k
 
 pub nothing_given : IsGiven nothing
+unfolding IsDistinct IsStrictlySortedBy
 nothing_given = record {
   upem = tt;
   line = tt;
   x_height = tt;
-  count = omega arith;
-  glyphs = All-nil (λ g. IsInDesign g.glyph);
-  characters = All-nil (λ c. c.1 < 0);
+  overlap = tt;
+  constants = record { ranges = All-nil IsConstant; ordered = tt };
+  glyphs = record { count = omega arith; ranges = All-nil IsGlyph; names = tt };
+  characters = record { ranges = All-nil (IsCharacter 0); ordered = tt };
+  block_variants = record { ordered = tt; entries = All-nil _ };
+  inline_variants = record { ordered = tt; entries = All-nil _ };
+  block_parts = record { ordered = tt; entries = All-nil _ };
+  inline_parts = record { ordered = tt; entries = All-nil _ };
+  operators = record { texts = All-nil _; distinct = tt };
 }
+
+pub first_gives : (line : List ℕ) (next : Given) → after_first line ≡ Ok next → next ≡ nothing
+unfolding after_first
+first_gives line next e =
+    let plain = had (fault_if (is_foreign line) ForeignByte) _ next e in
+    let version = had (fault_if (not (is_version (words_of line))) WrongFirstLine) _ next plain.2 in
+    sym (same_Ok nothing next version.2)

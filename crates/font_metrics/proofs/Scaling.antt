@@ -1,5 +1,5 @@
 -- How far values at a font size reach, and that machine numbers hold them.
-use Rattle.std.proofs.Common.{◌≡◌, ◌∙◌, ap, subst, sym, ℕ, ◌*◌, ◌<◌, ◌≤◌, ◌^◌, to_z, of_z, w64, lit<, arith, ℤ, pos, ◌*ℤ◌, ◌≤ℤ◌}
+use Rattle.std.proofs.Common.{FitsSigned, w32, ◌≡◌, ◌∙◌, ap, subst, sym, ℕ, ◌*◌, ◌<◌, ◌≤◌, ◌^◌, to_z, of_z, w64, lit<, arith, ℤ, pos, ◌*ℤ◌, ◌≤ℤ◌}
 use Rattle.std.specs.Int.{w128}
 use Rattle.std.proofs.lemmas.Int.{to_z-of_z}
 use Rattle.fixed_units.specs.Numbers.{IsWithin}
@@ -45,3 +45,9 @@ product_back value size wide v s e =
 pub upem_back : (upem : ℕ) (wide : ℤ) → upem < 2 ^ 16 → wide ≡ pos upem
     → to_z w128 (of_z w128 wide) ≡ pos upem
 upem_back upem wide small e = ap (λ z. to_z w128 (of_z w128 z)) e ∙ back128 (natural_in upem) (omega arith)
+
+fits_i32 : {z : ℤ} → IsWithin (2 ^ 16) z → FitsSigned w32 z
+fits_i32 h = omega (arith, signed)
+
+pub back32 : {z : ℤ} → IsWithin (2 ^ 16) z → to_z w32 (of_z w32 z) ≡ z
+back32 h = to_z-of_z w32 _ (fits_i32 h)

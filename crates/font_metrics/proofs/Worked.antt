@@ -1,61 +1,93 @@
 -- Worked files: the definitions, computed.
-use Rattle.std.proofs.Common.{◌≡◌, ℕ, pos, List, [], ◌∷◌, ◌++◌, codes, Some, None, refl}
-use Rattle.font_metrics.specs.Metrics.{NamedGlyph}
-use Rattle.font_metrics.specs.Words.{value_of_digits, numeral_of, number_of, number_in, natural_in, code_of, is_name, name_in}
+use Rattle.std.proofs.Common.{◌≡◌, ℕ, pos, negsuc, List, [], ◌∷◌, ◌++◌, codes, Some, None, Result, Ok, Err, refl}
+use Rattle.font_metrics.specs.declared.fault.LineFault.TheVariants.{ForeignByte, WrongFirstLine, UnknownWord, FieldCount, NotANumber, OutOfRange, WrongWord, NotNamed, Repeated, NoUpem, NoMissing}
+use Rattle.font_metrics.specs.Metrics.{NamedGlyph, MetricsValue}
+use Rattle.font_metrics.specs.Words.{value_of_digits, numeral_of, number_of, number_in, natural_in, code_of, letter_in, is_name, name_in, operator_text_in, form_in, axis_in, category_in, extender_in}
+use Rattle.font_metrics.specs.Constants.{place_of_text}
 use Rattle.font_metrics.specs.Lines.{keyword_of}
-use Rattle.font_metrics.specs.Short.{lines_of, short_of, short_metrics}
+use Rattle.font_metrics.specs.Reading.{Fault, fault_at, words_of, is_foreign, after, after_first, finished, metrics_of}
 
 -- lines with their line feeds
 abbrev feed : List ℕ
 feed = 10 ∷ []
 
 abbrev header : List ℕ
-header = codes "mathlay-metrics 1" ++ feed ++ codes "upem 1024" ++ feed ++ codes "line 900 300" ++ feed ++ codes "xheight 512" ++ feed
+header = codes "mathlay-metrics 1" ++ feed ++ codes "# small" ++ feed ++ codes "upem 1024" ++ 13 ∷ feed ++ codes "line 900 300" ++ feed ++ codes "xheight 512" ++ feed
 
 abbrev missing_line : List ℕ
-missing_line = codes "glyph missing 512 600 0" ++ feed
+missing_line = codes "glyph  missing 512 600 0" ++ feed
 
-abbrev one_line : List ℕ
-one_line = codes "glyph one 512 680 0" ++ feed
+an-empty-file : metrics_of [] ≡ Err (fault_at 1 WrongFirstLine)
+unfolding metrics_of after_first is_foreign words_of
+an-empty-file = refl
 
-abbrev char_line : List ℕ
-char_line = codes "char 0031 one" ++ feed
-
-abbrev glyph_named : List ℕ → ℕ → NamedGlyph
-glyph_named name ink =
-    record { name = name; glyph = record { advance = pos 512; ink_ascent = pos ink; ink_descent = pos 0; italic = pos 0; accent = None } }
-
-a-short-file : short_metrics (header ++ missing_line ++ one_line ++ char_line) ≡ Some (record {
+a-small-file : metrics_of (header ++ missing_line) ≡ Ok (record {
   upem = 1024;
   line_ascent = 900;
   line_descent = 300;
   x_height = 512;
-  glyphs = glyph_named (codes "missing") 600 ∷ glyph_named (codes "one") 680 ∷ [];
-  characters = (0x31, 1) ∷ [];
+  overlap = None;
+  constants = [];
+  glyphs = record { name = codes "missing"; glyph = record { advance = pos 512; ink_ascent = pos 600; ink_descent = pos 0; italic = pos 0; accent = None } } ∷ [];
+  characters = [];
+  block_variants = [];
+  inline_variants = [];
+  block_parts = [];
+  inline_parts = [];
+  operators = [];
 })
-unfolding value_of_digits numeral_of number_of number_in natural_in code_of is_name name_in lines_of keyword_of short_of short_metrics
-a-short-file = refl
+unfolding metrics_of after_first after finished is_foreign words_of keyword_of value_of_digits numeral_of number_of number_in natural_in is_name name_in
+a-small-file = refl
 
--- the last line lacks its line feed
-cut-off : short_metrics (header ++ codes "glyph missing 512 600 0") ≡ None
-unfolding lines_of short_metrics
-cut-off = refl
+nothing-given : metrics_of (codes "mathlay-metrics 1") ≡ Err (fault_at 2 NoUpem)
+unfolding metrics_of after_first after finished is_foreign words_of keyword_of
+nothing-given = refl
 
--- a character stands before a glyph
-another-order : short_metrics (header ++ missing_line ++ char_line ++ one_line) ≡ None
-unfolding value_of_digits numeral_of number_of number_in natural_in code_of is_name name_in lines_of keyword_of short_of short_metrics
-another-order = refl
+-- ---- a fault of each kind, in the line behind these
 
--- no glyph is called `missing`
-no-missing : short_metrics (header ++ one_line ++ char_line) ≡ None
-unfolding value_of_digits numeral_of number_of number_in natural_in code_of is_name name_in lines_of keyword_of short_of short_metrics
-no-missing = refl
+abbrev line_behind : List ℕ → List ℕ
+line_behind line = header ++ missing_line ++ line
 
--- a glyph has two lines, and a character has two
-glyph-twice : short_metrics (header ++ missing_line ++ missing_line) ≡ None
-unfolding value_of_digits numeral_of number_of number_in natural_in code_of is_name name_in lines_of keyword_of short_of short_metrics
-glyph-twice = refl
+a-control-byte : metrics_of (line_behind (codes "upem" ++ 1 ∷ [])) ≡ Err (fault_at 7 ForeignByte)
+unfolding metrics_of after_first after finished is_foreign words_of keyword_of value_of_digits numeral_of number_of number_in natural_in code_of letter_in is_name name_in extender_in place_of_text
+a-control-byte = refl
 
-character-twice : short_metrics (header ++ missing_line ++ one_line ++ char_line ++ char_line) ≡ None
-unfolding value_of_digits numeral_of number_of number_in natural_in code_of is_name name_in lines_of keyword_of short_of short_metrics
-character-twice = refl
+an-unknown-word : metrics_of (line_behind (codes "Upem 1024")) ≡ Err (fault_at 7 UnknownWord)
+unfolding metrics_of after_first after finished is_foreign words_of keyword_of value_of_digits numeral_of number_of number_in natural_in code_of letter_in is_name name_in extender_in place_of_text
+an-unknown-word = refl
+
+a-field-too-many : metrics_of (line_behind (codes "overlap 1 2")) ≡ Err (fault_at 7 FieldCount)
+unfolding metrics_of after_first after finished is_foreign words_of keyword_of value_of_digits numeral_of number_of number_in natural_in code_of letter_in is_name name_in extender_in place_of_text
+a-field-too-many = refl
+
+seven-digits : metrics_of (line_behind (codes "overlap 0000001")) ≡ Err (fault_at 7 NotANumber)
+unfolding metrics_of after_first after finished is_foreign words_of keyword_of value_of_digits numeral_of number_of number_in natural_in code_of letter_in is_name name_in extender_in place_of_text
+seven-digits = refl
+
+a-surrogate : metrics_of (line_behind (codes "char D800 missing")) ≡ Err (fault_at 7 OutOfRange)
+unfolding metrics_of after_first after finished is_foreign words_of keyword_of value_of_digits numeral_of number_of number_in natural_in code_of letter_in is_name name_in extender_in place_of_text
+a-surrogate = refl
+
+a-lower-case-role : metrics_of (line_behind (codes "vassembly missing missing fix 0 0 0")) ≡ Err (fault_at 7 WrongWord)
+unfolding metrics_of after_first after finished is_foreign words_of keyword_of value_of_digits numeral_of number_of number_in natural_in code_of letter_in is_name name_in extender_in place_of_text
+a-lower-case-role = refl
+
+an-unnamed-glyph : metrics_of (line_behind (codes "char 0031 one")) ≡ Err (fault_at 7 NotNamed)
+unfolding metrics_of after_first after finished is_foreign words_of keyword_of value_of_digits numeral_of number_of number_in natural_in code_of letter_in is_name name_in extender_in place_of_text
+an-unnamed-glyph = refl
+
+an-unknown-constant : metrics_of (line_behind (codes "const axisHeight 0")) ≡ Err (fault_at 7 NotNamed)
+unfolding metrics_of after_first after finished is_foreign words_of keyword_of value_of_digits numeral_of number_of number_in natural_in code_of letter_in is_name name_in extender_in place_of_text
+an-unknown-constant = refl
+
+a-second-glyph-of-a-name : metrics_of (line_behind (codes "glyph missing 0 0 0")) ≡ Err (fault_at 7 Repeated)
+unfolding metrics_of after_first after finished is_foreign words_of keyword_of value_of_digits numeral_of number_of number_in natural_in code_of letter_in is_name name_in extender_in place_of_text
+a-second-glyph-of-a-name = refl
+
+a-pair-too-long : operator_text_in (codes "1D44E+0338") ≡ Err OutOfRange
+unfolding operator_text_in code_of numeral_of value_of_digits
+a-pair-too-long = refl
+
+without-missing : metrics_of header ≡ Err (fault_at 6 NoMissing)
+unfolding metrics_of after_first after finished is_foreign words_of keyword_of value_of_digits numeral_of number_of number_in natural_in is_name name_in
+without-missing = refl

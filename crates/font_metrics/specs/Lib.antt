@@ -1,8 +1,11 @@
-pub mod Metrics
+pub mod Faults
 pub mod Words
+pub mod Constants
+pub mod Metrics
+pub mod Taken
 pub mod Lines
-pub mod Short
+pub mod Reading
 pub mod Reads
 pub mod Kept
 pub mod Whole
-pub mod Taking
+pub mod Print

@@ -1,35 +1,52 @@
 -- What a metrics file says, and what is read off it at a font size.
-use Rattle.std.specs.Prelude.{ℕ, ◌≤◌, ◌<◌, ◌^◌, ℤ, pos, ◌*ℤ◌, List, [], length, codes, Option, None, unwrap_or, IfSome, IsSome, nat_eq, slice_index_or, position}
-use Rattle.std.specs.List.{All}
-use Rattle.std.specs.Map.{lookup}
+use Rattle.std.specs.Prelude.{ℕ, ◌≤◌, ◌<◌, ◌^◌, ℤ, pos, negsuc, ◌≤ℤ◌, ◌*ℤ◌, if◌then◌else◌, IsTrue, List, [], length, map, codes, Option, Some, None, unwrap_or, IfSome, IsSome, nat_eq, slice_index_or, position}
+use Rattle.std.specs.List.{All, IsDistinct}
+use Rattle.std.specs.List.Sorted.{IsStrictlySortedBy}
+use Rattle.std.specs.Map.{lookup, keys_of}
+use Rattle.std.specs.Ordering.{nat_cmp, int_eq}
 use Rattle.std.specs.Str.{bytes_eq}
 use Rattle.fixed_units.specs.Numbers.{IsWithin, rounded}
+use Rattle.op_dictionary.specs.declared.extra.OperatorLine.{OperatorLine}
+use Rattle.op_dictionary.specs.declared.operator.Axis.{Axis}
+use Rattle.op_dictionary.specs.declared.operator.Axis.TheVariants.{Block, Inline}
+use Rattle.op_dictionary.specs.declared.text.OpText.{OpText}
+use Rattle.op_dictionary.specs.declared.text.OpText.TheVariants.{One, Two}
+use Rattle.op_dictionary.specs.Dictionary.{AreDistinct}
+use Rattle.op_dictionary.specs.Pairs.{IsLineText}
+use Rattle.font_metrics.specs.declared.constants.ConstName.{ConstName}
+use Rattle.font_metrics.specs.declared.constants.ConstName.TheVariants.{ScriptPercentScaleDown, ScriptScriptPercentScaleDown, RadicalDegreeBottomRaisePercent}
 use Rattle.font_metrics.specs.declared.glyph.Glyph.{Glyph}
+use Rattle.font_metrics.specs.declared.growth.Variant.{Variant}
+use Rattle.font_metrics.specs.declared.growth.Part.{Part}
+use Rattle.font_metrics.specs.Constants.{place_of_constant, lowest_of, highest_of}
+use Rattle.font_metrics.specs.Words.{is_scalar, is_name}
 
 -- a glyph with the name that the file gives it
 pub record NamedGlyph : Type 0 where
   pub name : List ℕ
   pub glyph : Glyph
 
--- the numbers of a metrics file in design units, its glyphs in file order, and its characters in
--- file order, each a code with the place of a glyph
+-- a table by the places of glyphs, which increase; each list in file order
+abbrev pub ByGlyph : Type 0 → Type 0
+ByGlyph X = List (ℕ × List X)
+
+-- The numbers of a metrics file in design units; what may lack is an option. Glyphs and operator
+-- lines stand in file order. Constants are pairs of a place in the table of constants and a value,
+-- by that place; characters are pairs of a code and the place of a glyph, by that code.
 pub record MetricsValue : Type 0 where
   pub upem : ℕ
   pub line_ascent : ℕ
   pub line_descent : ℕ
   pub x_height : ℕ
+  pub overlap : Option ℕ
+  pub constants : List (ℕ × ℤ)
   pub glyphs : List NamedGlyph
   pub characters : List (ℕ × ℕ)
-
-abbrev pub metrics_value : ℕ → ℕ → ℕ → ℕ → List NamedGlyph → List (ℕ × ℕ) → MetricsValue
-metrics_value upem ascent descent x_height glyphs characters = record {
-  upem = upem;
-  line_ascent = ascent;
-  line_descent = descent;
-  x_height = x_height;
-  glyphs = glyphs;
-  characters = characters;
-}
+  pub block_variants : ByGlyph Variant
+  pub inline_variants : ByGlyph Variant
+  pub block_parts : ByGlyph Part
+  pub inline_parts : ByGlyph Part
+  pub operators : List OperatorLine
 
 -- ---- what is looked up
 
@@ -41,6 +58,10 @@ place_of_name glyphs name = position (λ g. bytes_eq name g.name) glyphs
 abbrev pub place_of_code : List (ℕ × ℕ) → ℕ → Option ℕ
 place_of_code characters code = lookup (nat_eq code) characters
 
+-- what a table has at a glyph
+abbrev pub items_of : {X : Type 0} → ByGlyph X → ℕ → List X
+items_of table place = unwrap_or (lookup (nat_eq place) table) []
+
 -- the place of the glyph that stands for what a font lacks
 unfoldable pub missing_place : MetricsValue → ℕ
 missing_place m = unwrap_or (place_of_name m.glyphs (codes "missing")) 0
@@ -49,18 +70,11 @@ missing_place m = unwrap_or (place_of_name m.glyphs (codes "missing")) 0
 unfoldable pub place_of_letter : MetricsValue → ℕ → ℕ
 place_of_letter m code = unwrap_or (place_of_code m.characters code) (missing_place m)
 
--- a glyph without an italics correction, and with no accent's place of its own
-abbrev pub plain_glyph : ℤ → ℤ → ℤ → Glyph
-plain_glyph advance ink_ascent ink_descent = record {
-  advance = advance;
-  ink_ascent = ink_ascent;
-  ink_descent = ink_descent;
-  italic = pos 0;
-  accent = None;
-}
-
 abbrev pub nameless : NamedGlyph
-nameless = record { name = []; glyph = plain_glyph (pos 0) (pos 0) (pos 0) }
+nameless = record {
+  name = [];
+  glyph = record { advance = pos 0; ink_ascent = pos 0; ink_descent = pos 0; italic = pos 0; accent = None };
+}
 
 -- the glyph at a place, and its name
 abbrev pub glyph_in_list : List NamedGlyph → ℕ → Glyph
@@ -75,6 +89,22 @@ glyph_at m place = glyph_in_list m.glyphs place
 unfoldable pub name_at : MetricsValue → ℕ → List ℕ
 name_at m place = name_in_list m.glyphs place
 
+-- the variants of a glyph along an axis, in file order
+abbrev pub variants_along : Axis → MetricsValue → ByGlyph Variant
+variants_along Block m = m.block_variants
+variants_along Inline m = m.inline_variants
+
+unfoldable pub variants_of : MetricsValue → ℕ → Axis → List Variant
+variants_of m place axis = items_of (variants_along axis m) place
+
+-- the parts of a glyph's assembly along an axis, in file order
+abbrev pub parts_along : Axis → MetricsValue → ByGlyph Part
+parts_along Block m = m.block_parts
+parts_along Inline m = m.inline_parts
+
+unfoldable pub parts_of : MetricsValue → ℕ → Axis → List Part
+parts_of m place axis = items_of (parts_along axis m) place
+
 -- ---- values at a font size
 
 -- a value in design units at a font size: value * size / upem, rounded
@@ -87,27 +117,42 @@ line_ascent_of m size = scale_of m (pos m.line_ascent) size
 abbrev pub line_descent_of : MetricsValue → ℤ → ℤ
 line_descent_of m size = scale_of m (pos m.line_descent) size
 
--- ---- what holds of every metrics file that is taken
+-- one ex
+abbrev pub ex_of : MetricsValue → ℤ → ℤ
+ex_of m size = scale_of m (pos m.x_height) size
 
--- a glyph's number has 16 bits, and the last of them isn't given
-abbrev pub most_glyphs : ℕ
-most_glyphs = 65535
+-- the least connector overlap, 0 where absent
+abbrev pub overlap_of : MetricsValue → ℤ
+overlap_of m = pos (unwrap_or m.overlap 0)
 
--- each number of a glyph lies within 2^16 design units
-pub record IsInDesign (g : Glyph) : Type 0 where
-  pub advance : IsWithin (2 ^ 16) g.advance
-  pub ink_ascent : IsWithin (2 ^ 16) g.ink_ascent
-  pub ink_descent : IsWithin (2 ^ 16) g.ink_descent
-  pub italic : IsWithin (2 ^ 16) g.italic
-  pub accent : IfSome g.accent (IsWithin (2 ^ 16))
+-- a constant that the file gives
+abbrev pub given_constant : MetricsValue → ConstName → Option ℤ
+given_constant m name = lookup (nat_eq (place_of_constant name)) m.constants
 
-pub record IsTaken (m : MetricsValue) : Type 0 where
-  pub upem_low : 16 ≤ m.upem
-  pub upem_high : m.upem ≤ 16384
-  pub line_ascent : m.line_ascent ≤ 65535
-  pub line_descent : m.line_descent ≤ 65535
-  pub x_height : m.x_height ≤ 65535
-  pub count : length m.glyphs ≤ most_glyphs
-  pub glyphs : All (λ g. IsInDesign g.glyph) m.glyphs
-  pub missing : IsSome (place_of_name m.glyphs (codes "missing"))
-  pub characters : All (λ c. c.1 < length m.glyphs) m.characters
+-- a constant at a size; an absent one is 0
+unfoldable pub constant_of : MetricsValue → ConstName → ℤ → ℤ
+constant_of m name size = scale_of m (unwrap_or (given_constant m name) (pos 0)) size
+
+-- a percent that counts as absent where it is 0
+abbrev pub or_default : ℤ → Option ℤ → ℤ
+or_default default None = default
+or_default default (Some given) = if int_eq given (pos 0) then default else given
+
+-- the percents: 70 and 50 where a scale-down is absent or 0, and 60 where the degree raise is absent
+unfoldable pub percent_of : MetricsValue → ConstName → ℤ
+percent_of m ScriptPercentScaleDown = or_default (pos 70) (given_constant m ScriptPercentScaleDown)
+percent_of m ScriptScriptPercentScaleDown = or_default (pos 50) (given_constant m ScriptScriptPercentScaleDown)
+percent_of m name = unwrap_or (given_constant m name) (pos 60)
+
+-- the constants that are percents
+abbrev pub IsPercent : ConstName → Type 0
+IsPercent ScriptPercentScaleDown = Unit {0}
+IsPercent ScriptScriptPercentScaleDown = Unit {0}
+IsPercent RadicalDegreeBottomRaisePercent = Unit {0}
+IsPercent name = ⊥
+
+-- those of them that scale scripts down
+abbrev pub IsScaleDown : ConstName → Type 0
+IsScaleDown ScriptPercentScaleDown = Unit {0}
+IsScaleDown ScriptScriptPercentScaleDown = Unit {0}
+IsScaleDown name = ⊥

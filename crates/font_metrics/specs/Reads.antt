@@ -1,10 +1,38 @@
 -- What reading answers.
-use Rattle.std.specs.Prelude.{◌≡◌, Option, Some, None, Result, Ok, Err}
+use Rattle.std.specs.Prelude.{◌≡◌, ℕ, Result, Ok, Err}
+use Rattle.font_metrics.specs.declared.refusal.LineRefusal.{LineRefusal}
+use Rattle.font_metrics.specs.declared.refusal.LineRefusal.TheVariants.{Fault as FaultyLine, Memory as NoMemory}
+use Rattle.font_metrics.specs.declared.refusal.MetricsFault.{MetricsFault}
 use Rattle.font_metrics.specs.declared.refusal.MetricsRefusal.{MetricsRefusal}
-use Rattle.font_metrics.specs.declared.refusal.MetricsRefusal.TheVariants.{Later, Memory}
+use Rattle.font_metrics.specs.declared.refusal.MetricsRefusal.TheVariants.{Fault as Faulty, Memory}
+use Rattle.font_metrics.specs.Faults.{Step, number_of_fault}
+use Rattle.font_metrics.specs.Reading.{Fault, fault_at}
 
--- Ok exactly with the value, where there is one, and Later exactly where there is none
-abbrev pub Reads : {X : Type 0} → Option X → Result X MetricsRefusal → Type 0
-Reads value (Ok read) = value ≡ Some read
-Reads value (Err Later) = value ≡ None
-Reads value (Err Memory) = Unit {0}
+-- a fault as it is told: the line's number and the number of the fault's kind
+abbrev pub told : Fault → MetricsFault
+told f = record { line = f.line; kind = number_of_fault f.fault }
+
+-- Ok exactly with what the file says, and Fault exactly with its first fault
+abbrev pub Reads : {X : Type 0} → Result X Fault → Result X MetricsRefusal → Type 0
+Reads said (Ok read) = said ≡ Ok read
+Reads said (Err (Faulty fault)) = (f : Fault) × (said ≡ Err f) × (told f ≡ fault)
+Reads said (Err Memory) = Unit {0}
+
+-- ---- of one line
+
+-- what is given then, or exactly the first fault of the line
+abbrev pub Takes : {X : Type 0} → Step X → X → Result (Unit {0}) LineRefusal → Type 0
+Takes step new (Ok done) = step ≡ Ok new
+Takes step new (Err (FaultyLine fault)) = step ≡ Err fault
+Takes step new (Err NoMemory) = Unit {0}
+
+-- the same, where the line begins the file
+abbrev pub Begins : {X : Type 0} → Step X → Result X LineRefusal → Type 0
+Begins step (Ok new) = step ≡ Ok new
+Begins step (Err (FaultyLine fault)) = step ≡ Err fault
+Begins step (Err NoMemory) = Unit {0}
+
+-- a line's refusal as that of its file
+abbrev pub refusal_at : ℕ → LineRefusal → MetricsRefusal
+refusal_at line (FaultyLine fault) = Faulty (told (fault_at line fault))
+refusal_at line NoMemory = Memory

@@ -1,16 +1,18 @@
-ghost use Rattle.std.specs.Prelude.{◌≡◌, [], ◌∷◌, ◌++◌, None, OnOk, OnErr};
+ghost use Rattle.std.specs.Prelude.{◌≡◌, [], OnOk, OnErr};
+ghost use Rattle.std.specs.BTreeMap.{insert_entry};
+ghost use Rattle.std.specs.Ordering.{nat_cmp};
 ghost use Rattle.font_metrics.specs.Metrics.{place_of_code};
 
 use fixed_units::Memory;
-use indexmap::IndexMap;
 use std::alloc::Global;
+use std::collections::{BTreeMap, btree_map};
 use std::marker::Model;
 
-/// The characters of a file in file order, each with the place of its glyph. Contracts see the
-/// list of these pairs.
+/// The characters of a file, each with the place of its glyph. Contracts see these pairs by the
+/// characters' codes, which increase.
 #[derive(Drop)]
 pub struct CharacterMap {
-    places: IndexMap<char, u16>,
+    places: BTreeMap<char, u16>,
 }
 
 impl Model for CharacterMap {
@@ -27,7 +29,7 @@ impl CharacterMap {
         ensures { result ≡ [] }
     {
         CharacterMap {
-            places: IndexMap::new(alloc),
+            places: BTreeMap::new(alloc),
         }
     }
 
@@ -38,10 +40,16 @@ impl CharacterMap {
         self.places.get(&letter).copied()
     }
 
-    /// Adds a character that isn't there yet.
+    /// The characters with their places, by code.
+    pub fn entries(&self) -> btree_map::Iter<'_, char, u16>
+        ensures { result ≡ self.now }
+    {
+        self.places.iter()
+    }
+
+    /// Gives a character the place of its glyph.
     pub fn add(&mut self, letter: char, place: u16) -> Result<(), Memory>
-        requires { place_of_code self.old letter ≡ None }
-        ensures ok { OnOk result (self.new ≡ self.old ++ (letter, place) ∷ []) }
+        ensures ok { OnOk result (self.new ≡ insert_entry nat_cmp self.old letter place) }
         ensures err { OnErr result (self.new ≡ self.old) }
     {
         self.places.insert(letter, place)?;

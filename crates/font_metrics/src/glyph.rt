@@ -26,6 +26,8 @@ pub struct Measures {
     pub advance: u16,
     pub ink_ascent: i32,
     pub ink_descent: i32,
+    pub italic: i32,
+    pub accent: Option<i32>,
 }
 
 impl Measures {
@@ -37,8 +39,8 @@ impl Measures {
             advance: i64::from(self.advance),
             ink_ascent: i64::from(self.ink_ascent),
             ink_descent: i64::from(self.ink_descent),
-            italic: 0,
-            accent: None,
+            italic: i64::from(self.italic),
+            accent: self.accent.map(i64::from),
         }
     }
 }

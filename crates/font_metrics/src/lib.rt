@@ -1,31 +1,51 @@
-//! The metrics of a font for mathematics: how far its glyphs reach, and which glyph shows a
-//! character.
+//! Font metrics: what layout knows of a font, as a metrics file says it.
 //!
-//! `read_metrics` reads a metrics file. Its `Metrics` answer at any font size: numbers come in
-//! design units or, at a size, in units of 1/1024 px.
+//! `read_metrics` reads a file's bytes, and answers the first fault where the file has one. A
+//! `Metrics` then gives lengths at a font size in units, a character's glyph, and of each glyph its
+//! measures, its larger variants and the parts that it is built of; `extra` gives the file's lines
+//! for the operator dictionary. `print` gives a file that says the same, in one form and one order.
 //!
-//! - Models: glyph measures, `upem`, ascent and descent are those of OpenType; the file format is
-//!   this project's own.
-//! - Proved: `read_metrics` gives what `short_metrics` says of the bytes, or answers that they say
-//!   nothing, exactly (`specs/Short.antt`); each accessor is a definition of `specs/Metrics.antt`.
-//! - Knows nothing of: trees, elements, layout, where the bytes came from.
-//! - Change a line of the format: `specs/Lines.antt`, then `src/lines.rt`, then `rt check`.
+//! - Models: the metrics file of docs/FORMATS.md; its words are those of OpenType MATH.
+//! - Proved: `read_metrics` answers `metrics_of` (`specs/Reading.antt`), exactly, or that memory was
+//!   refused; each accessor is its definition in `specs/Metrics.antt`, exactly; numbers stay within
+//!   the bounds of `specs/Taken.antt`; `print` is `print_of` (`specs/Print.antt`), and reading it
+//!   gives the same metrics (`laws`). `read_metrics` and `print` alone take memory.
+//! - Knows nothing of: trees, styles, layout.
+//! - Change a line of the format: `specs/Lines.antt`, `specs/Reading.antt` and `specs/Print.antt`,
+//!   then `src/lines.rt` and its mirror `src/printed.rt`, then `rt check`.
 #![tactic(auto)]
 
-mod characters; // which glyph shows a character
+mod by_glyph; // ByGlyph: lists by a glyph's place
+mod characters; // CharacterMap
+mod choices; // words of a small choice: FIX, prefix, block, A
+mod constant_table; // ConstantTable
+mod constants; // ConstName
+mod fault; // LineFault
 mod glyph; // GlyphId, Glyph
-mod glyphs; // the glyphs by name and by number
+mod glyphs; // GlyphTable
+mod growth; // Variant, Part
 mod keyword; // the first word of a line
-mod lines; // each kind of line
-mod metrics; // Metrics and what it answers
-mod read; // the file
-mod reader; // what lines have given
-mod refusal; // MetricsRefusal
-#[cfg(test)]
-mod tests;
+pub mod laws; // reading a print gives the metrics
+mod lines; // the fields of each kind of line
+mod metrics; // Metrics
+mod named_lines; // those that name a glyph
+mod pieces; // lines of a file, words of a line
+mod print; // Metrics::print
+mod printed; // the lines of a print
+mod read; // read_metrics
+mod reader; // what lines give, one after the other
+mod refusal; // MetricsFault, MetricsRefusal
+mod taking; // what a line of each kind gives
+mod texts; // the texts of a choice
 mod words; // numbers, codes and names
 
+pub use constants::ConstName;
+pub use fault::LineFault;
 pub use glyph::{Glyph, GlyphId};
+pub use growth::{Part, Variant};
 pub use metrics::Metrics;
 pub use read::read_metrics;
-pub use refusal::MetricsRefusal;
+pub use refusal::{MetricsFault, MetricsRefusal};
+
+#[cfg(test)]
+mod tests;

@@ -1,11 +1,19 @@
-ghost use Rattle.std.specs.Prelude.{◌≡◌, ◌<◌, ◌≤◌, ◌^◌, length, pos, ◌≤ℤ◌, ◌*ℤ◌};
+ghost use Rattle.std.specs.Prelude.{◌≡◌, ◌<◌, ◌≤◌, ◌^◌, length, pos, ◌≤ℤ◌, ◌*ℤ◌, IfSome, unwrap_or};
+ghost use Rattle.std.specs.List.{All};
 ghost use Rattle.fixed_units.specs.Numbers.{IsWithin, rounded};
-ghost use Rattle.font_metrics.specs.Metrics.{IsInDesign, scale_of, line_ascent_of, line_descent_of, place_of_letter, glyph_at, name_at};
+ghost use Rattle.font_metrics.specs.Metrics.{scale_of, constant_of, percent_of, or_default, IsPercent, IsScaleDown, given_constant, line_ascent_of, line_descent_of, ex_of, overlap_of, place_of_letter, glyph_at, name_at, variants_of, parts_of};
+ghost use Rattle.font_metrics.specs.Constants.{place_of_constant};
+ghost use Rattle.font_metrics.specs.Taken.{IsInDesign, IsConstant, IsVariant, IsPart, IsTaken};
 
+use crate::by_glyph::ByGlyph;
 use crate::characters::CharacterMap;
+use crate::constant_table::ConstantTable;
+use crate::constants::ConstName;
 use crate::glyph::{Glyph, GlyphId};
 use crate::glyphs::GlyphTable;
+use crate::growth::{Part, Variant};
 use fixed_units::{Ratio, round};
+use op_dictionary::{Axis, Extra};
 use std::marker::Model;
 
 /// The metrics of a font, as `read_metrics` takes them from a file. Contracts see them as the
@@ -16,8 +24,16 @@ pub struct Metrics {
     pub(crate) line_ascent: u16,
     pub(crate) line_descent: u16,
     pub(crate) x_height: u16,
+    pub(crate) overlap: Option<u16>,
+    pub(crate) constants: ConstantTable,
     pub(crate) glyphs: GlyphTable,
     pub(crate) characters: CharacterMap,
+    pub(crate) block_variants: ByGlyph<Variant>,
+    pub(crate) inline_variants: ByGlyph<Variant>,
+    pub(crate) block_parts: ByGlyph<Part>,
+    pub(crate) inline_parts: ByGlyph<Part>,
+    pub(crate) operators: Extra,
+    // The place of the glyph `missing`.
     pub(crate) missing: u16,
 }
 
@@ -42,8 +58,37 @@ impl Metrics {
         requires size_high { size ≤ℤ pos (2 ^ 20) }
         ensures value { result ≡ scale_of self.now value size }
         ensures within { IsWithin (2 ^ 36) result }
+        ensures narrow { IsWithin (2 ^ 16) value → IsWithin (2 ^ 32) result }
     {
         scaled(value, size, self.upem)
+    }
+
+    /// A constant at a font size, in units; an absent one is 0. The percents have a call of their
+    /// own.
+    pub fn constant(&self, name: ConstName, size: i64) -> i64
+        requires length { ¬ (IsPercent name) }
+        requires size_low { pos 0 ≤ℤ size }
+        requires size_high { size ≤ℤ pos (2 ^ 20) }
+        ensures value { result ≡ constant_of self.now name size }
+        ensures within { IsWithin (2 ^ 32) result }
+    {
+        self.scale(self.design_value(name), size)
+    }
+
+    /// A percent: 70 and 50 where the first or the second scale-down is absent or 0, and 60 where
+    /// `RadicalDegreeBottomRaisePercent` is absent.
+    pub fn percent(&self, name: ConstName) -> i64
+        requires percent { IsPercent name }
+        ensures value { result ≡ percent_of self.now name }
+        ensures within { IsWithin (2 ^ 16) result }
+        ensures scale_down { IsScaleDown name → (pos 1 ≤ℤ result) × (result ≤ℤ pos 200) }
+    {
+        let given = self.given(name);
+        match name {
+            ConstName::ScriptPercentScaleDown => or_default(70, given),
+            ConstName::ScriptScriptPercentScaleDown => or_default(50, given),
+            _ => given.unwrap_or(60),
+        }
     }
 
     /// The ascent of a line of text at a font size, in units.
@@ -64,6 +109,24 @@ impl Metrics {
         ensures within { IsWithin (2 ^ 32) result }
     {
         self.scale(i64::from(self.line_descent), size)
+    }
+
+    /// One ex at a font size, in units.
+    pub fn ex(&self, size: i64) -> i64
+        requires size_low { pos 0 ≤ℤ size }
+        requires size_high { size ≤ℤ pos (2 ^ 20) }
+        ensures value { result ≡ ex_of self.now size }
+        ensures within { IsWithin (2 ^ 32) result }
+    {
+        self.scale(i64::from(self.x_height), size)
+    }
+
+    /// The least overlap of an assembly's connectors, in design units; 0 where absent.
+    pub fn overlap(&self) -> i64
+        ensures value { result ≡ overlap_of self.now }
+        ensures within { IsWithin (2 ^ 16) result }
+    {
+        i64::from(self.overlap.unwrap_or(0))
     }
 
     /// How many glyphs there are. A `GlyphId` below it is one of this font's.
@@ -97,6 +160,67 @@ impl Metrics {
         ensures { result.now ≡ name_at self.now glyph.0 }
     {
         self.glyphs.name(usize::from(glyph.0))
+    }
+
+    /// The variants of a glyph along an axis, in file order; at most 64.
+    pub fn variants(&self, glyph: GlyphId, axis: Axis) -> &[Variant]
+        requires { glyph.0 < length self.now.glyphs }
+        ensures value { result.now ≡ variants_of self.now glyph.0 axis }
+        ensures items { All (IsVariant (length self.now.glyphs)) result.now }
+        ensures few { length result.now ≤ 64 }
+    {
+        match axis {
+            Axis::Block => self.block_variants.items(glyph.0),
+            Axis::Inline => self.inline_variants.items(glyph.0),
+        }
+    }
+
+    /// The parts of a glyph's assembly along an axis, in file order; at most 16.
+    pub fn assembly(&self, glyph: GlyphId, axis: Axis) -> &[Part]
+        requires { glyph.0 < length self.now.glyphs }
+        ensures value { result.now ≡ parts_of self.now glyph.0 axis }
+        ensures items { All (IsPart (length self.now.glyphs)) result.now }
+        ensures few { length result.now ≤ 16 }
+    {
+        match axis {
+            Axis::Block => self.block_parts.items(glyph.0),
+            Axis::Inline => self.inline_parts.items(glyph.0),
+        }
+    }
+
+    /// A constant as the file gives it.
+    pub(crate) fn given(&self, name: ConstName) -> Option<i64>
+        ensures value { result ≡ given_constant self.now name }
+        ensures within { IfSome result (IsWithin (2 ^ 16)) }
+        ensures range { IfSome result (λ value. IsConstant (place_of_constant name, value)) }
+    {
+        let value = self.constants.value(name.place())?;
+        Some(i64::from(value))
+    }
+
+    /// A constant in design units; an absent one is 0.
+    fn design_value(&self, name: ConstName) -> i64
+        ensures value { result ≡ unwrap_or (given_constant self.now name) (pos 0) }
+        ensures within { IsWithin (2 ^ 16) result }
+    {
+        self.given(name).unwrap_or(0)
+    }
+
+    /// The operator lines of the file, in file order.
+    pub fn extra(&self) -> &Extra
+        ensures { result.now ≡ self.now.operators }
+    {
+        &self.operators
+    }
+}
+
+/// A percent that counts as absent where it is 0.
+fn or_default(default: i64, given: Option<i64>) -> i64
+    ensures { result ≡ or_default default given }
+{
+    match given {
+        None | Some(0) => default,
+        Some(given) => given,
     }
 }
 

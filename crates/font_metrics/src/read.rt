@@ -1,37 +1,37 @@
-ghost use Rattle.std.specs.Prelude.{◌≤◌, length, map, IfOk};
-ghost use Rattle.font_metrics.specs.Metrics.{IsTaken};
+ghost use Rattle.std.specs.Prelude.{◌≤◌, length};
 ghost use Rattle.font_metrics.specs.Reads.{Reads};
-ghost use Rattle.font_metrics.specs.Short.{line_feed, parts_at, words_of, short_metrics};
-ghost use Rattle.font_metrics.specs.Taking.{IsGiven, nothing, after_lines};
+ghost use Rattle.font_metrics.specs.Reading.{metrics_of};
 
 use crate::metrics::Metrics;
-use crate::reader::Reader;
-use crate::refusal::MetricsRefusal;
+use crate::pieces::first_line;
+use crate::reader::take_first;
+use crate::refusal::{LineRefusal, MetricsRefusal};
 use std::alloc::Global;
 
-/// Reads a short metrics file of at most 8,388,608 bytes.
+/// Reads a metrics file of at most 8,388,608 bytes.
 ///
-/// It answers `Later` exactly where the bytes aren't one.
+/// Where the file has faults it answers the first: that of the first faulty line, and of this line
+/// the one that is looked for first.
 pub fn read_metrics(alloc: Global, bytes: &[u8]) -> Result<Metrics, MetricsRefusal>
     requires { length bytes.now ≤ 8388608 }
-    ensures reads { Reads (short_metrics bytes.now) result }
-    ensures ranges { IfOk result IsTaken }
+    ensures reads { Reads (metrics_of bytes.now) result }
 {
-    match bytes.strip_suffix(b"\n".as_slice()) {
-        None => Err(MetricsRefusal::Later),
-        Some(lines) => read_lines(alloc, lines)?.finish(),
+    let (first, mut rest) = first_line(bytes);
+    let mut number = 1;
+    let mut reader = match take_first(alloc, first) {
+        Ok(reader) => reader,
+        Err(refusal) => return Err(refusal.at(number)),
+    };
+    while !rest.is_empty() {
+        let (line, more) = first_line(rest);
+        number += 1;
+        if let Err(refusal) = reader.take(alloc, line) {
+            return Err(refusal.at(number));
+        }
+        rest = more;
     }
-}
-
-/// Takes each line of a text in which a line feed stands between two lines.
-fn read_lines(alloc: Global, text: &[u8]) -> Result<Reader, MetricsRefusal>
-    ensures reads { let lines = map words_of (parts_at line_feed text.now) in
-        Reads (after_lines nothing lines) result }
-    ensures given { IfOk result IsGiven }
-{
-    let mut reader = Reader::new(alloc);
-    for line in text.split(|byte| *byte == b'\n') {
-        reader.take(alloc, line)?;
+    match reader.finish() {
+        Ok(metrics) => Ok(metrics),
+        Err(fault) => Err(LineRefusal::Fault(fault).at(number + 1)),
     }
-    Ok(reader)
 }

@@ -1,44 +1,59 @@
-ghost use Rattle.std.specs.Prelude.{◌≡◌, ◌≤◌, length, take, IfOk};
-ghost use Rattle.font_metrics.specs.declared.keyword.Keyword.TheVariants as keyword;
-ghost use Rattle.font_metrics.specs.Taking.{Given, IsGiven, Takes, nothing, may_follow, after_fields, after_keyword, after, finished};
-ghost use Rattle.font_metrics.specs.Metrics.{IsTaken};
-ghost use Rattle.font_metrics.specs.Reads.{Reads};
-ghost use Rattle.font_metrics.specs.Lines.{lent};
-ghost use Rattle.font_metrics.specs.Short.{words_of};
+ghost use Rattle.std.specs.Prelude.{◌≡◌, ◌≤◌, length};
+ghost use Rattle.font_metrics.specs.Taken.{most_glyphs};
+ghost use Rattle.font_metrics.specs.Lines.{lent, keyword_of};
+ghost use Rattle.font_metrics.specs.Reading.{Given, nothing, after, after_words, after_fields, after_first, is_version, finished};
+ghost use Rattle.font_metrics.specs.Reads.{Takes, Begins};
+ghost use Rattle.font_metrics.specs.Whole.{IsGiven};
 
+use crate::by_glyph::ByGlyph;
 use crate::characters::CharacterMap;
+use crate::constant_table::ConstantTable;
+use crate::fault::{LineFault, fault_if};
 use crate::glyphs::GlyphTable;
+use crate::growth::{Part, Variant};
 use crate::keyword::{Keyword, keyword_of};
-use crate::lines::{char_line, glyph_line, line_line, upem_line, version_line, x_height_line};
 use crate::metrics::Metrics;
-use crate::refusal::MetricsRefusal;
-use fixed_units::Memory;
+use crate::pieces::{is_comment, is_foreign, words};
+use crate::refusal::LineRefusal;
+use op_dictionary::Extra;
 use std::alloc::Global;
 use std::marker::Model;
 
 /// What the lines of a file have given so far.
 #[derive(Drop)]
 pub struct Reader {
-    last: Option<Keyword>,
-    upem: Option<u16>,
-    line: Option<(u16, u16)>,
-    x_height: Option<u16>,
-    glyphs: GlyphTable,
-    characters: CharacterMap,
+    pub(crate) upem: Option<u16>,
+    pub(crate) line: Option<(u16, u16)>,
+    pub(crate) x_height: Option<u16>,
+    pub(crate) overlap: Option<u16>,
+    pub(crate) constants: ConstantTable,
+    pub(crate) glyphs: GlyphTable,
+    pub(crate) characters: CharacterMap,
+    pub(crate) block_variants: ByGlyph<Variant>,
+    pub(crate) inline_variants: ByGlyph<Variant>,
+    pub(crate) block_parts: ByGlyph<Part>,
+    pub(crate) inline_parts: ByGlyph<Part>,
+    pub(crate) operators: Extra,
 }
 
 impl Model for Reader {
-    ghost use Rattle.font_metrics.specs.Taking.{Given};
+    ghost use Rattle.font_metrics.specs.Reading.{Given};
 
     ghost Value = { Given };
 
     ghost view = { λ reader. record {
-      last = reader.last;
       upem = reader.upem;
       line = reader.line;
       x_height = reader.x_height;
+      overlap = reader.overlap;
+      constants = reader.constants;
       glyphs = reader.glyphs;
       characters = reader.characters;
+      block_variants = reader.block_variants;
+      inline_variants = reader.inline_variants;
+      block_parts = reader.block_parts;
+      inline_parts = reader.inline_parts;
+      operators = reader.operators;
     } };
 }
 
@@ -48,31 +63,41 @@ impl Reader {
         ensures { result ≡ nothing }
     {
         Reader {
-            last: None,
             upem: None,
             line: None,
             x_height: None,
+            overlap: None,
+            constants: ConstantTable::new(alloc),
             glyphs: GlyphTable::new(alloc),
             characters: CharacterMap::new(alloc),
+            block_variants: ByGlyph::new(alloc),
+            inline_variants: ByGlyph::new(alloc),
+            block_parts: ByGlyph::new(alloc),
+            inline_parts: ByGlyph::new(alloc),
+            operators: Extra::make(alloc),
         }
     }
 
-    /// Takes the next line, without its line feed.
-    pub fn take(&mut self, alloc: Global, line: &[u8]) -> Result<(), MetricsRefusal>
-        requires { IsGiven self.old }
-        ensures { Takes (after self.old (words_of line.now)) self.new result }
+    /// Takes a line behind the first, without its line feed.
+    #[tactic(auto, unfolding(crate::specs::Reading::after))]
+    pub fn take(&mut self, alloc: Global, line: &[u8]) -> Result<(), LineRefusal>
+        requires { length self.old.glyphs ≤ most_glyphs }
+        ensures { Takes (after self.old line.now) self.new result }
     {
-        let words = words(alloc, line)?;
+        fault_if(is_foreign(line), LineFault::ForeignByte)?;
+        if is_comment(line) {
+            return Ok(());
+        }
+        let words = words(line)?;
         self.take_words(alloc, words.as_slice())
     }
 
-    #[tactic(auto, unfolding(crate::specs::Taking::after))]
-    fn take_words(&mut self, alloc: Global, words: &[&[u8]]) -> Result<(), MetricsRefusal>
-        requires { IsGiven self.old }
-        ensures { Takes (after self.old (lent words.now)) self.new result }
+    fn take_words(&mut self, alloc: Global, words: &[&[u8]]) -> Result<(), LineRefusal>
+        requires { length self.old.glyphs ≤ most_glyphs }
+        ensures { Takes (after_words self.old (lent words.now)) self.new result }
     {
         match words.split_first() {
-            None => Err(MetricsRefusal::Later),
+            None => Ok(()),
             Some((word, fields)) => self.take_fields(alloc, keyword_of(word), fields),
         }
     }
@@ -82,126 +107,75 @@ impl Reader {
         alloc: Global,
         keyword: Keyword,
         fields: &[&[u8]],
-    ) -> Result<(), MetricsRefusal>
-        requires { IsGiven self.old }
-        ensures { Takes (after_keyword self.old keyword (lent fields.now)) self.new result }
+    ) -> Result<(), LineRefusal>
+        requires { length self.old.glyphs ≤ most_glyphs }
+        ensures { Takes (after_fields self.old keyword (lent fields.now)) self.new result }
     {
-        if !may_follow(self.last, keyword) {
-            return Err(MetricsRefusal::Later);
-        }
-        self.last = Some(keyword);
         match keyword {
-            Keyword::Version => version_line(fields).ok_or(MetricsRefusal::Later),
             Keyword::Upem => self.take_upem(fields),
             Keyword::Line => self.take_line(fields),
             Keyword::XHeight => self.take_x_height(fields),
+            Keyword::Overlap => self.take_overlap(fields),
+            Keyword::Constant => self.take_constant(fields),
             Keyword::Glyph => self.take_glyph(alloc, fields),
-            Keyword::Char => self.take_char(fields),
-            Keyword::Other => Err(MetricsRefusal::Later),
+            Keyword::Char => self.take_character(fields),
+            Keyword::BlockVariant => self.take_block_variant(alloc, fields),
+            Keyword::InlineVariant => self.take_inline_variant(alloc, fields),
+            Keyword::BlockPart => self.take_block_part(alloc, fields),
+            Keyword::InlinePart => self.take_inline_part(alloc, fields),
+            Keyword::Operator => self.take_operator(fields),
+            Keyword::Unknown => Err(LineRefusal::Fault(LineFault::UnknownWord)),
         }
-    }
-
-    fn take_upem(&mut self, fields: &[&[u8]]) -> Result<(), MetricsRefusal>
-        ensures { Takes (after_fields self.old keyword.Upem (lent fields.now)) self.new result }
-    {
-        let units = upem_line(fields).ok_or(MetricsRefusal::Later)?;
-        self.upem = Some(units);
-        Ok(())
-    }
-
-    fn take_line(&mut self, fields: &[&[u8]]) -> Result<(), MetricsRefusal>
-        ensures { Takes (after_fields self.old keyword.Line (lent fields.now)) self.new result }
-    {
-        let line = line_line(fields).ok_or(MetricsRefusal::Later)?;
-        self.line = Some(line);
-        Ok(())
-    }
-
-    fn take_x_height(&mut self, fields: &[&[u8]]) -> Result<(), MetricsRefusal>
-        ensures { Takes (after_fields self.old keyword.XHeight (lent fields.now)) self.new result }
-    {
-        let height = x_height_line(fields).ok_or(MetricsRefusal::Later)?;
-        self.x_height = Some(height);
-        Ok(())
-    }
-
-    fn take_glyph(&mut self, alloc: Global, fields: &[&[u8]]) -> Result<(), MetricsRefusal>
-        ensures { Takes (after_fields self.old keyword.Glyph (lent fields.now)) self.new result }
-    {
-        let (name, measures) = glyph_line(fields).ok_or(MetricsRefusal::Later)?;
-        if self.glyphs.place(name).is_some() | (self.glyphs.len() >= MOST_GLYPHS) {
-            return Err(MetricsRefusal::Later);
-        }
-        self.glyphs.add(alloc, name, measures)?;
-        Ok(())
-    }
-
-    fn take_char(&mut self, fields: &[&[u8]]) -> Result<(), MetricsRefusal>
-        requires { length self.old.glyphs ≤ 65535 }
-        ensures { Takes (after_fields self.old keyword.Char (lent fields.now)) self.new result }
-    {
-        let (letter, place) = char_line(&self.glyphs, fields).ok_or(MetricsRefusal::Later)?;
-        if self.characters.place(letter).is_some() {
-            return Err(MetricsRefusal::Later);
-        }
-        self.characters.add(letter, place)?;
-        Ok(())
     }
 
     /// The metrics, where the lines have given all that these need.
-    #[tactic(auto, unfolding(crate::specs::Taking::finished))]
-    pub fn finish(self) -> Result<Metrics, MetricsRefusal>
+    #[tactic(auto, unfolding(crate::specs::Reading::finished))]
+    pub fn finish(self) -> Result<Metrics, LineFault>
         requires { IsGiven self }
-        ensures reads { Reads (finished self) result }
-        ensures ranges { IfOk result IsTaken }
+        ensures { result ≡ finished self }
     {
-        let missing = self.glyphs.place("missing");
-        match (self.upem, self.line, self.x_height, missing) {
-            (Some(upem), Some((line_ascent, line_descent)), Some(x_height), Some(missing)) => {
-                Ok(Metrics {
-                    upem,
-                    line_ascent,
-                    line_descent,
-                    x_height,
-                    glyphs: self.glyphs,
-                    characters: self.characters,
-                    missing: missing as u16,
-                })
-            }
-            _ => Err(MetricsRefusal::Later),
-        }
+        let upem = self.upem.ok_or(LineFault::NoUpem)?;
+        let (line_ascent, line_descent) = self.line.ok_or(LineFault::NoLine)?;
+        let x_height = self.x_height.ok_or(LineFault::NoXHeight)?;
+        let missing = self.glyphs.place("missing").ok_or(LineFault::NoMissing)?;
+        Ok(Metrics {
+            upem,
+            line_ascent,
+            line_descent,
+            x_height,
+            overlap: self.overlap,
+            constants: self.constants,
+            glyphs: self.glyphs,
+            characters: self.characters,
+            block_variants: self.block_variants,
+            inline_variants: self.inline_variants,
+            block_parts: self.block_parts,
+            inline_parts: self.inline_parts,
+            operators: self.operators,
+            missing: missing as u16,
+        })
     }
 }
 
-/// The order of lines: the header's four, at least one glyph, and any number of characters.
-fn may_follow(last: Option<Keyword>, next: Keyword) -> bool
-    ensures { result ≡ may_follow last next }
+/// Takes the first line, which gives nothing.
+#[tactic(auto, unfolding(crate::specs::Reading::after_first))]
+pub fn take_first(alloc: Global, line: &[u8]) -> Result<Reader, LineRefusal>
+    ensures { Begins (after_first line.now) result }
 {
-    matches!(
-        (last, next),
-        (None, Keyword::Version)
-            | (Some(Keyword::Version), Keyword::Upem)
-            | (Some(Keyword::Upem), Keyword::Line)
-            | (Some(Keyword::Line), Keyword::XHeight)
-            | (Some(Keyword::XHeight), Keyword::Glyph)
-            | (Some(Keyword::Glyph), Keyword::Glyph | Keyword::Char)
-            | (Some(Keyword::Char), Keyword::Char)
-    )
+    fault_if(is_foreign(line), LineFault::ForeignByte)?;
+    let words = words(line)?;
+    fault_if(!is_version(words.as_slice()), LineFault::WrongFirstLine)?;
+    Ok(Reader::new(alloc))
 }
 
-/// The most glyphs of a file, so that a glyph's number fits a `u16` of OpenType.
-const MOST_GLYPHS: usize = 65535;
-
-// One more than the longest line has, so that a line of too many words shows.
-const MOST_WORDS: usize = 6;
-
-/// The words of a line, of which one stands between two spaces.
-fn words<'a>(alloc: Global, line: &'a [u8]) -> Result<Vec<&'a [u8]>, Memory>
-    ensures { IfOk result (λ words. lent words.items ≡ take 6 (words_of line.now)) }
+/// Whether the words are `mathlay-metrics` and `1`.
+fn is_version(words: &[&[u8]]) -> bool
+    ensures { result ≡ is_version (lent words.now) }
 {
-    let words = line
-        .split(|byte| *byte == b' ')
-        .take(MOST_WORDS)
-        .collect(alloc)?;
-    Ok(words)
+    match words {
+        [name, version] => {
+            (*name == b"mathlay-metrics".as_slice()) & (*version == b"1".as_slice())
+        }
+        _ => false,
+    }
 }

@@ -1,53 +1,109 @@
-ghost use Rattle.std.specs.Prelude.{◌≡◌, ◌<◌, ◌≤◌, ◌^◌, length, pos, ◌≤ℤ◌, IfSome, option_map};
-ghost use Rattle.font_metrics.specs.Words.{value_of_digits, numeral_of, number_of, number_in, natural_in, code_of, is_name_byte, is_name, name_in};
+ghost use Rattle.std.specs.Prelude.{◌≡◌, ◌<◌, ◌≤◌, ◌^◌, length, pos, ◌≤ℤ◌, IfSome, IfOk};
+ghost use Rattle.std.specs.Option.{option_map};
 ghost use Rattle.std.specs.List.{list_all};
 ghost use Rattle.fixed_units.specs.Numbers.{IsWithin};
+ghost use Rattle.op_dictionary.specs.Pairs.{IsLineText};
+ghost use Rattle.font_metrics.specs.Faults.{step_map, or_fault};
+ghost use Rattle.font_metrics.specs.declared.fault.LineFault.TheVariants as fault;
+ghost use Rattle.font_metrics.specs.Words.{value_of_digits, numeral_of, number_of, number_in, natural_in, code_of, letter_in, in_pair, one_in, pair_in, operator_text_in, is_name_byte, is_name, name_in};
 
+use crate::fault::{LineFault, fault_if};
+use op_dictionary::OpText;
 use std::str;
 
 /// A whole number from `low` to `high`, which a word writes.
 #[tactic(auto, unfolding(crate::specs::Words::number_in))]
-pub fn number_in(low: i32, high: i32, word: &[u8]) -> Option<i32>
+pub fn number_in(low: i32, high: i32, word: &[u8]) -> Result<i32, LineFault>
     ensures value { result ≡ number_in low high word.now }
-    ensures low { IfSome result (λ n. low ≤ℤ n) }
-    ensures high { IfSome result (λ n. n ≤ℤ high) }
+    ensures low { IfOk result (λ n. low ≤ℤ n) }
+    ensures high { IfOk result (λ n. n ≤ℤ high) }
 {
-    let number = number(word)?;
+    let number = number(word).ok_or(LineFault::NotANumber)?;
     if (low <= number) & (number <= high) {
-        Some(number)
+        Ok(number)
     } else {
-        None
+        Err(LineFault::OutOfRange)
     }
 }
 
 /// A whole number from `low` to `high`, none of which is negative.
 #[tactic(auto, unfolding(crate::specs::Words::natural_in))]
-pub fn natural_in(low: u16, high: u16, word: &[u8]) -> Option<u16>
+pub fn natural_in(low: u16, high: u16, word: &[u8]) -> Result<u16, LineFault>
     ensures { result ≡ natural_in low high word.now }
 {
     let number = number_in(i32::from(low), i32::from(high), word)?;
-    Some(number as u16)
+    Ok(number as u16)
 }
 
 /// The character whose code a word writes: 4 to 6 hexadecimal digits.
-#[tactic(auto, unfolding(crate::specs::Words::code_of))]
-pub fn letter(word: &[u8]) -> Option<char>
-    ensures { result ≡ code_of word.now }
+#[tactic(auto, unfolding(crate::specs::Words::letter_in))]
+pub fn letter(word: &[u8]) -> Result<char, LineFault>
+    ensures { result ≡ letter_in word.now }
 {
-    let code = numeral(16, 4, 6, word)?;
-    char::from_u32(code)
+    let code = code(word).ok_or(LineFault::NotANumber)?;
+    char::from_u32(code).ok_or(LineFault::OutOfRange)
+}
+
+/// The text of an operator: one code, or two of at most `FFFF` that a plus joins.
+pub fn operator_text(word: &[u8]) -> Result<OpText, LineFault>
+    ensures value { result ≡ operator_text_in word.now }
+    ensures text { IfOk result IsLineText }
+{
+    match word.iter().position(|byte| *byte == b'+') {
+        None => one(word),
+        Some(at) => pair(&word[..at], &word[at + 1..]),
+    }
 }
 
 /// A glyph name: 1 to 63 ASCII letters, digits, `_`, `.` and `-`.
 #[tactic(auto, unfolding(crate::specs::Words::name_in))]
-pub fn glyph_name(word: &[u8]) -> Option<&str>
-    ensures { option_map (λ name. name.now) result ≡ name_in word.now }
+pub fn glyph_name(word: &[u8]) -> Result<&str, LineFault>
+    ensures { step_map (λ name. name.now) result ≡ name_in word.now }
 {
     if is_name(word) {
-        str::from_utf8(word).ok()
+        str::from_utf8(word).map_err(|_| LineFault::WrongWord)
     } else {
-        None
+        Err(LineFault::WrongWord)
     }
+}
+
+fn one(code: &[u8]) -> Result<OpText, LineFault>
+    ensures value { result ≡ one_in code.now }
+    ensures text { IfOk result IsLineText }
+{
+    let letter = letter(code)?;
+    Ok(OpText::One(letter))
+}
+
+fn pair(first: &[u8], second: &[u8]) -> Result<OpText, LineFault>
+    ensures value { result ≡ pair_in first.now second.now }
+    ensures text { IfOk result IsLineText }
+{
+    let first = code(first).ok_or(LineFault::NotANumber)?;
+    let second = code(second).ok_or(LineFault::NotANumber)?;
+    let first = in_pair(first)?;
+    let second = in_pair(second)?;
+    Ok(OpText::Two(first, second))
+}
+
+/// The character of a code of a pair: it has at most 16 bits.
+fn in_pair(code: u32) -> Result<char, LineFault>
+    ensures value { result ≡ in_pair code }
+    ensures small { IfOk result (λ letter. letter ≤ 0xFFFF) }
+{
+    if code <= 0xFFFF {
+        char::from_u32(code).ok_or(LineFault::OutOfRange)
+    } else {
+        Err(LineFault::OutOfRange)
+    }
+}
+
+/// 4 to 6 hexadecimal digits.
+#[tactic(auto, unfolding(crate::specs::Words::code_of))]
+fn code(word: &[u8]) -> Option<u32>
+    ensures { result ≡ code_of word.now }
+{
+    numeral(16, 4, 6, word)
 }
 
 #[tactic(auto, unfolding(crate::specs::Words::is_name))]

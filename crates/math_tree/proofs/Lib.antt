@@ -1,5 +1,19 @@
+pub mod OnLiterals
 mod Worked
-mod Keys
-mod Shapes
-mod Names
-mod Forms
+mod Known
+mod Members
+mod Lookup
+mod Items
+mod Below
+mod Listing
+mod FirstFault
+mod ReadParts
+mod Entries
+mod Proper
+mod Whole
+mod BuiltForm
+mod Firsts
+mod Nodes
+mod Printing
+mod Reread
+mod RoundTrip

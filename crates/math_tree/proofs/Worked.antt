@@ -1,60 +1,115 @@
--- Short trees and others, each from its JSON text on.
-use Rattle.std.proofs.Common.{◌≡◌, refl, ℕ, List, [], ◌∷◌, Option, Some, None, codes}
-use Rattle.std.specs.Prelude.{⊤}
-use Rattle.std.specs.Option.{option_and_then}
+-- Trees and faults, each from its JSON text on.
+use Rattle.std.proofs.Common.{◌≡◌, refl, ℕ, zero, suc, List, [], ◌∷◌, Option, Some, codes}
+use Rattle.std.specs.Prelude.{Result, Ok, Err}
+use Rattle.std.specs.Option.{option_map}
+use Rattle.std.specs.Result.{result_map_both}
+use Rattle.serde_json.specs.Data.{Data, string, array, object, no_items, item, no_members, member}
 use Rattle.serde_json.specs.Read.{read}
-use Rattle.serde_json.proofs.OnLiterals.{serde_json_on_literals}
-use Rattle.math_tree.specs.Elements.{name_in, kind_in, text_in, children_in, has_only}
-use Rattle.math_tree.specs.Kinds.{kind_of}
-use Rattle.math_tree.specs.Short.{short_tree, short_number, is_short_text}
-use Rattle.math_tree.specs.Trees.{TreeValue, element}
-use Rattle.math_tree.specs.declared.kind.Kind.TheVariants.{Math, Mn}
+use Rattle.math_tree.proofs.OnLiterals.{math_tree_on_literals}
+use Rattle.math_tree.specs.Faults.{fault_at}
+use Rattle.math_tree.specs.Reading.{tree_of}
+use Rattle.math_tree.specs.Trees.{TreeValue, node}
+use Rattle.math_tree.specs.declared.attributes.Attribute.{Attribute}
+use Rattle.math_tree.specs.declared.fault.ElementFault.{ElementFault}
+use Rattle.math_tree.specs.declared.fault.ElementFault.TheVariants.{NotAnObject, BadName, NotMath, UnknownKey, BadAttributes, BadText, BadChildren, TooDeep, RightToLeft}
+use Rattle.math_tree.specs.declared.fault.TreeFault.{TreeFault}
+use Rattle.math_tree.specs.declared.kind.Kind.{Kind}
+use Rattle.math_tree.specs.declared.kind.Kind.TheVariants.{Math, Mi, Mrow, Unknown}
+use Rattle.math_tree.specs.declared.node.Node.{Node}
 
--- the short tree of a JSON text
-abbrev tree_of_text : List ℕ → Option TreeValue
-tree_of_text text = option_and_then short_tree (read text)
+-- the tree of a JSON text, or its fault
+abbrev tree_of_text : List ℕ → Option (Result TreeValue TreeFault)
+tree_of_text text = option_map tree_of (read text)
 
--- what a tree is computed by, from a literal text
-unfoldable on_literals : ⊤
-unfolding
-    serde_json_on_literals kind_of name_in kind_in text_in children_in has_only
-    short_tree short_number is_short_text
-on_literals = tt
+abbrev element : ℕ → List ℕ → Kind → List Attribute → List ℕ → List Node → Node
+element id name kind attributes text children =
+    node (record { id = record { 0 = id }; name = name; kind = kind; attributes = attributes; text = text }) children
+
+abbrev attribute : List ℕ → List ℕ → Attribute
+attribute name value = record { name = name; value = value }
 
 -- a `math` alone has the id 1, and 2 comes next
 math_alone : tree_of_text (codes "{\"name\":\"math\"}")
-    ≡ Some record { root = element 1 (codes "math") Math [] []; next_id = 2 }
-unfolding on_literals
+    ≡ Some (Ok record { root = element 1 (codes "math") Math [] [] []; next_id = 2 })
+unfolding math_tree_on_literals
 math_alone = refl
 
--- its child has the id 2, and 3 comes next
-math_over_one : tree_of_text (codes "{\"name\":\"math\",\"children\":[{\"name\":\"mn\",\"text\":\"1\"}]}")
-    ≡ Some record { root = element 1 (codes "math") Math [] (element 2 (codes "mn") Mn (codes "1") [] ∷ []); next_id = 3 }
-unfolding on_literals
-math_over_one = refl
+-- ids go down before they go on
+in_document_order : tree_of_text (codes "{\"name\":\"math\",\"children\":[{\"name\":\"mrow\",\"children\":[{\"name\":\"mi\",\"text\":\"x\"}]},{\"name\":\"box\"}]}")
+    ≡ Some (Ok record {
+      root = element 1 (codes "math") Math [] [] (
+          element 2 (codes "mrow") Mrow [] [] (element 3 (codes "mi") Mi [] (codes "x") [] ∷ [])
+          ∷ element 4 (codes "box") Unknown [] [] []
+          ∷ []);
+      next_id = 5;
+    })
+unfolding math_tree_on_literals
+in_document_order = refl
 
--- an absent text is the empty one
-absent_text : tree_of_text (codes "{\"children\":[{\"name\":\"mn\"}],\"name\":\"math\"}")
-    ≡ Some record { root = element 1 (codes "math") Math [] (element 2 (codes "mn") Mn [] [] ∷ []); next_id = 3 }
-unfolding on_literals
-absent_text = refl
+-- attributes are kept in the order of their names, and white space on a row is dropped
+kept_and_dropped : tree_of_text (codes "{\"name\":\"math\",\"text\":\" \\n\",\"attributes\":{\"foo\":\"1\",\"dir\":\"ltr\"}}")
+    ≡ Some (Ok record {
+      root = element 1 (codes "math") Math (attribute (codes "dir") (codes "ltr") ∷ attribute (codes "foo") (codes "1") ∷ []) [] [];
+      next_id = 2;
+    })
+unfolding math_tree_on_literals
+kept_and_dropped = refl
 
 -- of repeated keys the last one is read
 last_name : tree_of_text (codes "{\"name\":\"mrow\",\"name\":\"math\"}") ≡ tree_of_text (codes "{\"name\":\"math\"}")
-unfolding on_literals
+unfolding math_tree_on_literals
 last_name = refl
 
--- an `mi` isn't an `mn`
-child_mi : tree_of_text (codes "{\"name\":\"math\",\"children\":[{\"name\":\"mi\"}]}") ≡ None
-unfolding on_literals
-child_mi = refl
+-- a fault of an element that stands at this place
+abbrev Faulty : List ℕ → ℕ → ElementFault → Type 0
+Faulty text place fault = tree_of_text text ≡ Some (Err (fault_at place fault))
 
--- an `mn` has no key `children`, not even an empty one
-number_over_none : tree_of_text (codes "{\"name\":\"math\",\"children\":[{\"name\":\"mn\",\"children\":[]}]}") ≡ None
-unfolding on_literals
-number_over_none = refl
+not_an_object : Faulty (codes "[]") 1 NotAnObject
+unfolding math_tree_on_literals
+not_an_object = refl
 
--- two digits aren't one character
-two_digits : tree_of_text (codes "{\"name\":\"math\",\"children\":[{\"name\":\"mn\",\"text\":\"12\"}]}") ≡ None
-unfolding on_literals
-two_digits = refl
+-- the first faulty element counts, and of its faults the one that is looked for first
+first_of_two : Faulty (codes "{\"name\":\"math\",\"children\":[{\"name\":\"mi\"},{\"name\":\"2\",\"id\":1},7]}") 3 UnknownKey
+unfolding math_tree_on_literals
+first_of_two = refl
+
+name_with_digit_first : Faulty (codes "{\"name\":\"math\",\"children\":[{\"name\":\"2d\"}]}") 2 BadName
+unfolding math_tree_on_literals
+name_with_digit_first = refl
+
+root_is_a_row : Faulty (codes "{\"name\":\"mrow\"}") 1 NotMath
+unfolding math_tree_on_literals
+root_is_a_row = refl
+
+value_is_a_number : Faulty (codes "{\"name\":\"math\",\"attributes\":{\"a\":1}}") 1 BadAttributes
+unfolding math_tree_on_literals
+value_is_a_number = refl
+
+direction_in_capitals : Faulty (codes "{\"name\":\"math\",\"attributes\":{\"dir\":\"RtL\"}}") 1 RightToLeft
+unfolding math_tree_on_literals
+direction_in_capitals = refl
+
+text_on_a_row : Faulty (codes "{\"name\":\"math\",\"children\":[{\"name\":\"mrow\",\"text\":\"x\"}]}") 2 BadText
+unfolding math_tree_on_literals
+text_on_a_row = refl
+
+-- the children of a text element are listed behind it, and it is the first that is faulty
+children_of_a_text : Faulty (codes "{\"name\":\"math\",\"children\":[{\"name\":\"mi\",\"children\":[{}]}]}") 2 BadChildren
+unfolding math_tree_on_literals
+children_of_a_text = refl
+
+-- a `math` over one `math`, and so on, so many levels below it
+abbrev nested : ℕ → Data
+nested zero = object (member (codes "name") (string (codes "math")) no_members)
+nested (suc levels) =
+    let children = array (item (nested levels) no_items) in
+    object (member (codes "children") children (member (codes "name") (string (codes "math")) no_members))
+
+-- 60 levels are read, and the element at level 61 is faulty
+sixty_levels : result_map_both (λ tree. tree.next_id) (λ fault. fault) (tree_of (nested 59)) ≡ Ok 61
+unfolding math_tree_on_literals
+sixty_levels = refl
+
+sixty_one_levels : tree_of (nested 60) ≡ Err (fault_at 61 TooDeep)
+unfolding math_tree_on_literals
+sixty_one_levels = refl

@@ -1,6 +1,11 @@
 pub mod Kinds
-pub mod Trees
+pub mod Forms
+pub mod Attributes
 pub mod Elements
-pub mod Short
-pub mod ShortForm
-pub mod Reads
+pub mod Faults
+pub mod Trees
+pub mod Reading
+pub mod Built
+pub mod Parts
+pub mod Laws
+pub mod Print

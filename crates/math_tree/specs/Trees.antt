@@ -1,8 +1,15 @@
--- Trees, and the shape that every tree has for now.
-use Rattle.std.specs.Prelude.{◌≡◌, ℕ, ◌+◌, ◌≤◌, List, [], ◌∷◌, length, All, codes}
-use Rattle.math_tree.specs.declared.kind.Kind.{Kind}
-use Rattle.math_tree.specs.declared.kind.Kind.TheVariants.{Math, Mn}
+-- Trees, their elements in document order, and what holds of every tree.
+use Rattle.std.specs.Prelude.{◌≡◌, ℕ, ◌+◌, ◌^◌, ◌≤◌, ◌<◌, List, [], ◌∷◌, length, map, All, true, false, nat_eq, codes}
+use Rattle.std.specs.List.{flat_map, sum_by, IsDistinct}
+use Rattle.std.specs.Option.{option_map_or}
+use Rattle.math_tree.specs.Attributes.{value_of, bytes_of_attributes}
+use Rattle.math_tree.specs.Forms.{is_name, is_short_enough, is_rtl, most_levels, most_elements, most_bytes}
+use Rattle.math_tree.specs.Kinds.{kind_of, is_text_kind}
+use Rattle.math_tree.specs.declared.attributes.Attribute.{Attribute}
+use Rattle.math_tree.specs.declared.node.Head.{Head}
 use Rattle.math_tree.specs.declared.node.Node.{Node}
+use Rattle.math_tree.specs.declared.node.Node.TheFolds.{fold-Node}
+use Rattle.math_tree.specs.declared.node.Node.TheOpen.{Node-F}
 use Rattle.math_tree.specs.declared.node.Node.TheViews.{out-Node, roll-Node}
 
 -- a tree is its root, and the id that the next new element gets
@@ -10,37 +17,59 @@ pub record TreeValue : Type 0 where
   pub root : Node
   pub next_id : ℕ
 
--- an element of its parts
-abbrev pub element : ℕ → List ℕ → Kind → List ℕ → List Node → Node
-element id name kind text children = roll-Node record {
-  head = record { id = record { 0 = id }; name = name; kind = kind; text = text };
-  children = children;
-}
+-- an element over its children
+abbrev pub node : Head → List Node → Node
+node head children = roll-Node record { head = head; children = children }
 
--- no character, or one from ! (U+0021) to ~ (U+007E), which is one byte
-abbrev pub IsShortText : List ℕ → Type 0
-IsShortText [] = Unit {0}
-IsShortText (letter ∷ []) = (0x21 ≤ letter) × (letter ≤ 0x7E)
-IsShortText (letter ∷ next ∷ more) = ⊥
+-- an element as a list shows it: its level, what is said of it, and how many children it has
+pub record Listed : Type 0 where
+  pub level : ℕ
+  pub head : Head
+  pub children : ℕ
 
--- an `mn` without children whose text is short
-pub record IsShortNumber (node : Node) : Type 0 where
-  pub name : (out-Node node).head.name ≡ codes "mn"
-  pub kind : (out-Node node).head.kind ≡ Mn
-  pub text : IsShortText (out-Node node).head.text
-  pub childless : (out-Node node).children ≡ []
+-- an element, and then what stands below it, one level further down
+abbrev pub listed_first : Node-F (ℕ → List Listed) → ℕ → List Listed
+listed_first layer level =
+    record { level = level; head = layer.head; children = length layer.children }
+    ∷ flat_map (λ list. list (level + 1)) layer.children
 
--- a `math` without a text, over at most one such `mn`
-pub record IsShortRoot (node : Node) : Type 0 where
-  pub name : (out-Node node).head.name ≡ codes "math"
-  pub kind : (out-Node node).head.kind ≡ Math
-  pub text : (out-Node node).head.text ≡ []
-  pub few : length (out-Node node).children ≤ 1
-  pub numbers : All IsShortNumber (out-Node node).children
+-- the elements of a node in document order, each before its children, where its own level is this
+unfoldable pub listed : ℕ → Node → List Listed
+listed level node = fold-Node (ℕ → List Listed) listed_first node level
 
--- a short root with the id 1, its child with 2 if there is one, and the next id after these
-pub record IsShortTree (tree : TreeValue) : Type 0 where
-  pub root : IsShortRoot tree.root
+-- the bytes of an element's name, its text and its attributes
+abbrev pub bytes_of_head : Head → ℕ
+bytes_of_head head = length head.name + length head.text + bytes_of_attributes head.attributes
+
+-- ---- what holds of every tree
+
+pub record IsProperAttribute (attribute : Attribute) : Type 0 where
+  pub name : is_name attribute.name ≡ true
+  pub value : is_short_enough attribute.value ≡ true
+
+-- an element by itself: its kind is that of its name, names and texts are in their form and not
+-- too long, a text element has no children, only a text element has a text, and `dir` isn't `rtl`
+pub record IsProper (element : Listed) : Type 0 where
+  pub kind : element.head.kind ≡ kind_of element.head.name
+  pub name : is_name element.head.name ≡ true
+  pub attributes : All IsProperAttribute element.head.attributes
+  pub text : is_short_enough element.head.text ≡ true
+  pub childless : is_text_kind element.head.kind ≡ true → element.children ≡ 0
+  pub textless : is_text_kind element.head.kind ≡ false → element.head.text ≡ []
+  pub left_to_right : option_map_or is_rtl (value_of (codes "dir") element.head.attributes) false ≡ false
+
+abbrev pub ids_of : List Listed → List ℕ
+ids_of elements = map (λ e. e.head.id.0) elements
+
+-- a root that is `math` and has the id 1, over proper elements of no more than 60 levels, whose ids
+-- differ and lie below the next id; not too many of them, nor too many bytes in them
+pub record IsWhole (tree : TreeValue) : Type 0 where
+  pub name : (out-Node tree.root).head.name ≡ codes "math"
   pub first : (out-Node tree.root).head.id.0 ≡ 1
-  pub second : All (λ child. (out-Node child).head.id.0 ≡ 2) (out-Node tree.root).children
-  pub next : tree.next_id ≡ 2 + length (out-Node tree.root).children
+  pub proper : All IsProper (listed 1 tree.root)
+  pub shallow : All (λ e. e.level ≤ most_levels) (listed 1 tree.root)
+  pub distinct : IsDistinct nat_eq (ids_of (listed 1 tree.root))
+  pub given : All (λ id. id < tree.next_id) (ids_of (listed 1 tree.root))
+  pub next : tree.next_id ≤ 2 ^ 32
+  pub few : length (listed 1 tree.root) ≤ most_elements
+  pub small : sum_by (λ e. bytes_of_head e.head) (listed 1 tree.root) ≤ most_bytes

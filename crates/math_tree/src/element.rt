@@ -1,28 +1,45 @@
 //! What a JSON value says of an element, key by key. No call takes memory.
-ghost use Rattle.std.specs.Prelude.{◌≡◌, map};
-ghost use Rattle.std.specs.List.{list_any};
+ghost use Rattle.std.specs.Prelude.{◌≡◌, ◌^◌, ◌-◌, min, map};
 ghost use Rattle.std.specs.Option.{option_map};
-ghost use Rattle.std.specs.Str.{bytes_eq};
-ghost use Rattle.serde_json.specs.View.{view, items_view};
-ghost use Rattle.math_tree.specs.Elements.{name_in, kind_in, text_in, children_in, has_only};
+ghost use Rattle.serde_json.specs.View.{view, items_view, members_view};
+ghost use Rattle.math_tree.specs.Attributes.{bytes_of_attribute, bytes_of_attributes};
+ghost use Rattle.math_tree.specs.Elements.{name_in, kind_in, attributes_in, text_in, children_in};
+ghost use Rattle.math_tree.specs.Elements.{below, attribute_of, attributes_of, attributes_held, text_held, bytes_held};
+ghost use Rattle.math_tree.specs.Elements.{text_or_empty};
 
 use crate::Kind;
-use serde_json::Value;
+use serde_json::{Map, Value};
 
-/// The kind that the name decides, where there is a name and it is known.
-#[tactic(auto, unfolding(crate::specs::Elements::kind_in))]
-pub fn kind_in(value: &Value) -> Option<Kind>
-    ensures { result ≡ kind_in (view value.now) }
+/// The name, where it is a text, and else the empty one, which isn't in the form of a name.
+#[tactic(auto, unfolding(crate::specs::Elements::name_in))]
+pub fn name_in(value: &Value) -> &str
+    ensures { result.now ≡ name_in (view value.now) }
 {
-    name_in(value).and_then(Kind::of_name)
+    value.get("name").map_or("", text_or_empty)
 }
 
-/// The name, where it is a text.
-#[tactic(auto, unfolding(crate::specs::Elements::name_in))]
-fn name_in(value: &Value) -> Option<&str>
-    ensures { option_map (λ name. name.now) result ≡ name_in (view value.now) }
+/// The text that a value is; all other values stand for the empty one.
+pub fn text_or_empty(value: &Value) -> &str
+    ensures { result.now ≡ text_or_empty (view value.now) }
 {
-    value.get("name").and_then(Value::as_str)
+    value.as_str().unwrap_or("")
+}
+
+/// The kind that the name decides.
+#[tactic(auto, unfolding(crate::specs::Elements::kind_in))]
+pub fn kind_in(value: &Value) -> Kind
+    ensures { result ≡ kind_in (view value.now) }
+{
+    Kind::of_name(name_in(value))
+}
+
+/// The members of `attributes`, where it is an object.
+#[tactic(auto, unfolding(crate::specs::Elements::attributes_in))]
+pub fn attributes_in(value: &Value) -> Option<&Map<String, Value>>
+    ensures { option_map (λ members. members_view members.now.entries) result
+        ≡ attributes_in (view value.now) }
+{
+    value.get("attributes").and_then(Value::as_object)
 }
 
 /// The text, where it is one; where the key is absent, the empty text.
@@ -46,20 +63,64 @@ pub fn children_in(value: &Value) -> Option<&[Value]>
     }
 }
 
-/// Whether each key of the value is one of these.
-#[tactic(auto, unfolding(crate::specs::Elements::has_only))]
-pub fn has_only(value: &Value, known: &[&str]) -> bool
-    ensures { result ≡ has_only (map (λ key. key.now) known.now) (view value.now) }
+/// The elements right below an element: where `children` is an array, its items.
+#[tactic(auto, using(crate::proofs::Items::listed_view))]
+pub fn below(value: &Value) -> &[Value]
+    ensures { map view result.now ≡ below (view value.now) }
 {
-    match value {
-        Value::Object(members) => members.keys().all(|key| is_known(key, known)),
-        _ => true,
+    match children_in(value) {
+        Some(children) => children,
+        None => &[],
     }
 }
 
-/// Whether the key is one of these.
-fn is_known(key: &str, known: &[&str]) -> bool
-    ensures { result ≡ list_any (λ name. bytes_eq name.now key.now) known.now }
+/// The text of a text element. That of another element, white space alone, is dropped.
+#[tactic(auto, unfolding(crate::specs::Elements::text_held))]
+pub fn text_held(value: &Value) -> &str
+    ensures { result.now ≡ text_held (view value.now) }
 {
-    known.contains(&key)
+    if kind_in(value).is_text() {
+        text_in(value).unwrap_or("")
+    } else {
+        ""
+    }
+}
+
+/// The bytes of an element's name, its attributes and its text, or the greatest number where they
+/// are more.
+#[tactic(auto, unfolding(crate::specs::Elements::bytes_held))]
+pub fn bytes_held(value: &Value) -> u64
+    ensures { result ≡ min (bytes_held (view value.now)) (2 ^ 64 - 1) }
+{
+    let texts = name_in(value).len() as u64 + text_held(value).len() as u64;
+    texts.saturating_add(attribute_bytes(value))
+}
+
+/// The bytes of its attributes' names and values, likewise.
+#[tactic(auto, unfolding(crate::specs::Elements::attributes_held, crate::specs::Attributes::bytes_of_attributes))]
+fn attribute_bytes(value: &Value) -> u64
+    ensures { result ≡ min (bytes_of_attributes (attributes_held (view value.now))) (2 ^ 64 - 1) }
+{
+    match attributes_in(value) {
+        Some(members) => member_bytes(members),
+        None => 0,
+    }
+}
+
+/// The bytes of the names and values of these members, likewise.
+fn member_bytes(members: &Map<String, Value>) -> u64
+    ensures { result
+        ≡ min (bytes_of_attributes (attributes_of (members_view members.now.entries))) (2 ^ 64 - 1) }
+{
+    let mut bytes: u64 = 0;
+    for (name, value) in members.iter() {
+        bytes = bytes.saturating_add(bytes_of_member(name, value));
+    }
+    bytes
+}
+
+fn bytes_of_member(name: &str, value: &Value) -> u64
+    ensures { result ≡ bytes_of_attribute (attribute_of name.now (view value.now)) }
+{
+    name.len() as u64 + text_or_empty(value).len() as u64
 }

@@ -1,26 +1,93 @@
 ghost use Rattle.std.specs.Prelude.{◌≡◌};
-ghost use Rattle.math_tree.specs.Kinds.{kind_of};
+ghost use Rattle.math_tree.specs.Kinds.{kind_of, is_text_kind};
 
 /// The kind of an element, which its name decides once, when the element is made (MathML Core 2.1
-/// and 3).
+/// and 3). There is one for each known name.
 #[derive(Clone, Copy, Debug, PartialEq, Eq)]
 pub enum Kind {
-    /// `math`, the root.
+    Annotation,
+    AnnotationXml,
+    Maction,
     Math,
-    /// `mn`, a number.
+    Merror,
+    Mfrac,
+    Mi,
+    Mmultiscripts,
     Mn,
+    Mo,
+    Mover,
+    Mpadded,
+    Mphantom,
+    Mprescripts,
+    Mroot,
+    Mrow,
+    Ms,
+    Mspace,
+    Msqrt,
+    Mstyle,
+    Msub,
+    Msubsup,
+    Msup,
+    Mtable,
+    Mtd,
+    Mtext,
+    Mtr,
+    Munder,
+    Munderover,
+    Semantics,
+    /// Every other name.
+    Unknown,
 }
 
 impl Kind {
-    /// The kind that a name decides, where the name is known. Names are compared exactly.
+    /// The kind that a name decides. Names are compared exactly.
     #[tactic(auto, unfolding(crate::specs::Kinds::kind_of))]
-    pub(crate) fn of_name(name: &str) -> Option<Kind>
+    pub(crate) fn of_name(name: &str) -> Kind
         ensures { result ≡ kind_of name.now }
     {
         match name {
-            "math" => Some(Kind::Math),
-            "mn" => Some(Kind::Mn),
-            _ => None,
+            "annotation" => Kind::Annotation,
+            "annotation-xml" => Kind::AnnotationXml,
+            "maction" => Kind::Maction,
+            "math" => Kind::Math,
+            "merror" => Kind::Merror,
+            "mfrac" => Kind::Mfrac,
+            "mi" => Kind::Mi,
+            "mmultiscripts" => Kind::Mmultiscripts,
+            "mn" => Kind::Mn,
+            "mo" => Kind::Mo,
+            "mover" => Kind::Mover,
+            "mpadded" => Kind::Mpadded,
+            "mphantom" => Kind::Mphantom,
+            "mprescripts" => Kind::Mprescripts,
+            "mroot" => Kind::Mroot,
+            "mrow" => Kind::Mrow,
+            "ms" => Kind::Ms,
+            "mspace" => Kind::Mspace,
+            "msqrt" => Kind::Msqrt,
+            "mstyle" => Kind::Mstyle,
+            "msub" => Kind::Msub,
+            "msubsup" => Kind::Msubsup,
+            "msup" => Kind::Msup,
+            "mtable" => Kind::Mtable,
+            "mtd" => Kind::Mtd,
+            "mtext" => Kind::Mtext,
+            "mtr" => Kind::Mtr,
+            "munder" => Kind::Munder,
+            "munderover" => Kind::Munderover,
+            "semantics" => Kind::Semantics,
+            _ => Kind::Unknown,
         }
+    }
+
+    /// Whether elements of this kind have a text and no children. All others may have children
+    /// and no text.
+    pub fn is_text(self) -> bool
+        ensures { result ≡ is_text_kind self }
+    {
+        matches!(
+            self,
+            Kind::Annotation | Kind::Mi | Kind::Mn | Kind::Mo | Kind::Ms | Kind::Mtext
+        )
     }
 }

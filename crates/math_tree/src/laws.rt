@@ -1,8 +1,20 @@
 //! Laws of the definitions. Each is a contract, so that it is proved; the functions compute nothing.
-ghost use Rattle.math_tree.specs.ShortForm.{ShortFormLaw};
+ghost use Rattle.math_tree.specs.Laws.{FirstFaultLaw, TreeLaw};
+ghost use Rattle.math_tree.specs.Print.{PrintReadsBack};
 
-/// A value stands for a short tree exactly where it is a `math` of that form.
-#[tactic(auto, using(crate::proofs::Forms::short_form))]
-pub fn short_trees_have_this_form()
-    ensures { ShortFormLaw }
+/// The fault of a value is that of an element in document order before which no element has one.
+#[tactic(auto, using(crate::proofs::Firsts::first_fault))]
+pub fn the_first_fault_is_told()
+    ensures { FirstFaultLaw }
+{}
+
+/// A tree lists the elements of its value in document order, and their ids are their places.
+pub fn trees_list_the_elements()
+    ensures { TreeLaw }
+{}
+
+/// The value that a tree is printed as stands for the same tree, with its ids numbered anew.
+#[tactic(auto, using(crate::proofs::RoundTrip::print_reads_back))]
+pub fn a_printed_tree_reads_back()
+    ensures { PrintReadsBack }
 {}

@@ -1,30 +1,39 @@
 //! The tree of elements that is laid out, and its reading from a JSON value.
 //!
 //! `read_tree` takes what `serde_json` made of a text and gives the tree: elements with an id, a
-//! name, a kind and a text each, and the id that the next new element gets. For now it takes short
-//! trees alone: a `math` over at most one `mn` whose text is empty or one character.
+//! name, a kind, attributes and a text each, and the id that the next new element gets. Or it
+//! answers the first faulty element, and its fault.
 //!
 //! - Models: the elements of MathML Core 2 and 3; their JSON form is this project's own.
-//! - Proved: the tree is `short_tree` of the value (`specs/Short.antt`), and `Later` comes exactly
-//!   where there is none; the values that have one are those of a form that is said of their keys
-//!   (`specs/ShortForm.antt`); every `Tree` has the shape `IsShortTree` (`specs/Trees.antt`).
+//! - Proved: the answer is `tree_of` of the value (`specs/Reading.antt`), which goes by a list of
+//!   its elements (`specs/Elements.antt`, `specs/Faults.antt`); the first fault and the elements of
+//!   the tree are those of this list, one by one (`specs/Laws.antt`); every `Tree` is whole,
+//!   `IsWhole` (`specs/Trees.antt`); `print` is the text of `value_of` (`specs/Print.antt`), and
+//!   reading it gives the same tree with its ids numbered anew.
 //! - Knows nothing of: bytes and files, fonts, styles, layout.
-//! - Change what is a tree: `specs/Elements.antt` for a key, `specs/Short.antt` for the whole, then
+//! - Change what is a tree: `specs/Elements.antt` for a key, `specs/Faults.antt` for a fault, then
 //!   the file of the same matter in `src/`, then `rt check`.
 #![tactic(auto)]
 
+mod attributes; // Attribute, Attributes
+mod check; // the faults of an element
 mod element; // what a JSON value says of an element
+mod fault; // TreeFault, ElementFault
+mod forms; // names, white space, limits
 mod kind;
-mod laws;
-mod node;
+mod laws; // of the definitions
+mod node; // Node, Head, NodeId
+mod print; // the canonical print
 mod read;
 mod refusal;
 #[cfg(test)]
 mod tests;
 mod tree;
 
+pub use attributes::{Attribute, Attributes};
+pub use fault::TreeFault;
 pub use kind::Kind;
-pub use laws::short_trees_have_this_form;
+pub use laws::{a_printed_tree_reads_back, the_first_fault_is_told, trees_list_the_elements};
 pub use node::{Head, Node, NodeId};
 pub use read::read_tree;
 pub use refusal::TreeRefusal;

@@ -1,7 +1,12 @@
-ghost use Rattle.std.specs.Prelude.{◌≡◌, IfOk};
+ghost use Rattle.std.specs.Prelude.{◌≡◌, ◌↔◌, IsTrue, IfOk};
+ghost use Rattle.serde_json.specs.View.{view};
+ghost use Rattle.math_tree.specs.Built.{is_built, is_built_number, IsBuilt};
+ghost use Rattle.math_tree.specs.Reading.{head_of};
 
-use crate::Kind;
+use crate::element::{kind_in, name_in, text_held};
+use crate::{Attributes, Kind};
 use fixed_units::{List, Memory, Txt};
+use serde_json::Value;
 use std::alloc::Global;
 
 /// An element with its children, in document order.
@@ -21,7 +26,8 @@ pub struct Head {
     pub name: Txt,
     /// The kind that the name decides.
     pub kind: Kind,
-    /// The text of a text element, empty where none was written.
+    pub attributes: Attributes,
+    /// The text of a text element, empty where none was written. Other elements have none.
     pub text: Txt,
 }
 
@@ -30,22 +36,55 @@ pub struct Head {
 pub struct NodeId(pub u32);
 
 impl Head {
-    /// A head of copies of the texts.
-    pub(crate) fn make(
-        alloc: Global,
-        id: NodeId,
-        name: &str,
-        kind: Kind,
-        text: &str,
-    ) -> Result<Head, Memory>
-        ensures { IfOk result (λ head. head
-            ≡ record { id = id; name = name.now; kind = kind; text = text.now }) }
+    /// What a JSON value says of an element, under this id.
+    pub(crate) fn of_value(alloc: Global, id: NodeId, value: &Value) -> Result<Head, Memory>
+        ensures { IfOk result (λ head. head ≡ head_of id.0 (view value.now)) }
     {
         Ok(Head {
             id,
-            name: Txt::make(alloc, name)?,
-            kind,
-            text: Txt::make(alloc, text)?,
+            name: Txt::make(alloc, name_in(value))?,
+            kind: kind_in(value),
+            attributes: Attributes::of_value(alloc, value)?,
+            text: Txt::make(alloc, text_held(value))?,
         })
+    }
+}
+
+impl Node {
+    /// Whether this is a tree of the form that is laid out so far: a `math` without attributes and
+    /// text, over at most one `mn` without attributes and children whose text is empty or one
+    /// character from `!` to `~`.
+    #[tactic(auto, using(crate::proofs::BuiltForm::built_form))]
+    pub fn is_built(&self) -> bool
+        ensures exact { result ≡ is_built self.now }
+        ensures form { IsTrue result ↔ IsBuilt self.now }
+    {
+        self.is_built_math()
+    }
+
+    #[tactic(auto, unfolding(crate::specs::Built::is_built))]
+    fn is_built_math(&self) -> bool
+        ensures { result ≡ is_built self.now }
+    {
+        let head = &self.head;
+        matches!(head.kind, Kind::Math)
+            && head.attributes.as_slice().is_empty()
+            && head.text.as_str().is_empty()
+            && match self.children.as_slice() {
+                [] => true,
+                [child] => child.is_built_number(),
+                _ => false,
+            }
+    }
+
+    #[tactic(auto, unfolding(crate::specs::Built::is_built_number))]
+    fn is_built_number(&self) -> bool
+        ensures { result ≡ is_built_number self.now }
+    {
+        let head = &self.head;
+        matches!(head.kind, Kind::Mn)
+            && head.attributes.as_slice().is_empty()
+            && matches!(head.text.as_str().as_bytes(), [] | [b'!'..=b'~'])
+            && self.children.is_empty()
     }
 }

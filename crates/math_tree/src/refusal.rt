@@ -1,12 +1,13 @@
+use crate::TreeFault;
 use fixed_units::Memory;
 use thiserror::Error;
 
 /// Why a JSON value gave no tree.
 #[derive(Clone, Copy, Debug, PartialEq, Eq, Error)]
 pub enum TreeRefusal {
-    /// The value isn't a short tree, and no other tree is read for now.
-    #[error("only a short tree is read for now")]
-    Later,
+    /// An element is faulty, and none before it.
+    #[error("element {} has the fault {}", .0.element, .0.kind)]
+    Fault(TreeFault),
     /// Memory was refused.
     #[error("memory was refused")]
     Memory,

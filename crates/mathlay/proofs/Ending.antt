@@ -5,22 +5,23 @@ use Rattle.std.specs.Option.{option_map}
 use Rattle.std.specs.Io.KnownBytes.{Appends, Keeps}
 use Rattle.doc_io.specs.Causes.{Files, Rose}
 use Rattle.doc_io.proofs.Known.{appends_kept}
-use Rattle.mathlay.specs.Command.{layout_files}
+use Rattle.mathlay.specs.Command.{asked_by}
 use Rattle.mathlay.specs.Refusals.{status_of}
 use Rattle.mathlay.specs.Answer.{answer, Output, output_of, output}
 use Rattle.mathlay.specs.Ends.{Seen, Told, LacksFile, HasReadCause, IsCut, IsCutShort, Answers, Delivers, Ends, KnowsWords}
 use Rattle.mathlay.specs.declared.status.Status.{Status}
 use Rattle.mathlay.specs.declared.status.Status.TheVariants as status
 use Rattle.mathlay.specs.declared.refusal.Refusal.{Refusal}
-use Rattle.mathlay.specs.declared.refusal.Refusal.TheVariants.{Usage, MetricsLong, MetricsLater, TreeLong, TreeJson, TreeLater, ReadFault, Memory}
+use Rattle.mathlay.specs.declared.refusal.Refusal.TheVariants.{Usage, MetricsLong, Metrics, TreeLong, TreeJson, Tree, TreeLater, ReadFault, Memory}
 
 -- the status tells a failed read, want of memory, and words that are no command
 is_read_fault : (refusal : Refusal) → status_of refusal ≡ status.ReadFault → refusal ≡ ReadFault
 is_read_fault Usage e = cc
 is_read_fault MetricsLong e = cc
-is_read_fault MetricsLater e = cc
+is_read_fault (Metrics fault) e = cc
 is_read_fault TreeLong e = cc
 is_read_fault TreeJson e = cc
+is_read_fault (Tree fault) e = cc
 is_read_fault TreeLater e = cc
 is_read_fault ReadFault e = refl
 is_read_fault Memory e = cc
@@ -28,9 +29,10 @@ is_read_fault Memory e = cc
 is_memory : (refusal : Refusal) → status_of refusal ≡ status.Memory → refusal ≡ Memory
 is_memory Usage e = cc
 is_memory MetricsLong e = cc
-is_memory MetricsLater e = cc
+is_memory (Metrics fault) e = cc
 is_memory TreeLong e = cc
 is_memory TreeJson e = cc
+is_memory (Tree fault) e = cc
 is_memory TreeLater e = cc
 is_memory ReadFault e = cc
 is_memory Memory e = refl
@@ -38,9 +40,10 @@ is_memory Memory e = refl
 is_usage : (refusal : Refusal) → status_of refusal ≡ status.Usage → refusal ≡ Usage
 is_usage Usage e = refl
 is_usage MetricsLong e = cc
-is_usage MetricsLater e = cc
+is_usage (Metrics fault) e = cc
 is_usage TreeLong e = cc
 is_usage TreeJson e = cc
+is_usage (Tree fault) e = cc
 is_usage TreeLater e = cc
 is_usage ReadFault e = cc
 is_usage Memory e = cc
@@ -49,9 +52,10 @@ is_usage Memory e = cc
 pub not_write_fault : (refusal : Refusal) → status_of refusal ≡ status.WriteFault → ⊥
 not_write_fault Usage e = cc
 not_write_fault MetricsLong e = cc
-not_write_fault MetricsLater e = cc
+not_write_fault (Metrics fault) e = cc
 not_write_fault TreeLong e = cc
 not_write_fault TreeJson e = cc
+not_write_fault (Tree fault) e = cc
 not_write_fault TreeLater e = cc
 not_write_fault ReadFault e = cc
 not_write_fault Memory e = cc
@@ -140,7 +144,7 @@ module _ (words : List (List ℕ)) (before after : Seen) (old new : Told) (s : S
     ]
   ]
 
-  no_command : layout_files words ≡ None → (s ≡ status.Usage) ⊎ (s ≡ status.WriteFault)
+  no_command : asked_by words ≡ None → (s ≡ status.Usage) ⊎ (s ≡ status.WriteFault)
   no_command none = elim d.whole [ inl w ↦ inr w | inr e ↦ inl (e.0 ∙ ap (λ r. (output_of r).status) (k.unknown none)) ]
 
   cut : (s ≡ status.ReadFault) ⊎ (s ≡ status.Memory) → Keeps old.written new.written

@@ -8,18 +8,19 @@ use Rattle.doc_io.specs.Whole.{ReadsAll}
 use Rattle.doc_io.specs.declared.whole.ReadRefusal.{ReadRefusal}
 use Rattle.doc_io.specs.declared.whole.ReadRefusal.TheVariants as reading
 use Rattle.font_metrics.specs.Metrics.{MetricsValue}
-use Rattle.font_metrics.specs.Short.{short_metrics}
+use Rattle.font_metrics.specs.Reading.{Fault, metrics_of}
 use Rattle.math_tree.specs.Trees.{TreeValue}
-use Rattle.math_tree.specs.Short.{short_tree}
+use Rattle.math_tree.specs.Reading.{tree_of}
+use Rattle.math_tree.specs.declared.fault.TreeFault.{TreeFault}
 use Rattle.serde_json.specs.Data.{Data}
 use Rattle.serde_json.specs.Read.{read}
 use Rattle.std.specs.Str.{IsUtf8, is_utf8}
 use Rattle.std.proofs.lemmas.Str.{IsUtf8-from_is_utf8, is_utf8-from_IsUtf8}
 use Rattle.mathlay.specs.Refusals.{of_reading}
-use Rattle.mathlay.specs.Answer.{content, value_or, metrics_in, json_in, tree_of_json, tree_in}
+use Rattle.mathlay.specs.Answer.{content, of_metrics_file, metrics_in, json_in, of_tree_file, tree_of_json, tree_in}
 use Rattle.mathlay.specs.Ends.{Seen, IsCut, GivesOr, Answers}
 use Rattle.mathlay.specs.declared.refusal.Refusal.{Refusal}
-use Rattle.mathlay.specs.declared.refusal.Refusal.TheVariants.{MetricsLong, MetricsLater, TreeLong, TreeJson, TreeLater, ReadFault, Memory}
+use Rattle.mathlay.specs.declared.refusal.Refusal.TheVariants.{MetricsLong, Metrics, TreeLong, TreeJson, Tree, ReadFault, Memory}
 
 -- ---- a file's bytes
 
@@ -120,11 +121,11 @@ module _ {V : Type 0} (in_bytes : List ℕ → Result V Refusal) (limit : ℕ) (
 
 -- ---- metrics
 
-value_refuses : {V : Type 0} (own other : Refusal) (o : Option V) → value_or own o ≡ Err other → own ≡ other
-value_refuses own other None h = err_same own other h
-value_refuses own other (Some v) h = absurd cc
+metrics_no_fault : (said : Result MetricsValue Fault) → of_metrics_file said ≡ Err ReadFault → ⊥
+metrics_no_fault (Ok metrics) h = cc
+metrics_no_fault (Err fault) h = let e = err_same _ ReadFault h in cc
 
-metrics_short : (bytes : List ℕ) → length bytes ≤ 8388608 → metrics_in bytes ≡ value_or MetricsLater (short_metrics bytes)
+metrics_short : (bytes : List ℕ) → length bytes ≤ 8388608 → metrics_in bytes ≡ of_metrics_file (metrics_of bytes)
 unfolding metrics_in
 metrics_short bytes short = let no : nat_lt 8388608 (length bytes) ≡ false = le-ltb 8388608 (length bytes) short in rw no refl
 
@@ -135,14 +136,14 @@ metrics_long bytes long = let yes : nat_lt 8388608 (length bytes) ≡ true = lt-
 -- the bytes that were read, as they were handed on
 pub metrics_read : (name bytes shown : List ℕ) (before after : Seen) (result : Result MetricsValue Refusal) → after.files ≡ before.files
     → ReadsAll before.files before.faults after.faults before.missing after.missing name 8388608 (Ok bytes)
-    → shown ≡ bytes → GivesOr (value_or MetricsLater (short_metrics shown)) result
+    → shown ≡ bytes → GivesOr (of_metrics_file (metrics_of shown)) result
     → Answers (option_map (λ f. metrics_in (content f name)) before.files) (λ f. f name ≡ None) before after result
 metrics_read name bytes shown before after result same reads is gives =
-    let whole : metrics_in bytes ≡ value_or MetricsLater (short_metrics shown) =
-    metrics_short bytes reads.short ∙ ap (λ b. value_or MetricsLater (short_metrics b)) (sym is) in
+    let whole : metrics_in bytes ≡ of_metrics_file (metrics_of shown) =
+    metrics_short bytes reads.short ∙ ap (λ b. of_metrics_file (metrics_of b)) (sym is) in
     read_whole metrics_in 8388608 name before after same bytes result reads
     (subst (λ w. GivesOr w result) (sym whole) gives)
-    (λ fault. let e = value_refuses MetricsLater ReadFault (short_metrics shown) (sym whole ∙ fault) in cc)
+    (λ fault. metrics_no_fault (metrics_of shown) (sym whole ∙ fault))
 
 -- ---- trees
 
@@ -154,9 +155,13 @@ pub tree_long : (bytes : List ℕ) → 4194304 < length bytes → tree_in bytes 
 unfolding tree_in
 tree_long bytes long = let yes : nat_lt 4194304 (length bytes) ≡ true = lt-ltb 4194304 (length bytes) long in rw yes refl
 
+tree_no_fault : (said : Result TreeValue TreeFault) → of_tree_file said ≡ Err ReadFault → ⊥
+tree_no_fault (Ok tree) h = cc
+tree_no_fault (Err fault) h = let e = err_same _ ReadFault h in cc
+
 json_no_fault : (json : Option Data) → tree_of_json json ≡ Err ReadFault → ⊥
 json_no_fault None h = let e = err_same TreeJson ReadFault h in cc
-json_no_fault (Some value) h = let e = value_refuses TreeLater ReadFault (short_tree value) h in cc
+json_no_fault (Some value) h = tree_no_fault (tree_of value) h
 
 pub tree_read : (name bytes shown : List ℕ) (before after : Seen) (result : Result TreeValue Refusal) → after.files ≡ before.files
     → ReadsAll before.files before.faults after.faults before.missing after.missing name 4194304 (Ok bytes)

@@ -1,21 +1,28 @@
 -- What the program answers to its words, where the files are told: the table of its endings.
-use Rattle.std.specs.Prelude.{ℕ, List, [], length, nat_lt, if◌then◌else◌, Option, Some, None, Result, Ok, Err, unwrap_or}
+use Rattle.std.specs.Prelude.{ℕ, List, [], ◌∷◌, ◌++◌, length, nat_lt, if◌then◌else◌, Option, Some, None, Result, Ok, Err, unwrap_or}
 use Rattle.std.specs.Str.{is_utf8}
 use Rattle.serde_json.specs.Data.{Data}
 use Rattle.serde_json.specs.Read.{read}
 use Rattle.doc_io.specs.Causes.{Files}
 use Rattle.font_metrics.specs.Metrics.{MetricsValue}
-use Rattle.font_metrics.specs.Short.{short_metrics}
+use Rattle.font_metrics.specs.Print.{print_of as metrics_print}
+use Rattle.font_metrics.specs.Reading.{Fault, metrics_of}
+use Rattle.font_metrics.specs.Reads.{told}
+use Rattle.math_tree.specs.Built.{is_built}
+use Rattle.math_tree.specs.Print.{print_of as tree_print}
+use Rattle.math_tree.specs.Reading.{tree_of}
 use Rattle.math_tree.specs.Trees.{TreeValue}
-use Rattle.math_tree.specs.Short.{short_tree}
-use Rattle.mathlay.specs.Command.{FileNames, layout_files}
+use Rattle.math_tree.specs.declared.fault.TreeFault.{TreeFault}
+use Rattle.mathlay.specs.Command.{Asked, asked_by}
+use Rattle.mathlay.specs.declared.command.Task.{Task}
+use Rattle.mathlay.specs.declared.command.Task.TheVariants.{Layout, Check}
 use Rattle.mathlay.specs.Refusals.{line_of, status_of}
 use Rattle.mathlay.specs.Placed.{place}
 use Rattle.mathlay.specs.Lines.{text_of}
 use Rattle.mathlay.specs.declared.status.Status.{Status}
 use Rattle.mathlay.specs.declared.status.Status.TheVariants.{Done}
 use Rattle.mathlay.specs.declared.refusal.Refusal.{Refusal}
-use Rattle.mathlay.specs.declared.refusal.Refusal.TheVariants.{Usage, MetricsLong, MetricsLater, TreeLong, TreeJson, TreeLater}
+use Rattle.mathlay.specs.declared.refusal.Refusal.TheVariants.{Usage, MetricsLong, Metrics, TreeLong, TreeJson, Tree, TreeLater}
 
 -- ---- the two files
 
@@ -23,23 +30,29 @@ use Rattle.mathlay.specs.declared.refusal.Refusal.TheVariants.{Usage, MetricsLon
 abbrev pub content : Files → List ℕ → List ℕ
 content files name = unwrap_or (files name) []
 
-abbrev pub value_or : {V : Type 0} → Refusal → Option V → Result V Refusal
-value_or refusal None = Err refusal
-value_or refusal (Some value) = Ok value
+-- the metrics, or their first fault as it is told
+abbrev pub of_metrics_file : Result MetricsValue Fault → Result MetricsValue Refusal
+of_metrics_file (Ok metrics) = Ok metrics
+of_metrics_file (Err fault) = Err (Metrics (told fault))
 
 -- the metrics of a file's bytes, which are at most 8 MiB
 unfoldable pub metrics_in : List ℕ → Result MetricsValue Refusal
 metrics_in bytes =
     if nat_lt 8388608 (length bytes) then Err MetricsLong
-    else value_or MetricsLater (short_metrics bytes)
+    else of_metrics_file (metrics_of bytes)
 
 -- the JSON value of a file's bytes: they are UTF-8, and `serde_json` reads the text
 abbrev pub json_in : List ℕ → Option Data
 json_in bytes = if is_utf8 bytes then read bytes else None
 
+-- the tree, or its first fault
+abbrev pub of_tree_file : Result TreeValue TreeFault → Result TreeValue Refusal
+of_tree_file (Ok tree) = Ok tree
+of_tree_file (Err fault) = Err (Tree fault)
+
 abbrev pub tree_of_json : Option Data → Result TreeValue Refusal
 tree_of_json None = Err TreeJson
-tree_of_json (Some value) = value_or TreeLater (short_tree value)
+tree_of_json (Some value) = of_tree_file (tree_of value)
 
 -- the tree of a file's bytes, which are at most 4 MiB
 unfoldable pub tree_in : List ℕ → Result TreeValue Refusal
@@ -54,19 +67,34 @@ abbrev pub ◌>>=◌ : {A B : Type 0} → Result A Refusal → (A → Result B R
 Ok value >>= next = next value
 Err refusal >>= next = Err refusal
 
--- the text of the boxes, or the first refusal
-unfoldable pub answer_in : List ℕ → List ℕ → Result (List ℕ) Refusal
-answer_in metrics_bytes tree_bytes = do
+-- the lines of the boxes, where the tree is one that is laid out so far
+abbrev pub laid_out : MetricsValue → TreeValue → Result (List ℕ) Refusal
+laid_out metrics tree =
+    if is_built tree.root then Ok (text_of metrics (place metrics tree.root)) else Err TreeLater
+
+-- the canonical print of both files, and a line feed
+abbrev pub checked : MetricsValue → TreeValue → List ℕ
+checked metrics tree = metrics_print metrics ++ tree_print tree ++ 10 ∷ []
+
+-- what a task makes of the two files
+unfoldable pub done : Task → MetricsValue → TreeValue → Result (List ℕ) Refusal
+done Layout metrics tree = laid_out metrics tree
+done Check metrics tree = Ok (checked metrics tree)
+
+-- the text that is asked for, or the first refusal
+unfoldable pub answer_in : Task → List ℕ → List ℕ → Result (List ℕ) Refusal
+answer_in task metrics_bytes tree_bytes = do
   metrics ← metrics_in metrics_bytes
   tree ← tree_in tree_bytes
-  Ok (text_of metrics (place metrics tree.root))
+  done task metrics tree
 
-abbrev pub answer_to : Option FileNames → Files → Result (List ℕ) Refusal
+abbrev pub answer_to : Option Asked → Files → Result (List ℕ) Refusal
 answer_to None files = Err Usage
-answer_to (Some names) files = answer_in (content files names.metrics) (content files names.tree)
+answer_to (Some asked) files =
+    answer_in asked.task (content files asked.metrics) (content files asked.tree)
 
 abbrev pub answer : List (List ℕ) → Files → Result (List ℕ) Refusal
-answer words files = answer_to (layout_files words) files
+answer words files = answer_to (asked_by words) files
 
 -- ---- what is written, and the status
 

@@ -2,7 +2,7 @@
 use Rattle.std.specs.Prelude.{◌≡◌, ◌⊎◌, ℕ, ◌≤◌, List, [], take, Option, Some, None, IsNone, IfSome, IsSomeAnd, Result, IsOk, IsErrOf}
 use Rattle.std.specs.Io.KnownBytes.{Appends, Keeps}
 use Rattle.doc_io.specs.Causes.{Files, Rose}
-use Rattle.mathlay.specs.Command.{FileNames, layout_files}
+use Rattle.mathlay.specs.Command.{Asked, asked_by}
 use Rattle.mathlay.specs.Answer.{content, metrics_in, output}
 use Rattle.mathlay.specs.declared.status.Status.{Status}
 use Rattle.mathlay.specs.declared.status.Status.TheVariants.{Usage, ReadFault, WriteFault, Memory}
@@ -30,18 +30,18 @@ told written faults out = record { written = written out; faults = faults out }
 -- ---- which files are reached
 
 -- the metrics file always, and the tree file where the metrics file gives metrics
-abbrev pub IsReachedOf : Option FileNames → Files → List ℕ → Type 0
+abbrev pub IsReachedOf : Option Asked → Files → List ℕ → Type 0
 IsReachedOf None files name = ⊥
-IsReachedOf (Some names) files name =
-    (name ≡ names.metrics)
-    ⊎ ((name ≡ names.tree) × IsOk (metrics_in (content files names.metrics)))
+IsReachedOf (Some asked) files name =
+    (name ≡ asked.metrics)
+    ⊎ ((name ≡ asked.tree) × IsOk (metrics_in (content files asked.metrics)))
 
 -- a reached file isn't there
-abbrev pub LacksFileOf : Option FileNames → Files → Type 0
-LacksFileOf names files = (name : List ℕ) × IsReachedOf names files name × (files name ≡ None)
+abbrev pub LacksFileOf : Option Asked → Files → Type 0
+LacksFileOf asked files = (name : List ℕ) × IsReachedOf asked files name × (files name ≡ None)
 
 abbrev pub LacksFile : List (List ℕ) → Files → Type 0
-LacksFile words files = LacksFileOf (layout_files words) files
+LacksFile words files = LacksFileOf (asked_by words) files
 
 -- ---- causes
 
@@ -75,8 +75,8 @@ pub record Answers {V : Type 0} (wanted : Option (Result V Refusal)) (lacks : Fi
 -- the words are told to be no command exactly where they are none
 pub record KnowsWords {V : Type 0} (words : List (List ℕ))
     (result : Result V Refusal) : Type 0 where
-  pub known : IsErrOf result refusal.Usage → layout_files words ≡ None
-  pub unknown : layout_files words ≡ None → IsErrOf result refusal.Usage
+  pub known : IsErrOf result refusal.Usage → asked_by words ≡ None
+  pub unknown : asked_by words ≡ None → IsErrOf result refusal.Usage
 
 -- the text was written and the status is the wanted one, or a write failed
 pub record Delivers (text : List ℕ) (wanted : Status) (old new : Told)
@@ -113,8 +113,8 @@ pub record Ends (words : List (List ℕ)) (before after : Seen) (old new : Told)
       ¬ LacksFile words files → ¬ Rose before.faults after.faults → ¬ Rose old.faults new.faults →
       (status ≡ (output words files).status) ⊎ (status ≡ Memory))
   -- words that are no command are told so, and no others are, whatever the inputs tell
-  pub usage : status ≡ Usage → layout_files words ≡ None
-  pub no_command : layout_files words ≡ None → (status ≡ Usage) ⊎ (status ≡ WriteFault)
+  pub usage : status ≡ Usage → asked_by words ≡ None
+  pub no_command : asked_by words ≡ None → (status ≡ Usage) ⊎ (status ≡ WriteFault)
   -- no file is changed, and no count of the inputs falls
   pub files : after.files ≡ before.files
   pub faults : before.faults ≤ after.faults

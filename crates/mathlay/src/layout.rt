@@ -1,5 +1,5 @@
 ghost use Rattle.std.specs.Prelude.{◌≡◌};
-ghost use Rattle.font_metrics.specs.Metrics.{IsInDesign};
+ghost use Rattle.font_metrics.specs.Taken.{IsInDesign};
 ghost use Rattle.mathlay.specs.Layout.{glyph_box, token_of, row_of};
 
 use fixed_units::{MathBox, half};

@@ -5,7 +5,7 @@ ghost use Rattle.mathlay.specs.Lines.{box_line, glyph_line, item_line, spaced, t
 ghost use Rattle.mathlay.specs.Placed.{IsOfFont};
 
 use crate::placed::{PlacedBox, PlacedGlyph, PlacedItem};
-use fixed_units::Memory;
+use fixed_units::{List, Memory};
 use font_metrics::Metrics;
 use std::alloc::Global;
 use std::fmt::Write;
@@ -40,11 +40,11 @@ impl Lines {
         Ok(lines)
     }
 
-    /// All lines as one text.
-    pub fn as_str(&self) -> &str
-        ensures { result.now ≡ self.now }
+    /// The bytes of all lines.
+    pub fn into_bytes(self) -> List<u8>
+        ensures { result ≡ self }
     {
-        self.text.as_str()
+        List::from(self.text.into_bytes())
     }
 
     fn add_item(&mut self, item: &PlacedItem, metrics: &Metrics) -> Result<(), Memory>

@@ -1,10 +1,9 @@
 ghost use Rattle.std.specs.Prelude.{◌≡◌, ◌≤◌, None, IsErrOf, length};
 ghost use Rattle.std.specs.Option.{option_map};
-ghost use Rattle.mathlay.specs.Answer.{content, metrics_in, tree_in, tree_of_json, json_in, value_or};
+ghost use Rattle.mathlay.specs.Answer.{content, metrics_in, tree_in, tree_of_json, json_in, of_metrics_file, of_tree_file};
 ghost use Rattle.mathlay.specs.Ends.{Answers, GivesOr, seen};
-ghost use Rattle.mathlay.specs.declared.refusal.Refusal.TheVariants.{MetricsLater, TreeLater};
-ghost use Rattle.font_metrics.specs.Short.{short_metrics};
-ghost use Rattle.math_tree.specs.Short.{short_tree};
+ghost use Rattle.font_metrics.specs.Reading.{metrics_of};
+ghost use Rattle.math_tree.specs.Reading.{tree_of};
 ghost use Rattle.serde_json.specs.View.{view};
 
 use crate::refusal::Refusal;
@@ -42,7 +41,7 @@ pub fn load_metrics<I: Inputs>(
 /// The metrics of a file's bytes.
 fn metrics_of(alloc: Global, bytes: &[u8]) -> Result<Metrics, Refusal>
     requires { length bytes.now ≤ 8388608 }
-    ensures gives { GivesOr (value_or MetricsLater (short_metrics bytes.now)) result }
+    ensures gives { GivesOr (of_metrics_file (metrics_of bytes.now)) result }
     ensures known { ¬ IsErrOf result Refusal.Usage }
 {
     Ok(read_metrics(alloc, bytes)?)
@@ -82,7 +81,7 @@ fn tree_of(alloc: Global, bytes: &[u8]) -> Result<Tree, Refusal>
 
 /// The tree of a JSON value.
 fn tree_of_value(alloc: Global, value: &Value) -> Result<Tree, Refusal>
-    ensures gives { GivesOr (value_or TreeLater (short_tree (view value.now))) result }
+    ensures gives { GivesOr (of_tree_file (tree_of (view value.now))) result }
     ensures known { ¬ IsErrOf result Refusal.Usage }
 {
     Ok(read_tree(alloc, value)?)

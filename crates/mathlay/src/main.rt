@@ -1,5 +1,5 @@
-//! The program `mathlay`: it lays out the tree of one file with the metrics of another, and writes
-//! what stands where.
+//! The program `mathlay`: it lays out the tree of one file with the metrics of another and writes
+//! what stands where, or prints both files in their canonical form.
 //!
 //! `run` does all that the program does, over any inputs and any sink. `main` hands it the words of
 //! the command line, the system's files and standard output, and ends with its status.
@@ -11,17 +11,18 @@
 //! - Change what is answered: `specs/Answer.antt`, then the file of `src/` below, then `rt check`.
 #![tactic(auto)]
 
+mod command; // the words of the command line
 mod layout; // the boxes of tokens and rows
 mod lines; // the lines of output
 mod load; // the two files
 mod place; // what stands where
 mod placed; // the items that stand
-mod refusal; // why there are no boxes
+mod refusal; // why the answer is another
+mod refusal_line; // the line that tells of it
 mod run; // the top call
 mod status; // how a run ends
 #[cfg(test)]
 mod tests;
-mod words; // the words of the command line
 
 ghost use Rattle.std.specs.Prelude.{◌≡◌, ◌<◌};
 

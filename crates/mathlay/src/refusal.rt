@@ -1,14 +1,18 @@
 ghost use Rattle.std.specs.Prelude.{◌≡◌};
 ghost use Rattle.mathlay.specs.Refusals.{line_of, status_of, of_reading};
 
+use crate::refusal_line::RefusalLine;
 use crate::status::Status;
 use doc_io::ReadRefusal;
 use fixed_units::Memory;
-use font_metrics::MetricsRefusal;
-use math_tree::TreeRefusal;
+use font_metrics::{MetricsFault, MetricsRefusal};
+use math_tree::{TreeFault, TreeRefusal};
 use thiserror::Error;
 
-/// Why a run shows no boxes.
+/// The words of each command.
+const USAGE: &str = "usage: mathlay layout METRICS TREE | check METRICS TREE\n";
+
+/// Why a run doesn't write what is asked for.
 #[derive(Clone, Copy, Debug, PartialEq, Eq, Error)]
 pub enum Refusal {
     /// The words are no command.
@@ -17,17 +21,20 @@ pub enum Refusal {
     /// The metrics file has more bytes than its limit.
     #[error("the metrics file is too long")]
     MetricsLong,
-    /// The metrics file isn't of the short form, which is all that is read yet.
-    #[error("only short metrics files are read for now")]
-    MetricsLater,
+    /// The metrics file has this fault.
+    #[error("line {} of the metrics file has a fault of kind {}", .0.line, .0.kind)]
+    Metrics(MetricsFault),
     /// The tree file has more bytes than its limit.
     #[error("the tree file is too long")]
     TreeLong,
     /// The tree file has no reading as JSON.
     #[error("the tree file is no JSON")]
     TreeJson,
-    /// The tree isn't of the short form, which is all that is read yet.
-    #[error("only short trees are read for now")]
+    /// The tree has this fault.
+    #[error("element {} of the tree has a fault of kind {}", .0.element, .0.kind)]
+    Tree(TreeFault),
+    /// The tree is none of those that are laid out yet.
+    #[error("only a `math` over at most one `mn` of one character is laid out for now")]
     TreeLater,
     /// A read failed, or a file isn't there.
     #[error("a read failed")]
@@ -40,17 +47,18 @@ pub enum Refusal {
 impl Refusal {
     /// The one line that tells the user, with its line feed. A failed read and want of memory
     /// are told by the status alone.
-    pub fn line(self) -> &'static str
-        ensures { result.now ≡ line_of self }
+    pub fn line(self) -> RefusalLine
+        ensures { result ≡ line_of self }
     {
         match self {
-            Refusal::Usage => "usage: mathlay layout METRICS TREE\n",
-            Refusal::MetricsLong => "metrics long\n",
-            Refusal::MetricsLater => "metrics later\n",
-            Refusal::TreeLong => "tree long\n",
-            Refusal::TreeJson => "tree json\n",
-            Refusal::TreeLater => "tree later\n",
-            Refusal::ReadFault | Refusal::Memory => "",
+            Refusal::Usage => RefusalLine::of_text(USAGE),
+            Refusal::MetricsLong => RefusalLine::of_text("metrics long\n"),
+            Refusal::Metrics(fault) => RefusalLine::of_fault("metrics", fault.line, fault.kind),
+            Refusal::TreeLong => RefusalLine::of_text("tree long\n"),
+            Refusal::TreeJson => RefusalLine::of_text("tree json\n"),
+            Refusal::Tree(fault) => RefusalLine::of_fault("tree", fault.element, fault.kind),
+            Refusal::TreeLater => RefusalLine::of_text("tree later\n"),
+            Refusal::ReadFault | Refusal::Memory => RefusalLine::of_text(""),
         }
     }
 
@@ -60,8 +68,10 @@ impl Refusal {
     {
         match self {
             Refusal::Usage => Status::Usage,
-            Refusal::MetricsLong | Refusal::MetricsLater => Status::Metrics,
-            Refusal::TreeLong | Refusal::TreeJson | Refusal::TreeLater => Status::Tree,
+            Refusal::MetricsLong | Refusal::Metrics(_) => Status::Metrics,
+            Refusal::TreeLong | Refusal::TreeJson | Refusal::Tree(_) | Refusal::TreeLater => {
+                Status::Tree
+            }
             Refusal::ReadFault => Status::ReadFault,
             Refusal::Memory => Status::Memory,
         }
@@ -98,7 +108,7 @@ impl From<MetricsRefusal> for Refusal {
 
     fn from(refusal: MetricsRefusal) -> Self {
         match refusal {
-            MetricsRefusal::Later => Refusal::MetricsLater,
+            MetricsRefusal::Fault(fault) => Refusal::Metrics(fault),
             MetricsRefusal::Memory => Refusal::Memory,
         }
     }
@@ -112,7 +122,7 @@ impl From<TreeRefusal> for Refusal {
 
     fn from(refusal: TreeRefusal) -> Self {
         match refusal {
-            TreeRefusal::Later => Refusal::TreeLater,
+            TreeRefusal::Fault(fault) => Refusal::Tree(fault),
             TreeRefusal::Memory => Refusal::Memory,
         }
     }

@@ -1,33 +1,86 @@
-use Rattle.std.proofs.Common.{◌∙◌, ◌-◌, ap, sym, subst, length, drop, take, nat_eq, Err}
-use Rattle.std.specs.Cmp.Lexicographic.{pointwise}
+use Rattle.std.proofs.Common.{◌≡◌, ◌≢◌, ◌∙◌, ◌+◌, ap, sym, subst, List, ℕ, [], Ok, Err, rules, arith, true}
+use Rattle.std.specs.Str.Lines.{lines}
+use Rattle.font_metrics.specs.declared.refusal.LineRefusal.TheVariants.{Fault as FaultyLine}
+use Rattle.font_metrics.specs.Reading.{after, after_first, finished, numbered, metrics_of}
 use Rattle.font_metrics.specs.Reads.{Reads}
-use Rattle.font_metrics.specs.Taking.{finished}
-use Rattle.font_metrics.specs.Words.{◌>>=◌}
-use Rattle.font_metrics.proofs.Turns.{handed_on, refused, whole_lines, cut_line}
+use Rattle.font_metrics.specs.Whole.{IsGiven}
+use Rattle.font_metrics.proofs.Forward.{continued, from_line, from_first, stopped, stopped_first, more, ended, none_left, lacks}
+use Rattle.font_metrics.proofs.Ranges.{after_keeps, nothing_given, first_gives}
 use Rattle.font_metrics.proofs.read.read_metrics.Goals as goal
 
-pub returns-in-None-clause-reads : goal.returns-in-None-clause-reads
-returns-in-None-clause-reads c =
-    let bytes = c.args.bytes.now in
-    cut_line bytes
-    (ap (λ s. pointwise nat_eq (drop (length bytes - length s) bytes) s) (sym c.as_slice.ensures) ∙ c.in-None.ensures.cases)
+pub returns-in-Err : goal.returns-in-Err
+returns-in-Err c =
+    let first = c.first_line.result.0.now in
+    record {
+      reads =
+          subst (λ r. Reads (metrics_of c.args.bytes.now) (Err r)) (sym c.at.ensures)
+          (stopped_first _ 1 (after_first first) _ c.in-Err.refusal
+          (from_first c.args.bytes.now first (lines c.first_line.result.1.now) c.first_line.ensures.line) c.in-Err.ensures);
+    }
 
-pub returns-in_err-read_lines-in-Some-clause-reads : goal.returns-in_err-read_lines-in-Some-clause-reads
-returns-in_err-read_lines-in-Some-clause-reads c =
-    let bytes = c.args.bytes.now in
-    let cut = c.in-Some.ensures.cases in
-    let is = whole_lines bytes c.in-Some.lines.now
-    (ap (λ s. pointwise nat_eq (drop (length bytes - length s) bytes) s) (sym c.as_slice.ensures) ∙ cut.0)
-    (cut.1 ∙ ap (λ s. take (length bytes - length s) bytes) c.as_slice.ensures) in
-    let refusal = c.in_err-read_lines-in-Some.field-0.0 in
-    handed_on _ c.from_residual.result refusal c.from_residual.ensures.1
-    (subst (λ v. Reads v (Err refusal)) (sym is) (refused _ finished refusal c.in_err-read_lines-in-Some.ensures.reads))
+pub loop-rest-init : goal.loop-rest-init
+loop-rest-init c =
+    let first = c.first_line.result.0.now in
+    let rest = lines c.first_line.result.1.now in
+    record {
+      says =
+          from_first c.args.bytes.now first rest c.first_line.ensures.line
+          ∙ ap (λ s. continued 1 s (λ next. from_line 1 next rest)) c.in-Ok.ensures;
+      given = subst IsGiven (sym (first_gives first c.in-Ok.reader c.in-Ok.ensures)) nothing_given;
+      small = let bound = c.first_line.ensures.bound in omega (arith, bound, c.requires);
+    }
 
-pub returns-in_ok-read_lines-in-Some-clause-reads : goal.returns-in_ok-read_lines-in-Some-clause-reads
-returns-in_ok-read_lines-in-Some-clause-reads c =
-    let bytes = c.args.bytes.now in
-    let cut = c.in-Some.ensures.cases in
-    let is = whole_lines bytes c.in-Some.lines.now
-    (ap (λ s. pointwise nat_eq (drop (length bytes - length s) bytes) s) (sym c.as_slice.ensures) ∙ cut.0)
-    (cut.1 ∙ ap (λ s. take (length bytes - length s) bytes) c.as_slice.ensures) in
-    subst (λ v. Reads v c.finish.result) (sym (is ∙ ap (λ v. v >>= finished) c.in_ok-read_lines-in-Some.ensures.reads)) c.finish.ensures.reads
+pub loop-rest-preserved : goal.loop-rest-preserved
+loop-rest-preserved c =
+    let n = c.loop-rest.number in
+    let line = c.first_line-in-loop-rest.result.0.now in
+    let left = c.first_line-in-loop-rest.result.1.now in
+    let some : c.loop-rest.rest.now ≢ [] = search rules in
+    record {
+      says =
+          c.loop-rest.invariant.says
+          ∙ more c.loop-rest.rest.now line left n c.loop-rest.reader some c.first_line-in-loop-rest.ensures.line
+          ∙ ap (λ s. continued (n + 1) s (λ next. from_line (n + 1) next (lines left))) c.in_default.ensures;
+      given = after_keeps c.loop-rest.reader line c.take.new.self c.loop-rest.invariant.given c.in_default.ensures;
+      small =
+          let shorter = c.first_line-in-loop-rest.ensures.rest some in
+          let small = c.loop-rest.invariant.small in
+          omega (arith, shorter, small);
+    }
+
+pub returns-in-Err-take : goal.returns-in-Err-take
+returns-in-Err-take c =
+    let line = c.first_line-in-loop-rest.result.0.now in
+    let left = c.first_line-in-loop-rest.result.1.now in
+    let some : c.loop-rest.rest.now ≢ [] = search rules in
+    record {
+      reads =
+          subst (λ r. Reads (metrics_of c.args.bytes.now) (Err r)) (sym c.at-in-Err-take.ensures)
+          (stopped _ (c.loop-rest.number + 1) (after c.loop-rest.reader line) c.take.new.self _ c.in-Err-take.refusal
+          (c.loop-rest.invariant.says
+          ∙ more c.loop-rest.rest.now line left c.loop-rest.number c.loop-rest.reader some c.first_line-in-loop-rest.ensures.line)
+          c.in-Err-take.ensures);
+    }
+
+pub returns-in-Ok-finish : goal.returns-in-Ok-finish
+returns-in-Ok-finish c =
+    let n = c.loop-rest.number in
+    let at_end : c.is_empty.result ≡ true = search rules in
+    let none = none_left c.loop-rest.rest.now c.is_empty.result c.is_empty.ensures at_end in
+    record {
+      reads =
+          c.loop-rest.invariant.says ∙ ended c.loop-rest.rest.now n c.loop-rest.reader none
+          ∙ ap (numbered (n + 1)) (sym c.in-Ok-finish.ensures);
+    }
+
+pub returns-in-Err-finish : goal.returns-in-Err-finish
+returns-in-Err-finish c =
+    let n = c.loop-rest.number in
+    let at_end : c.is_empty.result ≡ true = search rules in
+    let none = none_left c.loop-rest.rest.now c.is_empty.result c.is_empty.ensures at_end in
+    record {
+      reads =
+          subst (λ r. Reads (metrics_of c.args.bytes.now) (Err r)) (sym c.at-in-Err-finish.ensures)
+          (lacks _ (n + 1) c.in-Err-finish.fault (finished c.loop-rest.reader)
+          (c.loop-rest.invariant.says ∙ ended c.loop-rest.rest.now n c.loop-rest.reader none) c.in-Err-finish.ensures);
+    }

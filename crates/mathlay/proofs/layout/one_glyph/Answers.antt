@@ -1,7 +1,17 @@
-use Rattle.std.proofs.Common.{rules, arith, w64, FitsSigned}
+use Rattle.std.proofs.Common.{◌≡◌, ◌≤◌, ◌^◌, rules, arith, ap, subst, IfSome, w64, FitsSigned, to_z, of_z, sym}
+use Rattle.fixed_units.specs.Numbers.{IsWithin}
+use Rattle.fixed_units.proofs.Within.{widened}
 use Rattle.std.proofs.lemmas.Int.{to_z-of_z}
 use Rattle.mathlay.specs.Layout.{glyph_box}
 use Rattle.mathlay.proofs.layout.one_glyph.Goals as goal
+
+-- an accent's place lies within 2^16, so within 2^20
+pub scale-requires-in-Some-clause-value_in : goal.scale-requires-in-Some-clause-value_in
+scale-requires-in-Some-clause-value_in c =
+    let near = subst (λ o. IfSome o (IsWithin (2 ^ 16))) c.in-Some.is c.requires.accent in
+    let fits : FitsSigned w64 c.in-Some.accent = search rules in
+    let same : to_z w64 (of_z w64 c.in-Some.accent) ≡ c.in-Some.accent = grind (arith, to_z-of_z) in
+    subst (IsWithin (2 ^ 20)) (sym same) (widened (2 ^ 20) near (omega arith))
 
 pub returns-in-Some : goal.returns-in-Some
 unfolding glyph_box

@@ -1,6 +1,6 @@
 use Rattle.std.proofs.Common.{rules, subst, sym, ◌^◌}
 use Rattle.fixed_units.specs.Numbers.{IsWithin}
-use Rattle.font_metrics.specs.Metrics.{IsTaken}
+use Rattle.font_metrics.specs.Taken.{IsTaken}
 use Rattle.font_metrics.proofs.Scaling.{line_in}
 use Rattle.font_metrics.proofs.metrics.Metrics.line_ascent.Goals as goal
 

@@ -1,10 +1,17 @@
-use Rattle.std.proofs.Common.{◌∙◌, ap, subst, map}
-use Rattle.font_metrics.specs.Taking.{Takes, after}
-use Rattle.font_metrics.specs.Short.{words_of}
-use Rattle.font_metrics.proofs.Header.{after-take}
+use Rattle.std.proofs.Common.{◌∙◌, ap, sym, subst}
+use Rattle.font_metrics.specs.Lines.{lent}
+use Rattle.font_metrics.specs.Reading.{after_words, words_of}
+use Rattle.font_metrics.specs.Reads.{Takes}
+use Rattle.font_metrics.proofs.Cuts.{after_words-take, behind}
 use Rattle.font_metrics.proofs.reader.Reader.take.Goals as goal
 
 pub returns : goal.returns
 returns c =
-    let same = ap (map (λ w. w.now)) c.as_slice.ensures.value ∙ c.in_ok-words.ensures in
-    subst (λ n. Takes n c.take_words.new.self c.take_words.result) (ap (after c.args.self.now) same ∙ after-take c.args.self.now (words_of c.args.line.now)) c.take_words.ensures
+    let g = c.args.self.now in
+    let line = c.args.line.now in
+    let words = ap lent c.as_slice.ensures.value ∙ c.in_ok-words.ensures in
+    subst (λ s. Takes s c.take_words.new.self c.take_words.result)
+    (ap (after_words g) words ∙ after_words-take g (words_of line)
+    ∙ sym (behind g line c.is_foreign.result c.is_comment.result c.in_ok-fault_if.field-0 c.is_foreign.ensures
+    (sym c.fault_if.ensures ∙ c.in_ok-fault_if.was) c.is_comment.ensures c.if-is_comment.false))
+    c.take_words.ensures

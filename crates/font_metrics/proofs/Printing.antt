@@ -1,0 +1,85 @@
+-- Loops that print: the lines of a list, one after another.
+use Rattle.std.proofs.Common.{◌≡◌, ◌∙◌, ap, refl, sym, ℕ, ◌+◌, ◌<◌, zero, suc, List, [], ◌∷◌, ◌++◌, length, map, flat_map, take, slice_get, Some, None, append_assoc, append-nil, add-one, add-zero, zero-add, arith, codes, All}
+use Rattle.std.specs.List.{range_with_len}
+use Rattle.std.proofs.lemmas.List.{map_push}
+use Rattle.std.proofs.lemmas.List.Elements.{All-head, All-same}
+use Rattle.std.proofs.lemmas.List.Concat.{flat_map-append}
+use Rattle.font_metrics.specs.declared.growth.Variant.{Variant}
+use Rattle.font_metrics.specs.declared.growth.Part.{Part}
+use Rattle.font_metrics.specs.Lines.{Words}
+use Rattle.font_metrics.specs.Metrics.{MetricsValue, items_of}
+use Rattle.font_metrics.specs.Print.{constant_words, glyph_words, character_words, variant_words, part_words, growth_lines, operator_words, header_lines, line_text, print_of}
+
+-- the bytes of lines
+abbrev texts : List Words → List ℕ
+texts ws = flat_map line_text ws
+
+-- what holds of all that is left holds of the next
+pub next-of : {X : Type 0} (P : X → Type 0) (left rest : List X) (x : X) → left ≡ x ∷ rest → All P left → P x
+next-of P left rest x e h = All-head P x rest (All-same P (x ∷ rest) left (sym e) h)
+
+-- what is left gives the rest: one item is printed, the others are left
+pub rest-more : {X : Type 0} (words : X → Words) (left rest : List X) (x : X) (all now new : List ℕ)
+    → left ≡ x ∷ rest → now ++ texts (map words left) ≡ all → new ≡ now ++ line_text (words x)
+    → new ++ texts (map words rest) ≡ all
+rest-more words left rest x all now new e h k =
+    rw (k, append_assoc) (ap (λ items. now ++ texts (map words items)) (sym e) ∙ h)
+
+take-more : {X : Type 0} (xs : List X) (i : ℕ) (x : X) → slice_get xs i ≡ Some x
+    → take (suc i) xs ≡ take i xs ++ x ∷ []
+take-more [] i x h = cc
+take-more (y ∷ ys) zero x h = cc
+take-more (y ∷ ys) (suc i) x h = ap (λ rest. y ∷ rest) (take-more ys i x h)
+
+-- the front is printed: one item more
+pub front-more : {X : Type 0} (words : X → Words) (xs : List X) (i : ℕ) (x : X) (old now new : List ℕ)
+    → slice_get xs i ≡ Some x → now ≡ old ++ texts (map words (take i xs)) → new ≡ now ++ line_text (words x)
+    → new ≡ old ++ texts (map words (take (i + 1) xs))
+front-more words xs i x old now new at h k =
+    let front : take (i + 1) xs ≡ take i xs ++ x ∷ [] = rw add-one (take-more xs i x at) in
+    rw (front, map_push, flat_map-append, append-nil)
+    (k ∙ ap (λ t. t ++ line_text (words x)) h
+    ∙ append_assoc old (texts (map words (take i xs))) (line_text (words x)))
+
+range-more : (from count : ℕ) → range_with_len from (suc count) ≡ range_with_len from count ++ (from + count) ∷ []
+range-more from zero = rw (add-zero from) refl
+range-more from (suc count) =
+    let same : from + 1 + count ≡ from + suc count = omega arith in
+    ap (λ more. from ∷ more)
+    (range-more (from + 1) count ∙ ap (λ n. range_with_len (from + 1) count ++ n ∷ []) same)
+
+-- the places before are printed: one place more, by its four lists in turn
+pub growth-more : (m : MetricsValue) (place : ℕ) (old now one two three four : List ℕ)
+    → now ≡ old ++ texts (flat_map (growth_lines m) (range_with_len 0 place))
+    → one ≡ now ++ texts (map (variant_words (codes "vvariant") m.glyphs place) (items_of m.block_variants place))
+    → two ≡ one ++ texts (map (variant_words (codes "hvariant") m.glyphs place) (items_of m.inline_variants place))
+    → three ≡ two ++ texts (map (part_words (codes "vassembly") m.glyphs place) (items_of m.block_parts place))
+    → four ≡ three ++ texts (map (part_words (codes "hassembly") m.glyphs place) (items_of m.inline_parts place))
+    → four ≡ old ++ texts (flat_map (growth_lines m) (range_with_len 0 (place + 1)))
+growth-more m place old now one two three four h a b c d =
+    let range : range_with_len 0 (place + 1) ≡ range_with_len 0 place ++ place ∷ [] =
+    rw add-one (range-more 0 place ∙ ap (λ n. range_with_len 0 place ++ n ∷ []) (zero-add place)) in
+    let joined : four ≡ now ++ texts (growth_lines m place) =
+    simp flat_map-append (rw (d, c, b, a) (simp append_assoc)) in
+    rw (range, flat_map-append, append-nil, flat_map-append)
+    (joined ∙ ap (λ t. t ++ texts (growth_lines m place)) h
+    ∙ append_assoc old (texts (flat_map (growth_lines m) (range_with_len 0 place))) (texts (growth_lines m place)))
+
+texts-six : (a b c d e f : List Words)
+    → texts (a ++ b ++ c ++ d ++ e ++ f) ≡ texts a ++ texts b ++ texts c ++ texts d ++ texts e ++ texts f
+texts-six a b c d e f = simp flat_map-append
+
+-- the parts of a print in turn are the print
+pub whole-print : (m : MetricsValue) (one two three four five six : List ℕ)
+    → one ≡ [] ++ texts (header_lines m) → two ≡ one ++ texts (map constant_words m.constants)
+    → three ≡ two ++ texts (map glyph_words m.glyphs)
+    → four ≡ three ++ texts (map (character_words m.glyphs) m.characters)
+    → five ≡ four ++ texts (flat_map (growth_lines m) (range_with_len 0 (length m.glyphs)))
+    → six ≡ five ++ texts (map operator_words m.operators)
+    → six ≡ print_of m
+unfolding print_of
+whole-print m one two three four five six a b c d e f =
+    f ∙ rw (e, d, c, b, a)
+    (sym (texts-six (header_lines m) (map constant_words m.constants) (map glyph_words m.glyphs)
+    (map (character_words m.glyphs) m.characters)
+    (flat_map (growth_lines m) (range_with_len 0 (length m.glyphs))) (map operator_words m.operators)))

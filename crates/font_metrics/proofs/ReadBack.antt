@@ -1,0 +1,15 @@
+-- Reading the print of metrics gives the same metrics: from its words up to the whole.
+mod Decimal
+mod Codes
+mod Choices
+mod Joined
+mod Feeds
+mod Names
+mod Printed
+mod Fields
+mod Taking
+mod Tables
+mod Pairs
+mod Following
+mod Growing
+pub mod Whole

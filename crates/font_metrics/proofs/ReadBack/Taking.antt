@@ -1,0 +1,259 @@
+-- One printed line gives its entry, behind what was given.
+use Rattle.std.proofs.Common.{◌≡◌, ◌∙◌, ap, refl, ℕ, ◌≤◌, ◌<◌, ℤ, true, false, List, [], ◌∷◌, ◌++◌, length, codes, Option, Some, None, Ok, IfSome, nat_eq, nat_le, nat_cmp, decimal, arith}
+use Rattle.std.specs.BTreeMap.{insert_entry}
+use Rattle.std.specs.Fmt.{signed_decimal}
+use Rattle.std.specs.List.{list_all, join_with_byte}
+use Rattle.std.specs.Map.{lookup}
+use Rattle.std.proofs.lemmas.Bool.{lt-leb}
+use Rattle.std.proofs.lemmas.Int.{ints}
+use Rattle.op_dictionary.specs.declared.extra.OperatorLine.{OperatorLine}
+use Rattle.op_dictionary.specs.Dictionary.{is_named}
+use Rattle.font_metrics.specs.declared.growth.Variant.{Variant}
+use Rattle.font_metrics.specs.declared.growth.Part.{Part}
+use Rattle.font_metrics.specs.Lines.{Words, keyword_of}
+use Rattle.font_metrics.specs.Metrics.{NamedGlyph, name_in_list, items_of, place_of_name}
+use Rattle.font_metrics.specs.Print.{upem_words, line_words, x_height_words, constant_text, constant_words, accent_words, glyph_words, code_text, character_words, variant_words, extender_text, part_words, operator_text, form_text, category_text, axis_text, operator_words}
+use Rattle.font_metrics.specs.Reading.{Given, with_item, is_comment, after_fields, after}
+use Rattle.font_metrics.specs.Taken.{IsGlyph, IsConstant, IsCharacter, IsVariant, IsPart, IsReach, IsLength, IsOperatorText, most_glyphs, most_variants, most_parts}
+use Rattle.font_metrics.proofs.ReadBack.Choices.{constant-word}
+use Rattle.font_metrics.proofs.ReadBack.Decimal.{natural_in-decimal}
+use Rattle.font_metrics.proofs.ReadBack.Fields.{AreNamed, bounds, constant_in-printed, glyph_in-printed, character_in-printed, variant_in-printed, part_in-printed, operator_in-printed}
+use Rattle.font_metrics.proofs.ReadBack.Joined.{is_word, after-joined}
+use Rattle.font_metrics.proofs.ReadBack.Names.{name-word}
+use Rattle.font_metrics.proofs.ReadBack.Printed.{decimal-word, signed-word, letter-word, operator_text-word, extender-word, form-word, category-word, axis-word}
+
+-- these words make a line that takes what was given to this
+abbrev pub Takes : Given → Words → Given → Type 0
+Takes given words next =
+    (list_all is_word words ≡ true) × (after given (join_with_byte 32 words) ≡ Ok next)
+
+takes : (given : Given) (word : List ℕ) (fields : Words) (next : Given)
+    → list_all is_word (word ∷ fields) ≡ true → is_comment (join_with_byte 32 (word ∷ fields)) ≡ false
+    → after_fields given (keyword_of word) fields ≡ Ok next
+    → Takes given (word ∷ fields) next
+takes given word fields next h other e = (h, after-joined given word fields h other ∙ e)
+
+pub takes-to : (given : Given) (words : Words) (next other : Given) → next ≡ other → Takes given words next
+    → Takes given words other
+takes-to given words next other same (h, e) = (h, e ∙ ap Ok same)
+
+-- ---- what is given once
+
+pub upem-taken : (given : Given) (units : ℕ) → 16 ≤ units → units ≤ 16384 → given.upem ≡ None
+    → Takes given (upem_words units) (record given { upem = Some units })
+unfolding keyword_of
+upem-taken given units low high new =
+    let small : units < 1000000 = omega arith in
+    takes given (codes "upem") (decimal units ∷ []) (record given { upem = Some units })
+    (rw (decimal-word units small) refl) refl (rw (natural_in-decimal 16 16384 units small low high, new) refl)
+
+pub line-taken : (given : Given) (ascent descent : ℕ) → ascent ≤ 65535 → descent ≤ 65535 → given.line ≡ None
+    → Takes given (line_words ascent descent) (record given { line = Some (ascent, descent) })
+unfolding keyword_of
+line-taken given ascent descent up down new =
+    let small : ascent < 1000000 = omega arith in
+    let small' : descent < 1000000 = omega arith in
+    takes given (codes "line") (decimal ascent ∷ decimal descent ∷ [])
+    (record given { line = Some (ascent, descent) })
+    (rw (decimal-word ascent small, decimal-word descent small') refl) refl
+    (rw (
+      natural_in-decimal 0 65535 ascent small (omega arith) up,
+      natural_in-decimal 0 65535 descent small' (omega arith) down,
+      new,
+    ) refl)
+
+pub x_height-taken : (given : Given) (height : ℕ) → height ≤ 65535 → given.x_height ≡ None
+    → Takes given (x_height_words height) (record given { x_height = Some height })
+unfolding keyword_of
+x_height-taken given height high new =
+    let small : height < 1000000 = omega arith in
+    takes given (codes "xheight") (decimal height ∷ []) (record given { x_height = Some height })
+    (rw (decimal-word height small) refl) refl
+    (rw (natural_in-decimal 0 65535 height small (omega arith) high, new) refl)
+
+pub overlap-taken : (given : Given) (least : ℕ) → least ≤ 65535 → given.overlap ≡ None
+    → Takes given (codes "overlap" ∷ decimal least ∷ []) (record given { overlap = Some least })
+unfolding keyword_of
+overlap-taken given least high new =
+    let small : least < 1000000 = omega arith in
+    takes given (codes "overlap") (decimal least ∷ []) (record given { overlap = Some least })
+    (rw (decimal-word least small) refl) refl
+    (rw (natural_in-decimal 0 65535 least small (omega arith) high, new) refl)
+
+-- ---- constants, glyphs, characters
+
+constant-words : (c : ℕ × ℤ) → IsConstant c → list_all is_word (constant_words c) ≡ true
+constant-words (place, z) (small, low, high) =
+    let wide = bounds _ z low high in
+    rw (constant-word place small, signed-word z wide.0 wide.1) refl
+
+pub constant-taken : (given : Given) (c : ℕ × ℤ) → IsConstant c → lookup (nat_eq c.0) given.constants ≡ None
+    → Takes given (constant_words c)
+    (record given { constants = insert_entry nat_cmp given.constants c.0 c.1 })
+unfolding keyword_of
+constant-taken given c h new =
+    takes given (codes "const") (constant_text c.0 ∷ signed_decimal c.1 ∷ [])
+    (record given { constants = insert_entry nat_cmp given.constants c.0 c.1 }) (constant-words c h) refl
+    (rw (constant_in-printed c h, new) refl)
+
+accent-words : (accent : Option ℤ) → IfSome accent IsReach → list_all is_word (accent_words accent) ≡ true
+accent-words None h = refl
+accent-words (Some z) h = rw (signed-word z h.0 h.1) refl
+
+reach-word : (z : ℤ) → IsReach z → is_word (signed_decimal z) ≡ true
+reach-word z h = signed-word z h.0 h.1
+
+length-word : (z : ℤ) → IsLength z → is_word (signed_decimal z) ≡ true
+length-word z h = signed-word z (omega (arith, ints, h.0)) h.1
+
+glyph-words : (g : NamedGlyph) → IsGlyph g → list_all is_word (glyph_words g) ≡ true
+glyph-words g h =
+    rw (
+      name-word g.name h.name,
+      length-word g.glyph.advance h.advance,
+      reach-word g.glyph.ink_ascent h.ink_ascent,
+      reach-word g.glyph.ink_descent h.ink_descent,
+      reach-word g.glyph.italic h.italic,
+      accent-words g.glyph.accent h.accent,
+    ) refl
+
+pub glyph-taken : (given : Given) (g : NamedGlyph) → IsGlyph g → place_of_name given.glyphs g.name ≡ None
+    → length given.glyphs < most_glyphs
+    → Takes given (glyph_words g) (record given { glyphs = given.glyphs ++ g ∷ [] })
+unfolding keyword_of
+glyph-taken given g h new room =
+    let free : nat_le most_glyphs (length given.glyphs) ≡ false = lt-leb most_glyphs (length given.glyphs) room in
+    takes given (codes "glyph")
+    (g.name ∷ signed_decimal g.glyph.advance ∷ signed_decimal g.glyph.ink_ascent
+    ∷ signed_decimal g.glyph.ink_descent ∷ signed_decimal g.glyph.italic ∷ accent_words g.glyph.accent)
+    (record given { glyphs = given.glyphs ++ g ∷ [] }) (glyph-words g h) refl
+    (rw (glyph_in-printed g h, new, free) refl)
+
+place-word : (glyphs : List NamedGlyph) (place : ℕ) → AreNamed glyphs → place < length glyphs
+    → is_word (name_in_list glyphs place) ≡ true
+place-word glyphs place n low = name-word (name_in_list glyphs place) (n.names place low)
+
+character-words : (glyphs : List NamedGlyph) (c : ℕ × ℕ) → AreNamed glyphs → IsCharacter (length glyphs) c
+    → list_all is_word (character_words glyphs c) ≡ true
+character-words glyphs c n h =
+    rw (letter-word c.0 h.0, place-word glyphs c.1 n h.1) refl
+
+pub character-taken : (given : Given) (c : ℕ × ℕ) → AreNamed given.glyphs
+    → IsCharacter (length given.glyphs) c → lookup (nat_eq c.0) given.characters ≡ None
+    → Takes given (character_words given.glyphs c)
+    (record given { characters = insert_entry nat_cmp given.characters c.0 c.1 })
+unfolding keyword_of
+character-taken given c n h new =
+    takes given (codes "char") (code_text c.0 ∷ name_in_list given.glyphs c.1 ∷ [])
+    (record given { characters = insert_entry nat_cmp given.characters c.0 c.1 })
+    (character-words given.glyphs c n h) refl
+    (rw (character_in-printed given.glyphs c n h.0 h.1, new) refl)
+
+-- ---- variants and parts
+
+variant-fields : (glyphs : List NamedGlyph) (place : ℕ) (v : Variant) → AreNamed glyphs
+    → place < length glyphs → IsVariant (length glyphs) v
+    → list_all is_word (name_in_list glyphs place ∷ name_in_list glyphs v.glyph.0 ∷ signed_decimal v.measure ∷ [])
+    ≡ true
+variant-fields glyphs place v n low h =
+    rw (place-word glyphs place n low, place-word glyphs v.glyph.0 n h.glyph, length-word v.measure h.measure)
+    refl
+
+pub block_variant-taken : (given : Given) (place : ℕ) (v : Variant) → AreNamed given.glyphs
+    → place < length given.glyphs → IsVariant (length given.glyphs) v
+    → length (items_of given.block_variants place) < most_variants
+    → Takes given (variant_words (codes "vvariant") given.glyphs place v)
+    (record given { block_variants = with_item given.block_variants place v })
+unfolding keyword_of
+block_variant-taken given place v n low h room =
+    takes given (codes "vvariant")
+    (name_in_list given.glyphs place ∷ name_in_list given.glyphs v.glyph.0 ∷ signed_decimal v.measure ∷ [])
+    (record given { block_variants = with_item given.block_variants place v })
+    (variant-fields given.glyphs place v n low h) refl
+    (rw (
+      variant_in-printed given.glyphs place v n low h,
+      lt-leb most_variants (length (items_of given.block_variants place)) room,
+    ) refl)
+
+pub inline_variant-taken : (given : Given) (place : ℕ) (v : Variant) → AreNamed given.glyphs
+    → place < length given.glyphs → IsVariant (length given.glyphs) v
+    → length (items_of given.inline_variants place) < most_variants
+    → Takes given (variant_words (codes "hvariant") given.glyphs place v)
+    (record given { inline_variants = with_item given.inline_variants place v })
+unfolding keyword_of
+inline_variant-taken given place v n low h room =
+    takes given (codes "hvariant")
+    (name_in_list given.glyphs place ∷ name_in_list given.glyphs v.glyph.0 ∷ signed_decimal v.measure ∷ [])
+    (record given { inline_variants = with_item given.inline_variants place v })
+    (variant-fields given.glyphs place v n low h) refl
+    (rw (
+      variant_in-printed given.glyphs place v n low h,
+      lt-leb most_variants (length (items_of given.inline_variants place)) room,
+    ) refl)
+
+part-fields : (glyphs : List NamedGlyph) (place : ℕ) (p : Part) → AreNamed glyphs
+    → place < length glyphs → IsPart (length glyphs) p
+    → list_all is_word (name_in_list glyphs place ∷ name_in_list glyphs p.glyph.0 ∷ extender_text p.extender
+    ∷ signed_decimal p.start ∷ signed_decimal p.end ∷ signed_decimal p.full ∷ [])
+    ≡ true
+part-fields glyphs place p n low h =
+    rw (
+      place-word glyphs place n low,
+      place-word glyphs p.glyph.0 n h.glyph,
+      extender-word p.extender,
+      length-word p.start h.start,
+      length-word p.end h.end,
+      length-word p.full h.full,
+    ) refl
+
+pub block_part-taken : (given : Given) (place : ℕ) (p : Part) → AreNamed given.glyphs
+    → place < length given.glyphs → IsPart (length given.glyphs) p
+    → length (items_of given.block_parts place) < most_parts
+    → Takes given (part_words (codes "vassembly") given.glyphs place p)
+    (record given { block_parts = with_item given.block_parts place p })
+unfolding keyword_of
+block_part-taken given place p n low h room =
+    takes given (codes "vassembly")
+    (name_in_list given.glyphs place ∷ name_in_list given.glyphs p.glyph.0 ∷ extender_text p.extender
+    ∷ signed_decimal p.start ∷ signed_decimal p.end ∷ signed_decimal p.full ∷ [])
+    (record given { block_parts = with_item given.block_parts place p })
+    (part-fields given.glyphs place p n low h) refl
+    (rw (
+      part_in-printed given.glyphs place p n low h,
+      lt-leb most_parts (length (items_of given.block_parts place)) room,
+    ) refl)
+
+pub inline_part-taken : (given : Given) (place : ℕ) (p : Part) → AreNamed given.glyphs
+    → place < length given.glyphs → IsPart (length given.glyphs) p
+    → length (items_of given.inline_parts place) < most_parts
+    → Takes given (part_words (codes "hassembly") given.glyphs place p)
+    (record given { inline_parts = with_item given.inline_parts place p })
+unfolding keyword_of
+inline_part-taken given place p n low h room =
+    takes given (codes "hassembly")
+    (name_in_list given.glyphs place ∷ name_in_list given.glyphs p.glyph.0 ∷ extender_text p.extender
+    ∷ signed_decimal p.start ∷ signed_decimal p.end ∷ signed_decimal p.full ∷ [])
+    (record given { inline_parts = with_item given.inline_parts place p })
+    (part-fields given.glyphs place p n low h) refl
+    (rw (
+      part_in-printed given.glyphs place p n low h,
+      lt-leb most_parts (length (items_of given.inline_parts place)) room,
+    ) refl)
+
+-- ---- operators
+
+operator-words : (line : OperatorLine) → IsOperatorText line.text
+    → list_all is_word (operator_words line) ≡ true
+operator-words line h =
+    rw (operator_text-word line.text h, form-word line.form, category-word line.category, axis-word line.axis)
+    refl
+
+pub operator-taken : (given : Given) (line : OperatorLine) → IsOperatorText line.text
+    → is_named given.operators line.text line.form ≡ false
+    → Takes given (operator_words line) (record given { operators = given.operators ++ line ∷ [] })
+unfolding keyword_of
+operator-taken given line h new =
+    takes given (codes "operator")
+    (operator_text line.text ∷ form_text line.form ∷ category_text line.category ∷ axis_text line.axis ∷ [])
+    (record given { operators = given.operators ++ line ∷ [] }) (operator-words line h) refl
+    (rw (operator_in-printed line h, new) refl)

@@ -1,0 +1,203 @@
+-- Reading the print of metrics gives the same metrics.
+use Rattle.std.proofs.Common.{◌≡◌, ◌∙◌, ap, refl, ℕ, ◌≤◌, ◌+◌, true, List, [], ◌∷◌, ◌++◌, length, map, flat_map, codes, Option, Some, None, IfSome, IsSome, Ok, arith, zero-add}
+use Rattle.std.specs.List.{join_with_byte, range_with_len}
+use Rattle.font_metrics.specs.Lines.{Words}
+use Rattle.font_metrics.specs.Metrics.{MetricsValue, place_of_name}
+use Rattle.font_metrics.specs.Print.{version_words, upem_words, line_words, x_height_words, overlap_lines, constant_words, glyph_words, character_words, growth_lines, operator_words, line_text, print_of, PrintReadsBack}
+use Rattle.font_metrics.specs.Reading.{lines_of, Given, nothing, is_foreign, words_of, after, after_first, kept, given_from, first_fault_behind, whole_of, finished, metrics_or, metrics_of}
+use Rattle.font_metrics.specs.Taken.{IsTaken, IsVariant, IsPart, most_variants, most_parts}
+use Rattle.font_metrics.proofs.ReadBack.Feeds.{are_words, lines-printed}
+use Rattle.font_metrics.proofs.ReadBack.Fields.{AreNamed}
+use Rattle.font_metrics.proofs.ReadBack.Following.{Follows, follows-append, follows-to, follows-words, constants-follow, glyphs-follow, characters-follow, operators-follow}
+use Rattle.font_metrics.proofs.ReadBack.Growing.{AreTables, grown, grown_to, grows-from, table-all}
+use Rattle.font_metrics.proofs.ReadBack.Tables.{below-zero}
+use Rattle.font_metrics.proofs.ReadBack.Taking.{upem-taken, line-taken, x_height-taken, overlap-taken}
+
+-- ---- lines that follow one another are read without a fault
+
+-- the lines of these words
+abbrev joined : List Words → List (List ℕ)
+joined ws = map (join_with_byte 32) ws
+
+given-push : (given : Given) (before : List (List ℕ)) (line : List ℕ)
+    → given_from given (before ++ line ∷ []) ≡ kept (given_from given before) (after (given_from given before) line)
+given-push given [] line = refl
+given-push given (first ∷ before) line = given-push (kept given (after given first)) before line
+
+follows-given : (given end : Given) (ws : List Words) → Follows given ws end → given_from given (joined ws) ≡ end
+follows-given given end [] h = h
+follows-given given end (words ∷ ws) (next, takes, h) =
+    ap (λ step. given_from (kept given step) (joined ws)) takes.1 ∙ follows-given next end ws h
+
+follows-faultless : (first : List ℕ) (before : List (List ℕ)) (given end : Given) (ws : List Words)
+    → given_from nothing before ≡ given → Follows given ws end
+    → first_fault_behind (first ∷ before) (joined ws) ≡ None
+follows-faultless first before given end [] e h = refl
+follows-faultless first before given end (words ∷ ws) e (next, takes, h) =
+    let line = join_with_byte 32 words in
+    let step : after (given_from nothing before) line ≡ Ok next = ap (λ g. after g line) e ∙ takes.1 in
+    let more : given_from nothing (before ++ line ∷ []) ≡ next =
+    given-push nothing before line ∙ ap (kept (given_from nothing before)) step in
+    rw step (follows-faultless first (before ++ line ∷ []) next end ws more h)
+
+read-whole : (first : List ℕ) (ws : List Words) (given : Given) (m : MetricsValue) → after_first first ≡ Ok nothing
+    → Follows nothing ws given → finished given ≡ Ok m
+    → metrics_or (first_fault_behind [] (first ∷ joined ws)) (first ∷ joined ws) ≡ Ok m
+read-whole first ws given m start h whole =
+    rw (start, follows-faultless first [] nothing given ws refl h, follows-given nothing given ws h, whole) refl
+
+version-taken : after_first (join_with_byte 32 version_words) ≡ Ok nothing
+unfolding after_first is_foreign words_of
+version-taken = refl
+
+-- ---- the printed lines follow one another
+
+-- what all lines of a print give
+abbrev given_for : MetricsValue → Given
+given_for m = record {
+  upem = Some m.upem;
+  line = Some (m.line_ascent, m.line_descent);
+  x_height = Some m.x_height;
+  overlap = m.overlap;
+  constants = m.constants;
+  glyphs = m.glyphs;
+  characters = m.characters;
+  block_variants = m.block_variants;
+  inline_variants = m.inline_variants;
+  block_parts = m.block_parts;
+  inline_parts = m.inline_parts;
+  operators = m.operators;
+}
+
+numbers-follow : (m : MetricsValue) → IsTaken m
+    → Follows nothing (upem_words m.upem ∷ line_words m.line_ascent m.line_descent ∷ x_height_words m.x_height ∷ [])
+    (record nothing {
+      upem = Some m.upem;
+      line = Some (m.line_ascent, m.line_descent);
+      x_height = Some m.x_height;
+    })
+numbers-follow m h =
+    let one = record nothing { upem = Some m.upem } in
+    let two = record one { line = Some (m.line_ascent, m.line_descent) } in (
+      one,
+      upem-taken nothing m.upem h.upem_low h.upem_high refl,
+      (
+        two,
+        line-taken one m.line_ascent m.line_descent h.line_ascent h.line_descent refl,
+        (record two { x_height = Some m.x_height }, x_height-taken two m.x_height h.x_height refl, refl),
+      ),
+    )
+
+overlap-follows : (given : Given) (overlap : Option ℕ) → IfSome overlap (λ n. n ≤ 65535)
+    → Follows (record given { overlap = None }) (overlap_lines overlap) (record given { overlap = overlap })
+overlap-follows given None h = refl
+overlap-follows given (Some least) h =
+    (record given { overlap = Some least }, overlap-taken (record given { overlap = None }) least h refl, refl)
+
+are-named : (m : MetricsValue) → IsTaken m → AreNamed m.glyphs
+are-named m h = record { distinct = h.names; names = λ place low. (h.glyphs place _ low).name }
+
+are-tables : (m : MetricsValue) → IsTaken m → AreTables m
+are-tables m h = record {
+  block_variants = h.block_variants;
+  inline_variants = h.inline_variants;
+  block_parts = h.block_parts;
+  inline_parts = h.inline_parts;
+}
+
+growth-none : (given : Given) (m : MetricsValue) → grown given m [] [] [] [] ≡ grown_to given m 0
+growth-none given m =
+    rw (
+      below-zero m.block_variants,
+      below-zero m.inline_variants,
+      below-zero m.block_parts,
+      below-zero m.inline_parts,
+    ) refl
+
+growth-all : (given : Given) (m : MetricsValue) → IsTaken m
+    → grown_to given m (length m.glyphs)
+    ≡ grown given m m.block_variants m.inline_variants m.block_parts m.inline_parts
+growth-all given m h =
+    let count = length m.glyphs in
+    rw (
+      table-all count most_variants (IsVariant count) m.block_variants h.block_variants,
+      table-all count most_variants (IsVariant count) m.inline_variants h.inline_variants,
+      table-all count most_parts (IsPart count) m.block_parts h.block_parts,
+      table-all count most_parts (IsPart count) m.inline_parts h.inline_parts,
+    ) refl
+
+growth-follows : (given : Given) (m : MetricsValue) → IsTaken m
+    → Follows (grown given m [] [] [] [])
+    (flat_map (growth_lines m) (range_with_len 0 (length m.glyphs)))
+    (grown given m m.block_variants m.inline_variants m.block_parts m.inline_parts)
+growth-follows given m h =
+    let count = length m.glyphs in
+    let grows = grows-from given m 0 count (are-named m h) (are-tables m h) (omega arith) in
+    rw (growth-none given m)
+    (follows-to (grown_to given m 0) (grown_to given m (0 + count)) _ _
+    (ap (grown_to given m) (zero-add count) ∙ growth-all given m h) grows)
+
+-- the lines of a print behind the first
+abbrev lines_after_first : MetricsValue → List Words
+lines_after_first m =
+    (upem_words m.upem ∷ line_words m.line_ascent m.line_descent ∷ x_height_words m.x_height ∷ [])
+    ++ overlap_lines m.overlap
+    ++ map constant_words m.constants
+    ++ map glyph_words m.glyphs
+    ++ map (character_words m.glyphs) m.characters
+    ++ flat_map (growth_lines m) (range_with_len 0 (length m.glyphs))
+    ++ map operator_words m.operators
+
+printed-follows : (m : MetricsValue) → IsTaken m → Follows nothing (lines_after_first m) (given_for m)
+printed-follows m h =
+    let numbers = record nothing {
+      upem = Some m.upem;
+      line = Some (m.line_ascent, m.line_descent);
+      x_height = Some m.x_height;
+    } in
+    let overlap = record numbers { overlap = m.overlap } in
+    let constants = record overlap { constants = m.constants } in
+    let glyphs = record constants { glyphs = m.glyphs } in
+    let characters = record glyphs { characters = m.characters } in
+    let growth = grown characters m m.block_variants m.inline_variants m.block_parts m.inline_parts in
+    let glyph_by_glyph = flat_map (growth_lines m) (range_with_len 0 (length m.glyphs)) in
+    let first = upem_words m.upem ∷ line_words m.line_ascent m.line_descent ∷ x_height_words m.x_height ∷ [] in
+    let front = first ++ overlap_lines m.overlap in
+    let through_constants = front ++ map constant_words m.constants in
+    let through_glyphs = through_constants ++ map glyph_words m.glyphs in
+    let through_characters = through_glyphs ++ map (character_words m.glyphs) m.characters in
+    follows-append nothing growth (given_for m) (through_characters ++ glyph_by_glyph)
+    (map operator_words m.operators)
+    (follows-append nothing characters growth through_characters glyph_by_glyph
+    (follows-append nothing glyphs characters through_glyphs (map (character_words m.glyphs) m.characters)
+    (follows-append nothing constants glyphs through_constants (map glyph_words m.glyphs)
+    (follows-append nothing overlap constants front (map constant_words m.constants)
+    (follows-append nothing numbers overlap first (overlap_lines m.overlap) (numbers-follow m h)
+    (overlap-follows numbers m.overlap h.overlap))
+    (constants-follow overlap m.constants h.constants h.constants_ordered))
+    (glyphs-follow constants m.glyphs h.glyphs h.names h.count))
+    (characters-follow glyphs m.characters (are-named m h) h.characters h.characters_ordered))
+    (growth-follows characters m h))
+    (operators-follow growth m.operators h.operators h.operators_distinct)
+
+-- ---- the theorem
+
+whole-given : (m : MetricsValue) (missing : Option ℕ) → IsSome missing
+    → whole_of (Some m.upem) (Some (m.line_ascent, m.line_descent)) (Some m.x_height) missing (given_for m) ≡ Ok m
+whole-given m None h = cc
+whole-given m (Some place) h = refl
+
+finished-given : (m : MetricsValue) → IsTaken m → finished (given_for m) ≡ Ok m
+unfolding finished
+finished-given m h = whole-given m (place_of_name m.glyphs (codes "missing")) h.missing
+
+pub print_reads_back : PrintReadsBack
+unfolding metrics_of print_of
+print_reads_back m h =
+    let ws = version_words ∷ lines_after_first m in
+    let follows = printed-follows m h in
+    let words : are_words ws ≡ true = follows-words nothing (given_for m) (lines_after_first m) follows in
+    let cut : lines_of (flat_map line_text ws) ≡ joined ws = lines-printed ws words in
+    rw cut
+    (read-whole (join_with_byte 32 version_words) (lines_after_first m) (given_for m) m version-taken follows
+    (finished-given m h))

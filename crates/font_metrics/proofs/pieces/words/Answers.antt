@@ -1,0 +1,26 @@
+use Rattle.std.proofs.Common.{◌++◌, ◌≡◌, ◌∙◌, ap, map, not, rules, tests}
+use Rattle.std.proofs.lemmas.Iterator.{YieldsList-from_take, items_from_drains}
+use Rattle.std.proofs.lemmas.Iterator.Consumers.{YieldsList-from_filter}
+use Rattle.std.proofs.lemmas.Iterator.Splits.{YieldsList-from_slice_split}
+use Rattle.std.specs.Iterator.Adapters.{take_source, take_count, filter_source, filter_callee}
+use Rattle.font_metrics.specs.Lines.{lent}
+use Rattle.std.specs.Slice.Iter.{split_rest, split_done, split_callee}
+use Rattle.font_metrics.specs.Reading.{is_blank, is_empty, words_of}
+use Rattle.font_metrics.proofs.pieces.words.Goals as goal
+
+pub returns : goal.returns
+unfolding words_of
+returns c =
+    let ran = c.in_ok-extend.ensures.ran in
+    ap lent (ran.3 ∙ ap (λ l. l ++ ran.1) c.new-words.ensures)
+    ∙ items_from_drains ran.1 (ran.4.1.0, ran.4.1.1, λ _. (ran.4.0, ran.4.1.2))
+    (YieldsList-from_take 8
+    (YieldsList-from_filter _ (λ word. not (is_empty word))
+    (YieldsList-from_slice_split _ is_blank c.args.line.now
+    (ap (λ t. split_rest (filter_source (take_source t))) ran.2 ∙ ap (λ t. split_rest (filter_source t)) c.take.ensures.source ∙ ap split_rest c.filter.ensures.source ∙ c.split.ensures.rest)
+    (ap (λ t. split_done (filter_source (take_source t))) ran.2 ∙ ap (λ t. split_done (filter_source t)) c.take.ensures.source ∙ ap split_done c.filter.ensures.source ∙ c.split.ensures.done)
+    (ap (λ t. split_callee (filter_source (take_source t))) ran.2 ∙ ap (λ t. split_callee (filter_source t)) c.take.ensures.source ∙ ap split_callee c.filter.ensures.source ∙ c.split.ensures.closure)
+    (λ x r q k. search (rules, tests)))
+    (ap (λ t. filter_callee (take_source t)) ran.2 ∙ ap filter_callee c.take.ensures.source ∙ c.filter.ensures.closure)
+    (λ x r q k. search (rules, tests)))
+    (ap take_count ran.2 ∙ c.take.ensures.count))

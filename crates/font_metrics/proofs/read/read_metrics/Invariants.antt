@@ -1,0 +1,17 @@
+use Rattle.std.proofs.Common.{◌≤◌, length, ◌≡◌, ◌+◌}
+use Rattle.std.specs.Str.Lines.{lines}
+use Rattle.font_metrics.specs.Reading.{metrics_of}
+use Rattle.font_metrics.specs.Whole.{IsGiven}
+use Rattle.font_metrics.proofs.Forward.{from_line}
+use Rattle.font_metrics.proofs.read.read_metrics.Given as goal
+
+-- what is given and the lines that are left make what all lines say
+abbrev pub invariant-loop-rest : goal.invariant-loop-rest
+invariant-loop-rest l = record {
+  says : metrics_of l.bytes ≡ from_line l.number l.reader (lines l.rest);
+  given : IsGiven l.reader;
+  small : l.number + length l.rest ≤ 8388609;
+}
+
+abbrev pub decreases-loop-rest : goal.decreases-loop-rest
+decreases-loop-rest l = length l.rest

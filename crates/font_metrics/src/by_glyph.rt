@@ -1,0 +1,64 @@
+ghost use Rattle.std.specs.Prelude.{◌≡◌, [], ◌∷◌, ◌++◌, OnOk};
+ghost use Rattle.font_metrics.specs.Metrics.{items_of};
+ghost use Rattle.font_metrics.specs.Reading.{with_item};
+
+use fixed_units::Memory;
+use std::alloc::Global;
+use std::collections::BTreeMap;
+use std::marker::Model;
+
+/// What a file gives to some glyphs, each list in file order. Contracts see pairs of a glyph's
+/// place and its list, by the places, which increase.
+#[derive(Drop)]
+pub struct ByGlyph<T> {
+    items: BTreeMap<u16, Vec<T>>,
+}
+
+impl<T> Model for ByGlyph<T> {
+    ghost use Rattle.std.specs.Prelude.{List, ℕ};
+    ghost use Rattle.std.specs.Coded.{coded_list, coded×, coded_ℕ};
+    ghost use Rattle.font_metrics.specs.Kept.{lists_of_entries};
+
+    ghost Value = { List (ℕ × List T) };
+
+    ghost coded = { coded_list (coded× coded_ℕ (coded_list T.code)) };
+
+    ghost view = { λ table. lists_of_entries table.items.entries };
+}
+
+impl<T: Copy> ByGlyph<T> {
+    /// No item yet. It takes no memory.
+    pub fn new(alloc: Global) -> ByGlyph<T>
+        ensures { result ≡ [] }
+    {
+        ByGlyph {
+            items: BTreeMap::new(alloc),
+        }
+    }
+
+    /// The items of the glyph at a place, in file order.
+    pub fn items(&self, place: u16) -> &[T]
+        ensures { result.now ≡ items_of self.now place }
+    {
+        match self.items.get(&place) {
+            None => &[],
+            Some(items) => items.as_slice(),
+        }
+    }
+
+    /// Adds an item to those of the glyph at a place. Where memory is refused, nothing is known of
+    /// the table.
+    pub fn add(&mut self, alloc: Global, place: u16, item: T) -> Result<(), Memory>
+        ensures { OnOk result (self.new ≡ with_item self.old place item) }
+    {
+        match self.items.get_mut(&place) {
+            Some(items) => items.push(item)?,
+            None => {
+                let mut items = Vec::new(alloc);
+                items.push(item)?;
+                self.items.insert(place, items)?;
+            }
+        }
+        Ok(())
+    }
+}

@@ -1,0 +1,122 @@
+ghost use Rattle.std.specs.Prelude.{◌≡◌, ◌≤◌, length};
+ghost use Rattle.font_metrics.specs.Lines.{lent, named_in, character_with, character_in, variant_with, variant_in, based_on, part_with, part_in};
+
+use crate::choices::extender;
+use crate::fault::LineFault;
+use crate::glyph::GlyphId;
+use crate::glyphs::GlyphTable;
+use crate::growth::{Part, Variant};
+use crate::lines::length;
+use crate::words::{glyph_name, letter};
+
+/// `char CODE NAME`: a character, and the place of the glyph of that name.
+pub fn character_line(glyphs: &GlyphTable, fields: &[&[u8]]) -> Result<(char, u16), LineFault>
+    requires { length glyphs.now ≤ 65535 }
+    ensures { result ≡ character_in glyphs.now (lent fields.now) }
+{
+    match fields {
+        [code, name] => character_with(glyphs, code, name),
+        _ => Err(LineFault::FieldCount),
+    }
+}
+
+fn character_with(glyphs: &GlyphTable, code: &[u8], name: &[u8]) -> Result<(char, u16), LineFault>
+    requires { length glyphs.now ≤ 65535 }
+    ensures { result ≡ character_with glyphs.now code.now name.now }
+{
+    let letter = letter(code)?;
+    let place = named(glyphs, name)?;
+    Ok((letter, place))
+}
+
+/// `BASE VARIANT MEASURE`: the base's place, and its variant.
+pub fn variant_line(glyphs: &GlyphTable, fields: &[&[u8]]) -> Result<(u16, Variant), LineFault>
+    requires { length glyphs.now ≤ 65535 }
+    ensures { result ≡ variant_in glyphs.now (lent fields.now) }
+{
+    match fields {
+        [base, variant, measure] => variant_with(glyphs, base, variant, measure),
+        _ => Err(LineFault::FieldCount),
+    }
+}
+
+fn variant_with(
+    glyphs: &GlyphTable,
+    base: &[u8],
+    variant: &[u8],
+    measure: &[u8],
+) -> Result<(u16, Variant), LineFault>
+    requires { length glyphs.now ≤ 65535 }
+    ensures { result ≡ variant_with glyphs.now base.now variant.now measure.now }
+{
+    let place = named(glyphs, base)?;
+    let glyph = GlyphId(named(glyphs, variant)?);
+    let measure = i64::from(length(measure)?);
+    Ok((place, Variant { glyph, measure }))
+}
+
+/// `BASE PART FIX|EXT START END FULL`: the base's place, and a part of its assembly.
+pub fn part_line(glyphs: &GlyphTable, fields: &[&[u8]]) -> Result<(u16, Part), LineFault>
+    requires { length glyphs.now ≤ 65535 }
+    ensures { result ≡ part_in glyphs.now (lent fields.now) }
+{
+    match fields {
+        [base, part, role, start, end, full] => {
+            based_on(
+                glyphs,
+                base,
+                part_with(glyphs, part, role, start, end, full),
+            )
+        }
+        _ => Err(LineFault::FieldCount),
+    }
+}
+
+/// The base is looked for first.
+fn based_on(
+    glyphs: &GlyphTable,
+    base: &[u8],
+    part: Result<Part, LineFault>,
+) -> Result<(u16, Part), LineFault>
+    requires { length glyphs.now ≤ 65535 }
+    ensures { result ≡ based_on glyphs.now base.now part }
+{
+    let place = named(glyphs, base)?;
+    let part = part?;
+    Ok((place, part))
+}
+
+fn part_with(
+    glyphs: &GlyphTable,
+    name: &[u8],
+    role: &[u8],
+    start: &[u8],
+    end: &[u8],
+    full: &[u8],
+) -> Result<Part, LineFault>
+    requires { length glyphs.now ≤ 65535 }
+    ensures { result ≡ part_with glyphs.now name.now role.now start.now end.now full.now }
+{
+    let glyph = GlyphId(named(glyphs, name)?);
+    let extender = extender(role)?;
+    let start = i64::from(length(start)?);
+    let end = i64::from(length(end)?);
+    let full = i64::from(length(full)?);
+    Ok(Part {
+        glyph,
+        extender,
+        start,
+        end,
+        full,
+    })
+}
+
+/// The place of a glyph that a line before has named.
+fn named(glyphs: &GlyphTable, word: &[u8]) -> Result<u16, LineFault>
+    requires { length glyphs.now ≤ 65535 }
+    ensures { result ≡ named_in glyphs.now word.now }
+{
+    let name = glyph_name(word)?;
+    let place = glyphs.place(name).ok_or(LineFault::NotNamed)?;
+    Ok(place as u16)
+}

@@ -1,0 +1,138 @@
+ghost use Rattle.std.specs.Prelude.{◌≡◌, ◌<◌, ◌++◌, All, length, map, flat_map, IfOk, OnOk, Ok};
+ghost use Rattle.std.specs.List.{range_with_len};
+ghost use Rattle.op_dictionary.specs.Pairs.{IsLineText};
+ghost use Rattle.font_metrics.specs.Metrics.{variants_of, parts_of};
+ghost use Rattle.font_metrics.specs.Print.{constant_words, glyph_words, character_words, variant_words, part_words, growth_lines, operator_words, header_lines, line_text, print_of};
+ghost use Rattle.font_metrics.specs.Reading.{metrics_of};
+
+use crate::constant_table::ConstantTable;
+use crate::glyph::GlyphId;
+use crate::glyphs::GlyphTable;
+use crate::metrics::Metrics;
+use crate::printed::PrintedLines;
+use fixed_units::{List, Memory};
+use op_dictionary::{Axis, Extra};
+use std::alloc::Global;
+
+impl Metrics {
+    /// The canonical print: a metrics file that says the same, in one form and one order.
+    #[tactic(auto, unfolding(crate::specs::Print::print_of))]
+    pub fn print(&self, alloc: Global) -> Result<List<u8>, Memory>
+        ensures print { IfOk result (λ text. text ≡ print_of self.now) }
+        ensures reads_back { IfOk result (λ text. metrics_of text ≡ Ok self.now) }
+    {
+        let mut lines = PrintedLines::new(alloc);
+        self.print_header(&mut lines)?;
+        print_constants(&self.constants, &mut lines)?;
+        print_glyphs(&self.glyphs, &mut lines)?;
+        self.print_characters(&mut lines)?;
+        self.print_growth(&mut lines)?;
+        print_operators(&self.operators, &mut lines)?;
+        Ok(lines.into_bytes())
+    }
+
+    /// The first line, and what is given once.
+    fn print_header(&self, lines: &mut PrintedLines) -> Result<(), Memory>
+        ensures { OnOk result (lines.new ≡ lines.old ++ flat_map line_text (header_lines self.now)) }
+    {
+        lines.add_version()?;
+        lines.add_upem(self.upem)?;
+        lines.add_reach(self.line_ascent, self.line_descent)?;
+        lines.add_x_height(self.x_height)?;
+        lines.add_overlap(self.overlap)
+    }
+
+    fn print_characters(&self, lines: &mut PrintedLines) -> Result<(), Memory>
+        ensures { OnOk result (lines.new ≡ lines.old
+            ++ flat_map line_text (map (character_words self.now.glyphs) self.now.characters)) }
+    {
+        for (letter, place) in self.characters.entries() {
+            lines.add_character(*letter, self.name(GlyphId(*place)))?;
+        }
+        Ok(())
+    }
+
+    /// What each glyph grows by.
+    fn print_growth(&self, lines: &mut PrintedLines) -> Result<(), Memory>
+        ensures { OnOk result (lines.new ≡ lines.old ++ flat_map line_text
+            (flat_map (growth_lines self.now) (range_with_len 0 (length self.now.glyphs)))) }
+    {
+        for place in 0..self.glyph_count() as u16 {
+            let glyph = GlyphId(place);
+            self.print_variants("vvariant", glyph, Axis::Block, lines)?;
+            self.print_variants("hvariant", glyph, Axis::Inline, lines)?;
+            self.print_parts("vassembly", glyph, Axis::Block, lines)?;
+            self.print_parts("hassembly", glyph, Axis::Inline, lines)?;
+        }
+        Ok(())
+    }
+
+    fn print_variants(
+        &self,
+        keyword: &str,
+        base: GlyphId,
+        axis: Axis,
+        lines: &mut PrintedLines,
+    ) -> Result<(), Memory>
+        requires { base.0 < length self.now.glyphs }
+        ensures { OnOk result (lines.new ≡ lines.old ++ flat_map line_text
+            (map (variant_words keyword.now self.now.glyphs base.0) (variants_of self.now base.0 axis))) }
+    {
+        let name = self.name(base);
+        for variant in self.variants(base, axis) {
+            lines.add_variant(keyword, name, self.name(variant.glyph), *variant)?;
+        }
+        Ok(())
+    }
+
+    fn print_parts(
+        &self,
+        keyword: &str,
+        base: GlyphId,
+        axis: Axis,
+        lines: &mut PrintedLines,
+    ) -> Result<(), Memory>
+        requires { base.0 < length self.now.glyphs }
+        ensures { OnOk result (lines.new ≡ lines.old ++ flat_map line_text
+            (map (part_words keyword.now self.now.glyphs base.0) (parts_of self.now base.0 axis))) }
+    {
+        let name = self.name(base);
+        for part in self.assembly(base, axis) {
+            lines.add_part(keyword, name, self.name(part.glyph), *part)?;
+        }
+        Ok(())
+    }
+}
+
+fn print_constants(constants: &ConstantTable, lines: &mut PrintedLines) -> Result<(), Memory>
+    requires { All (λ constant. constant.0 < 56) constants.now }
+    ensures { OnOk result (lines.new ≡ lines.old
+        ++ flat_map line_text (map constant_words constants.now)) }
+{
+    for (place, value) in constants.entries() {
+        lines.add_constant(*place, *value)?;
+    }
+    Ok(())
+}
+
+fn print_glyphs(glyphs: &GlyphTable, lines: &mut PrintedLines) -> Result<(), Memory>
+    ensures { OnOk result (lines.new ≡ lines.old ++ flat_map line_text (map glyph_words glyphs.now)) }
+{
+    for place in 0..glyphs.len() {
+        lines.add_glyph(glyphs.name(place), glyphs.glyph(place))?;
+    }
+    Ok(())
+}
+
+fn print_operators(operators: &Extra, lines: &mut PrintedLines) -> Result<(), Memory>
+    ensures { OnOk result (lines.new ≡ lines.old
+        ++ flat_map line_text (map operator_words operators.now)) }
+{
+    for index in 0..operators.count() {
+        lines.add_operator(operators.line(index))?;
+    }
+    Ok(())
+}
+
+#[cfg(test)]
+mod tests;

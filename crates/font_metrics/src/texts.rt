@@ -1,0 +1,54 @@
+ghost use Rattle.std.specs.Prelude.{◌≡◌};
+ghost use Rattle.font_metrics.specs.Print.{extender_text, form_text, category_text, axis_text};
+
+use op_dictionary::{Axis, Category, Form};
+
+/// `FIX`, or `EXT` for an extender.
+pub fn extender_text(extender: bool) -> &'static str
+    ensures { result.now ≡ extender_text extender }
+{
+    if extender { "EXT" } else { "FIX" }
+}
+
+/// `prefix`, `infix` or `postfix`
+pub fn form_text(form: Form) -> &'static str
+    ensures { result.now ≡ form_text form }
+{
+    match form {
+        Form::Prefix => "prefix",
+        Form::Infix => "infix",
+        Form::Postfix => "postfix",
+    }
+}
+
+/// `Default`, or a letter from `A` to `M`
+pub fn category_text(category: Category) -> &'static str
+    ensures { result.now ≡ category_text category }
+{
+    match category {
+        Category::Default => "Default",
+        Category::A => "A",
+        Category::B => "B",
+        Category::C => "C",
+        Category::D => "D",
+        Category::E => "E",
+        Category::F => "F",
+        Category::G => "G",
+        Category::H => "H",
+        Category::I => "I",
+        Category::J => "J",
+        Category::K => "K",
+        Category::L => "L",
+        Category::M => "M",
+    }
+}
+
+/// `block` or `inline`
+pub fn axis_text(axis: Axis) -> &'static str
+    ensures { result.now ≡ axis_text axis }
+{
+    match axis {
+        Axis::Block => "block",
+        Axis::Inline => "inline",
+    }
+}

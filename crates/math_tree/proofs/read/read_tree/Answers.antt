@@ -1,0 +1,28 @@
+use Rattle.std.proofs.Common.{◌≡◌, ap, ℕ, ◌+◌, Err, arith}
+use Rattle.serde_json.specs.View.{view}
+use Rattle.math_tree.specs.declared.read.Seen.{Seen}
+use Rattle.math_tree.specs.declared.refusal.TreeRefusal.{TreeRefusal}
+use Rattle.math_tree.proofs.ReadParts.{as_refused}
+use Rattle.math_tree.proofs.Whole.{whole, tree_is, refused}
+use Rattle.math_tree.proofs.read.read_tree.Goals as goal
+
+pub returns-in_err-root : goal.returns-in_err-root
+returns-in_err-root c =
+    let refusal : TreeRefusal = c.in_err-root.field-0.0 in
+    let same : c.from_residual.result ≡ Err refusal =
+    as_refused _ refusal c.from_residual.ensures.0 c.from_residual.ensures.1 in
+    record { reads = rw same (refused (view c.args.value.now) c.read_element.new.seen refusal c.in_err-root.ensures) }
+
+pub whole-requires : goal.whole-requires
+whole-requires c =
+    let read = c.in_ok-root.ensures in
+    let count = ap (λ (s : Seen). s.elements) read.2 in
+    let next : ℕ = c.read_element.new.seen.elements + 1 in
+    rw (read.1) (whole (view c.args.value.now) next read.0 (omega (arith, count)))
+
+pub returns : goal.returns
+returns c =
+    let read = c.in_ok-root.ensures in
+    let count = ap (λ (s : Seen). s.elements) read.2 in
+    let next : ℕ = c.read_element.new.seen.elements + 1 in
+    record { reads = rw (c.whole.ensures, read.1) (tree_is (view c.args.value.now) next read.0 (omega (arith, count))) }

@@ -1,0 +1,62 @@
+-- The faults of the elements of a JSON value, and the first of them in document order.
+use Rattle.std.specs.Prelude.{ℕ, ◌+◌, List, [], ◌∷◌, Bool, not, ◌&&◌, nat_eq, nat_lt, Option, None, codes}
+use Rattle.std.specs.List.{find}
+use Rattle.std.specs.Option.{option_map, option_or}
+use Rattle.std.specs.Str.{bytes_eq}
+use Rattle.math_tree.specs.Elements.{Element, elements, name_in, bytes_held, is_object, has_known_keys, has_attributes, is_right_to_left, has_text, has_children}
+use Rattle.math_tree.specs.Forms.{is_name, most_levels, most_elements, most_bytes}
+use Rattle.math_tree.specs.declared.fault.ElementFault.{ElementFault}
+use Rattle.math_tree.specs.declared.fault.ElementFault.TheVariants.{NotAnObject, BadName, NotMath, UnknownKey, BadAttributes, BadText, BadChildren, TooDeep, TooMany, RightToLeft, TooLong}
+use Rattle.math_tree.specs.declared.fault.TreeFault.{TreeFault}
+
+-- the number of a fault
+abbrev pub number_of : ElementFault → ℕ
+number_of NotAnObject = 1
+number_of BadName = 2
+number_of NotMath = 3
+number_of UnknownKey = 4
+number_of BadAttributes = 5
+number_of BadText = 6
+number_of BadChildren = 7
+number_of TooDeep = 8
+number_of TooMany = 9
+number_of RightToLeft = 10
+number_of TooLong = 11
+
+-- only the first element has to be `math`
+abbrev pub is_misplaced : ℕ → List ℕ → Bool
+is_misplaced place name = nat_eq place 1 && not (bytes_eq name (codes "math"))
+
+-- when an element has each fault, in the order in which they are looked for: by its place in
+-- document order, from 1, and the bytes that it and all elements before it hold together
+abbrev pub faults : ℕ → ℕ → Element → List (Bool × ElementFault)
+faults place bytes element = let value = element.value in
+    (nat_lt most_levels element.level, TooDeep)
+    ∷ (nat_lt most_elements place, TooMany)
+    ∷ (not (is_object value), NotAnObject)
+    ∷ (not (has_known_keys value), UnknownKey)
+    ∷ (not (is_name (name_in value)), BadName)
+    ∷ (is_misplaced place (name_in value), NotMath)
+    ∷ (not (has_attributes value), BadAttributes)
+    ∷ (is_right_to_left value, RightToLeft)
+    ∷ (not (has_text value), BadText)
+    ∷ (not (has_children value), BadChildren)
+    ∷ (nat_lt most_bytes bytes, TooLong)
+    ∷ []
+
+-- the first fault of an element, where it has one
+unfoldable pub fault_of : ℕ → ℕ → Element → Option ElementFault
+fault_of place bytes element =
+    option_map (λ row. row.1) (find (λ row. row.0) (faults place bytes element))
+
+abbrev pub fault_at : ℕ → ElementFault → TreeFault
+fault_at place fault = record { element = place; kind = number_of fault }
+
+-- the first fault of elements, where as many stand before them and hold as many bytes together
+abbrev pub first_fault_after : ℕ → ℕ → List Element → Option TreeFault
+first_fault_after count bytes [] = None
+first_fault_after count bytes (element ∷ elements) =
+    let place = count + 1 in
+    let held = bytes + bytes_held element.value in
+    let own = option_map (fault_at place) (fault_of place held element) in
+    option_or own (first_fault_after place held elements)

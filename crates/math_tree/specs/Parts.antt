@@ -1,0 +1,45 @@
+-- What the reading of a part of a tree answers, where other parts were read before it.
+use Rattle.std.specs.Prelude.{◌≡◌, ℕ, ◌+◌, List, length, map, Option, Some, None, Result, Ok, Err}
+use Rattle.std.specs.List.{flat_map, sum_by}
+use Rattle.serde_json.specs.Data.{Data}
+use Rattle.math_tree.specs.Elements.{Element, over, elements, bytes_held}
+use Rattle.math_tree.specs.Faults.{first_fault_after}
+use Rattle.math_tree.specs.Reading.{planted, nodes_from, node_of}
+use Rattle.math_tree.specs.declared.fault.TreeFault.{TreeFault}
+use Rattle.math_tree.specs.declared.node.Node.{Node}
+use Rattle.math_tree.specs.declared.read.Seen.{Seen}
+use Rattle.math_tree.specs.declared.refusal.TreeRefusal.{TreeRefusal}
+use Rattle.math_tree.specs.declared.refusal.TreeRefusal.TheVariants.{Fault, Memory}
+
+-- the first fault of elements that come after those seen
+abbrev pub fault_behind : Seen → List Element → Option TreeFault
+fault_behind seen elements = first_fault_after seen.elements seen.bytes elements
+
+-- what is seen once these are read too
+abbrev pub seen_with : Seen → List Element → Seen
+seen_with seen elements = record {
+  elements = seen.elements + length elements;
+  bytes = seen.bytes + sum_by (λ e. bytes_held e.value) elements;
+}
+
+-- elements side by side, with those below them: the ids rise by one in document order from this on
+abbrev pub nodes_of : ℕ → List Data → List Node
+nodes_of id values = nodes_from id (map (over planted) values)
+
+-- a part's elements have no fault, it is what they mean from the next id on, and they are seen too;
+-- or the first of their faults
+abbrev pub ReadsPart : {A : Type 0} → List Element → (ℕ → A) → Seen → Seen → Result A TreeRefusal
+    → Type 0
+ReadsPart elements meant before after (Ok read) =
+    (fault_behind before elements ≡ None)
+    × (read ≡ meant (before.elements + 1))
+    × (after ≡ seen_with before elements)
+ReadsPart elements meant before after (Err (Fault fault)) = fault_behind before elements ≡ Some fault
+ReadsPart elements meant before after (Err Memory) = Unit {0}
+
+-- an element with all below it, and elements side by side with all below them
+abbrev pub ReadsElement : ℕ → Data → Seen → Seen → Result Node TreeRefusal → Type 0
+ReadsElement level value = ReadsPart (elements level value) (λ id. node_of id value)
+
+abbrev pub ReadsElements : ℕ → List Data → Seen → Seen → Result (List Node) TreeRefusal → Type 0
+ReadsElements level values = ReadsPart (flat_map (elements level) values) (λ id. nodes_of id values)

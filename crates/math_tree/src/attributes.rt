@@ -1,0 +1,106 @@
+ghost use Rattle.std.specs.Prelude.{◌≡◌, option_map, length, IfOk};
+ghost use Rattle.std.specs.Cmp.Lexicographic.{slice_cmp};
+ghost use Rattle.std.specs.List.Sorted.{IsBinarySearchResult, IsSearchInRange};
+ghost use Rattle.std.specs.Ordering.{nat_cmp};
+ghost use Rattle.serde_json.specs.View.{view, members_view};
+ghost use Rattle.math_tree.specs.Attributes.{IsInOrder, value_of};
+ghost use Rattle.math_tree.specs.Elements.{attributes_held, attributes_of};
+
+use crate::element::{attributes_in, text_or_empty};
+use fixed_units::{List, Memory, Txt};
+use serde_json::{Map, Value};
+use std::alloc::Global;
+use std::cmp::Ordering;
+use std::marker::Model;
+
+/// The attributes of an element: a list that increases by name, with each name once. Those of
+/// unknown names are kept.
+#[derive(Debug, Drop)]
+pub struct Attributes {
+    items: List<Attribute>,
+}
+
+/// One attribute.
+#[derive(Debug, Drop)]
+pub struct Attribute {
+    pub name: Txt,
+    pub value: Txt,
+}
+
+impl Attribute {
+    /// How its name stands to another in the order of names, which is that of their bytes.
+    fn compare(&self, name: &str) -> Ordering
+        ensures { result ≡ slice_cmp nat_cmp self.now.name name.now }
+    {
+        self.name.as_str().cmp(name)
+    }
+}
+
+impl Model for Attributes {
+    ghost use Rattle.std.specs.Prelude.{List as Sequence};
+    ghost use Rattle.math_tree.specs.Attributes.{IsInOrder};
+    ghost use Rattle.math_tree.specs.declared.attributes.Attribute.{Attribute};
+
+    ghost Value = { Sequence Attribute };
+
+    ghost view = { λ attributes. attributes.items };
+
+    ghost invariant = { λ attributes. IsInOrder attributes.items };
+}
+
+impl Attributes {
+    /// The attributes that a JSON value says of an element.
+    #[tactic(auto, using(crate::proofs::Members::none_in_order), unfolding(crate::specs::Elements::attributes_held))]
+    pub(crate) fn of_value(alloc: Global, value: &Value) -> Result<Attributes, Memory>
+        ensures { IfOk result (λ attributes. attributes ≡ attributes_held (view value.now)) }
+    {
+        match attributes_in(value) {
+            Some(members) => Attributes::of_members(alloc, members),
+            None => Ok(Attributes {
+                items: List::make(alloc),
+            }),
+        }
+    }
+
+    fn of_members(alloc: Global, members: &Map<String, Value>) -> Result<Attributes, Memory>
+        ensures { IfOk result
+            (λ attributes. attributes ≡ attributes_of (members_view members.now.entries)) }
+    {
+        let mut items = List::make(alloc);
+        for (name, value) in members.iter() {
+            items.push(Attribute {
+                name: Txt::make(alloc, name)?,
+                value: Txt::make(alloc, text_or_empty(value))?,
+            })?;
+        }
+        Ok(Attributes { items })
+    }
+
+    /// The value of the attribute of that name, where there is one.
+    pub fn get(&self, name: &str) -> Option<&str>
+        ensures { option_map (λ value. value.now) result ≡ value_of name.now self.now }
+    {
+        match self.search(name) {
+            Ok(place) => Some(self.items.as_slice()[place].value.as_str()),
+            Err(_) => None,
+        }
+    }
+
+    /// Where the attribute of that name is, or where it would go.
+    fn search(&self, name: &str) -> Result<usize, usize>
+        ensures range { IsSearchInRange result (length self.now) }
+        ensures ends { IsBinarySearchResult (λ a. slice_cmp nat_cmp a.name name.now) self.now result }
+        ensures order { IsInOrder self.now }
+    {
+        let items = self.items.as_slice();
+        items.binary_search_by(|item| item.compare(name))
+    }
+
+    /// The attributes in the order of their names.
+    pub fn as_slice(&self) -> &[Attribute]
+        ensures all { result.now ≡ self.now }
+        ensures order { IsInOrder self.now }
+    {
+        self.items.as_slice()
+    }
+}
