@@ -1,0 +1,6 @@
+pub mod ElementLaws
+pub mod Letters
+pub mod Nodes
+pub mod Pieces
+pub mod Places
+pub mod Worked

@@ -1,0 +1,19 @@
+-- Which children of an element are in flow.
+use Rattle.std.specs.Prelude.{Bool, not, ◌&&◌, if◌then◌else◌, List, [], filter, take}
+use Rattle.math_tree.specs.declared.kind.Kind.{Kind}
+use Rattle.embellished.specs.Kinds.{is_annotation, is_prescripts_mark, is_multiscripts, shows_its_first, shows_none}
+
+-- whether a child that may be in flow is: no annotation, and no mark of a valid `mmultiscripts`
+abbrev pub may_show : Kind → Kind → Bool
+may_show laid kid = not (is_annotation kid) && not (is_multiscripts laid && is_prescripts_mark kid)
+
+-- those of the children that may be in flow
+abbrev pub shown_by : {A : Type 0} → (A → Kind) → Kind → List A → List A
+shown_by kind_of laid kids = filter (λ kid. may_show laid (kind_of kid)) kids
+
+-- the children in flow of an element that is laid out as this kind; `kind_of` says how a child is
+unfoldable pub flow_by : {A : Type 0} → (A → Kind) → Kind → List A → List A
+flow_by kind_of laid kids =
+    if shows_none laid then []
+    else if shows_its_first laid then shown_by kind_of laid (take 1 kids)
+    else shown_by kind_of laid kids
