@@ -1,5 +1,5 @@
 -- What the fields of each kind of line give lies in its ranges.
-use Rattle.std.proofs.Common.{◌≡◌, ◌∙◌, ◌==◌, ◌≤ℤ◌, sym, ap, refl, subst, ℕ, ◌≤◌, ◌<◌, Bool, true, false, not, ◌&&◌, true≢false, ℤ, pos, negsuc, int_le, unsigned_abs, List, [], ◌∷◌, length, Option, Some, None, Ok, arith, nat_le, lit<}
+use Rattle.std.proofs.Common.{◌≡◌, ◌∙◌, ◌==◌, ◌≤ℤ◌, sym, ap, subst, ℕ, ◌≤◌, ◌<◌, true, not, ◌&&◌, true≢false, ℤ, pos, negsuc, int_le, unsigned_abs, List, [], ◌∷◌, length, Option, Some, None, Ok, arith}
 use Rattle.std.proofs.lemmas.Bool.{and_parts}
 use Rattle.std.proofs.lemmas.Bool.Decides.{nat_tests}
 use Rattle.std.proofs.lemmas.List.Quantifiers.{position-Some}
@@ -14,12 +14,12 @@ use Rattle.font_metrics.specs.declared.fault.LineFault.TheVariants.{FieldCount, 
 use Rattle.font_metrics.specs.declared.growth.Variant.{Variant}
 use Rattle.font_metrics.specs.declared.growth.Part.{Part}
 use Rattle.font_metrics.specs.Constants.{constant_texts, place_of_text, lowest_of, highest_of}
-use Rattle.font_metrics.specs.Faults.{Step, ◌>>=◌, or_fault, fault_if}
+use Rattle.font_metrics.specs.Faults.{or_fault, fault_if}
 use Rattle.font_metrics.specs.Lines.{Words, upem_in, line_in, one_length_in, length_in, reach_in, reach_if_given, named_in, constant_in, glyph_with, glyph_in, character_in, variant_in, part_with, part_in, operator_in}
 use Rattle.font_metrics.specs.Metrics.{NamedGlyph, place_of_name}
 use Rattle.font_metrics.specs.Taken.{IsLength, IsReach, IsGlyph, IsConstant, IsCharacter, IsVariant, IsPart, IsOperatorText}
 use Rattle.font_metrics.specs.Whole.{IsUpem, IsReachOfLine}
-use Rattle.font_metrics.specs.Words.{number_of, is_between, number_in, natural_in, code_of, is_scalar, is_in_pair, letter_in, pair_in, text_of_codes, operator_text_in, is_name, name_in, extender_in, form_in, category_in, axis_in, plus}
+use Rattle.font_metrics.specs.Words.{number_of, is_between, number_in, natural_in, code_of, is_scalar, is_in_pair, letter_in, text_of_codes, operator_text_in, is_name, name_in, extender_in, form_in, category_in, axis_in, plus}
 use Rattle.font_metrics.proofs.Steps.{same_Ok, no_value, had, found, holds}
 use Rattle.font_metrics.proofs.Tables.{place_within}
 

@@ -1,5 +1,5 @@
 -- What a file gives at its end.
-use Rattle.std.proofs.Common.{subst, ◌≡◌, ◌∙◌, sym, ap, refl, ℕ, ◌≤◌, codes, Option, Some, None, Ok, Err}
+use Rattle.std.proofs.Common.{subst, ◌≡◌, sym, refl, ℕ, ◌≤◌, codes, Option, Some, None, Ok, Err}
 use Rattle.font_metrics.specs.declared.fault.LineFault.TheVariants.{NoMissing}
 use Rattle.font_metrics.specs.declared.fault.LineFault.{LineFault}
 use Rattle.std.specs.Option.{ok_or, IfSome, IsSome}

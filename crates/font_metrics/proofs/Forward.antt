@@ -1,15 +1,14 @@
 -- Line after line gives what the first faulty line and all lines say.
-use Rattle.std.proofs.Common.{◌≡◌, ◌==◌, Bool, true, arith, ◌≢◌, ◌∙◌, sym, ap, refl, subst, ℕ, ◌+◌, List, [], ◌∷◌, ◌++◌, length, Option, Some, None, Result, Ok, Err, append_assoc, append-nil}
+use Rattle.std.proofs.Common.{◌≡◌, ◌==◌, Bool, true, arith, ◌≢◌, ◌∙◌, sym, ap, refl, ℕ, ◌+◌, List, [], ◌∷◌, ◌++◌, length, Result, Ok, Err, append_assoc, append-nil}
 use Rattle.std.proofs.lemmas.Bool.Decides.{nat_tests}
 use Rattle.std.proofs.lemmas.List.{length_push}
 use Rattle.std.specs.Str.Lines.{lines}
 use Rattle.font_metrics.specs.declared.fault.LineFault.{LineFault}
 use Rattle.font_metrics.specs.declared.refusal.LineRefusal.{LineRefusal}
 use Rattle.font_metrics.specs.declared.refusal.LineRefusal.TheVariants.{Fault as FaultyLine, Memory as NoMemory}
-use Rattle.font_metrics.specs.declared.refusal.MetricsRefusal.{MetricsRefusal}
 use Rattle.font_metrics.specs.Faults.{Step}
 use Rattle.font_metrics.specs.Metrics.{MetricsValue}
-use Rattle.font_metrics.specs.Reading.{Given, Fault, fault_at, fault_or, nothing, after, after_first, kept, given_from, given_by, step_behind, first_fault_behind, finished, numbered, metrics_or, lines_of, metrics_of}
+use Rattle.font_metrics.specs.Reading.{Given, Fault, fault_at, fault_or, nothing, after, after_first, kept, given_from, first_fault_behind, finished, numbered, metrics_or, lines_of, metrics_of}
 use Rattle.font_metrics.specs.Reads.{Reads, Takes, Begins, refusal_at}
 use Rattle.font_metrics.proofs.Ranges.{first_gives}
 

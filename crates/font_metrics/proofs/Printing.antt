@@ -1,11 +1,9 @@
 -- Loops that print: the lines of a list, one after another.
-use Rattle.std.proofs.Common.{◌≡◌, ◌∙◌, ap, refl, sym, ℕ, ◌+◌, ◌<◌, zero, suc, List, [], ◌∷◌, ◌++◌, length, map, flat_map, take, slice_get, Some, None, append_assoc, append-nil, add-one, add-zero, zero-add, arith, codes, All}
+use Rattle.std.proofs.Common.{◌≡◌, ◌∙◌, ap, refl, sym, ℕ, ◌+◌, zero, suc, List, [], ◌∷◌, ◌++◌, length, map, flat_map, take, slice_get, Some, append_assoc, append-nil, add-one, add-zero, zero-add, arith, codes, All}
 use Rattle.std.specs.List.{range_with_len}
 use Rattle.std.proofs.lemmas.List.{map_push}
 use Rattle.std.proofs.lemmas.List.Elements.{All-head, All-same}
 use Rattle.std.proofs.lemmas.List.Concat.{flat_map-append}
-use Rattle.font_metrics.specs.declared.growth.Variant.{Variant}
-use Rattle.font_metrics.specs.declared.growth.Part.{Part}
 use Rattle.font_metrics.specs.Lines.{Words}
 use Rattle.font_metrics.specs.Metrics.{MetricsValue, items_of}
 use Rattle.font_metrics.specs.Print.{constant_words, glyph_words, character_words, variant_words, part_words, growth_lines, operator_words, header_lines, line_text, print_of}

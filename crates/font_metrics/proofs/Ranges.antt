@@ -1,27 +1,26 @@
 -- What lines give lies in its ranges.
-use Rattle.std.proofs.Common.{◌≡◌, ◌∙◌, sym, ap, refl, subst, ℕ, ◌+◌, ◌≤◌, ◌<◌, Bool, true, false, ℤ, nat_eq, nat_le, if◌then◌else◌, List, [], ◌∷◌, ◌++◌, length, is_some, codes, Option, Some, None, Ok, Err, arith, not}
+use Rattle.std.proofs.Common.{◌≡◌, sym, subst, ℕ, ◌+◌, ◌≤◌, Bool, true, false, ℤ, nat_eq, nat_le, if◌then◌else◌, List, [], ◌∷◌, ◌++◌, length, is_some, Some, Ok, arith, not}
 use Rattle.std.proofs.lemmas.List.{length_push}
 use Rattle.std.proofs.lemmas.List.Elements.{All-nil, All-weaker}
 use Rattle.std.specs.List.{IsDistinct}
 use Rattle.std.specs.List.Sorted.{IsStrictlySortedBy}
 use Rattle.std.specs.Map.{lookup}
-use Rattle.std.specs.Option.{IfSome}
 use Rattle.std.specs.BTreeMap.{insert_entry}
 use Rattle.std.specs.Ordering.{nat_cmp}
 use Rattle.op_dictionary.specs.Dictionary.{is_named}
 use Rattle.font_metrics.specs.declared.fault.LineFault.{LineFault}
-use Rattle.font_metrics.specs.declared.fault.LineFault.TheVariants.{ForeignByte, WrongFirstLine, UnknownWord, Repeated, TooMany, NoUpem, NoLine, NoXHeight, NoMissing}
+use Rattle.font_metrics.specs.declared.fault.LineFault.TheVariants.{ForeignByte, WrongFirstLine, UnknownWord, Repeated, TooMany}
 use Rattle.font_metrics.specs.declared.growth.Variant.{Variant}
 use Rattle.font_metrics.specs.declared.growth.Part.{Part}
 use Rattle.font_metrics.specs.declared.keyword.Keyword.{Keyword}
 use Rattle.font_metrics.specs.declared.keyword.Keyword.TheVariants.{Upem, Line, XHeight, Overlap, Constant, Glyph, Char, BlockVariant, InlineVariant, BlockPart, InlinePart, Operator, Unknown}
-use Rattle.font_metrics.specs.Faults.{Step, ◌>>=◌, or_fault, fault_if}
+use Rattle.font_metrics.specs.Faults.{Step, ◌>>=◌, fault_if}
 use Rattle.font_metrics.specs.Lines.{Words, keyword_of, upem_in, line_in, one_length_in, constant_in, glyph_in, character_in, variant_in, part_in, operator_in}
-use Rattle.font_metrics.specs.Metrics.{NamedGlyph, MetricsValue, ByGlyph, place_of_name}
-use Rattle.font_metrics.specs.Reading.{Given, nothing, is_full, is_foreign, is_comment, is_version, words_of, one_variant_more, one_part_more, after_fields, after_words, after, after_first, whole_of, finished}
-use Rattle.font_metrics.specs.Taken.{IsTaken, IsGlyph, IsConstant, IsCharacter, IsTable, IsVariant, IsPart, most_glyphs, most_variants, most_parts}
-use Rattle.font_metrics.specs.Whole.{IsGiven, AreGlyphs, AreConstants, AreCharacters, AreOperators}
-use Rattle.font_metrics.proofs.Steps.{same_Ok, no_value, had, free, found}
+use Rattle.font_metrics.specs.Metrics.{NamedGlyph, ByGlyph, place_of_name}
+use Rattle.font_metrics.specs.Reading.{Given, nothing, is_full, is_foreign, is_comment, is_version, words_of, one_variant_more, one_part_more, after_fields, after_words, after, after_first}
+use Rattle.font_metrics.specs.Taken.{IsGlyph, IsConstant, IsCharacter, IsTable, IsVariant, IsPart, most_glyphs, most_variants, most_parts}
+use Rattle.font_metrics.specs.Whole.{IsGiven, AreGlyphs, AreOperators}
+use Rattle.font_metrics.proofs.Steps.{same_Ok, no_value, had, free}
 use Rattle.font_metrics.proofs.EachKind.{upem_range, line_range, one_length_range, constant_range, glyph_range, character_range, variant_range, part_range, operator_range}
 use Rattle.font_metrics.proofs.Ordered.{ordered-insert, all-insert, table-item, table-wider, glyphs-push, operators-push}
 

@@ -1,6 +1,6 @@
 -- Steps that gave a value.
 use Rattle.std.specs.Result.{IsErrAnd}
-use Rattle.std.proofs.Common.{◌≡◌, ap, Bool, true, false, not, ◌&&◌, Option, Some, None, Ok, Err, refl, sym, true≢false}
+use Rattle.std.proofs.Common.{◌≡◌, ap, Bool, true, false, not, Option, Some, None, Ok, Err, refl}
 use Rattle.font_metrics.specs.declared.fault.LineFault.{LineFault}
 use Rattle.font_metrics.specs.Faults.{Step, ◌>>=◌, or_fault, fault_if}
 

@@ -1,5 +1,5 @@
 -- What is read off metrics stays within bounds.
-use Rattle.std.proofs.Common.{zero, suc, ◌≡◌, ◌∙◌, sym, ap, refl, subst, ℕ, ◌≤◌, ◌<◌, ◌^◌, ℤ, pos, negsuc, ◌≤ℤ◌, List, [], length, Option, Some, None, arith, nat_eq, Contains, if◌then◌else◌, Bool, true, false}
+use Rattle.std.proofs.Common.{zero, suc, ◌≡◌, ◌∙◌, sym, ap, refl, subst, ℕ, ◌≤◌, ◌<◌, ◌^◌, ℤ, pos, negsuc, ◌≤ℤ◌, length, Option, Some, None, arith, nat_eq, Contains, if◌then◌else◌, Bool, true, false}
 use Rattle.std.proofs.lemmas.Bool.Decides.{nat_tests}
 use Rattle.std.proofs.lemmas.List.Elements.{All-contains}
 use Rattle.std.proofs.lemmas.Map.Views.{IfSome-lookup}
@@ -12,8 +12,8 @@ use Rattle.std.specs.Ordering.{int_eq}
 use Rattle.fixed_units.proofs.Signed.{signed}
 use Rattle.fixed_units.proofs.Within.{natural_in, widened}
 use Rattle.font_metrics.specs.declared.constants.ConstName.{ConstName}
-use Rattle.font_metrics.specs.declared.constants.ConstName.TheVariants.{ScriptPercentScaleDown, ScriptScriptPercentScaleDown, RadicalDegreeBottomRaisePercent}
-use Rattle.font_metrics.specs.Constants.{place_of_constant, lowest_of, highest_of, is_scale_down}
+use Rattle.font_metrics.specs.declared.constants.ConstName.TheVariants.{ScriptPercentScaleDown, ScriptScriptPercentScaleDown}
+use Rattle.font_metrics.specs.Constants.{place_of_constant, is_scale_down}
 use Rattle.font_metrics.specs.Metrics.{MetricsValue, given_constant, or_default, percent_of, IsPercent, IsScaleDown, variants_of, parts_of}
 use Rattle.font_metrics.specs.Taken.{IsTaken, IsReach, IsVariant, IsPart, IsConstant, most_variants, most_parts}
 use Rattle.font_metrics.proofs.Ordered.{all_items, few_items}

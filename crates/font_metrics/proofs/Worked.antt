@@ -1,11 +1,10 @@
 -- Worked files: the definitions, computed.
-use Rattle.std.proofs.Common.{◌≡◌, ℕ, pos, negsuc, List, [], ◌∷◌, ◌++◌, codes, Some, None, Result, Ok, Err, refl}
+use Rattle.std.proofs.Common.{◌≡◌, ℕ, pos, List, [], ◌∷◌, ◌++◌, codes, None, Ok, Err, refl}
 use Rattle.font_metrics.specs.declared.fault.LineFault.TheVariants.{ForeignByte, WrongFirstLine, UnknownWord, FieldCount, NotANumber, OutOfRange, WrongWord, NotNamed, Repeated, NoUpem, NoMissing}
-use Rattle.font_metrics.specs.Metrics.{NamedGlyph, MetricsValue}
-use Rattle.font_metrics.specs.Words.{value_of_digits, numeral_of, number_of, number_in, natural_in, code_of, letter_in, is_name, name_in, operator_text_in, form_in, axis_in, category_in, extender_in}
+use Rattle.font_metrics.specs.Words.{value_of_digits, numeral_of, number_of, number_in, natural_in, code_of, letter_in, is_name, name_in, operator_text_in, extender_in}
 use Rattle.font_metrics.specs.Constants.{place_of_text}
 use Rattle.font_metrics.specs.Lines.{keyword_of}
-use Rattle.font_metrics.specs.Reading.{Fault, fault_at, words_of, is_foreign, after, after_first, finished, metrics_of}
+use Rattle.font_metrics.specs.Reading.{fault_at, words_of, is_foreign, after, after_first, finished, metrics_of}
 
 -- lines with their line feeds
 abbrev feed : List ℕ

@@ -6,7 +6,7 @@ use Rattle.op_dictionary.specs.declared.operator.Category.TheVariants.{Default, 
 use Rattle.op_dictionary.specs.declared.operator.Form.TheVariants.{Infix, Postfix}
 use Rattle.op_dictionary.specs.declared.text.OpText.TheVariants.{One, Two}
 use Rattle.font_metrics.specs.declared.glyph.Glyph.{Glyph}
-use Rattle.font_metrics.specs.Metrics.{NamedGlyph, MetricsValue}
+use Rattle.font_metrics.specs.Metrics.{MetricsValue}
 use Rattle.font_metrics.specs.Print.{print_of, line_text, printed_lines}
 
 abbrev feed : List ℕ

@@ -1,5 +1,5 @@
 -- What a line of a metrics file says: by its first word, and then by its fields from left to right.
-use Rattle.std.specs.Prelude.{ℕ, ℤ, pos, negsuc, Bool, if◌then◌else◌, List, [], ◌∷◌, map, codes, Option, Some, None, unwrap_or, Result, Ok, Err}
+use Rattle.std.specs.Prelude.{ℕ, ℤ, pos, negsuc, if◌then◌else◌, List, [], ◌∷◌, map, codes, Option, Some, None, unwrap_or, Ok, Err}
 use Rattle.std.specs.Str.{bytes_eq}
 use Rattle.std.specs.Borrow.{Bor}
 use Rattle.op_dictionary.specs.declared.extra.OperatorLine.{OperatorLine}

@@ -1,25 +1,18 @@
 -- What a metrics file says, and what is read off it at a font size.
-use Rattle.std.specs.Prelude.{ℕ, ◌≤◌, ◌<◌, ◌^◌, ℤ, pos, negsuc, ◌≤ℤ◌, ◌*ℤ◌, if◌then◌else◌, IsTrue, List, [], length, map, codes, Option, Some, None, unwrap_or, IfSome, IsSome, nat_eq, slice_index_or, position}
-use Rattle.std.specs.List.{All, IsDistinct}
-use Rattle.std.specs.List.Sorted.{IsStrictlySortedBy}
-use Rattle.std.specs.Map.{lookup, keys_of}
-use Rattle.std.specs.Ordering.{nat_cmp, int_eq}
+use Rattle.std.specs.Prelude.{ℕ, ℤ, pos, ◌*ℤ◌, if◌then◌else◌, List, [], codes, Option, Some, None, unwrap_or, nat_eq, slice_index_or, position}
+use Rattle.std.specs.Map.{lookup}
+use Rattle.std.specs.Ordering.{int_eq}
 use Rattle.std.specs.Str.{bytes_eq}
-use Rattle.fixed_units.specs.Numbers.{IsWithin, rounded}
+use Rattle.fixed_units.specs.Numbers.{rounded}
 use Rattle.op_dictionary.specs.declared.extra.OperatorLine.{OperatorLine}
 use Rattle.op_dictionary.specs.declared.operator.Axis.{Axis}
 use Rattle.op_dictionary.specs.declared.operator.Axis.TheVariants.{Block, Inline}
-use Rattle.op_dictionary.specs.declared.text.OpText.{OpText}
-use Rattle.op_dictionary.specs.declared.text.OpText.TheVariants.{One, Two}
-use Rattle.op_dictionary.specs.Dictionary.{AreDistinct}
-use Rattle.op_dictionary.specs.Pairs.{IsLineText}
 use Rattle.font_metrics.specs.declared.constants.ConstName.{ConstName}
 use Rattle.font_metrics.specs.declared.constants.ConstName.TheVariants.{ScriptPercentScaleDown, ScriptScriptPercentScaleDown, RadicalDegreeBottomRaisePercent}
 use Rattle.font_metrics.specs.declared.glyph.Glyph.{Glyph}
 use Rattle.font_metrics.specs.declared.growth.Variant.{Variant}
 use Rattle.font_metrics.specs.declared.growth.Part.{Part}
-use Rattle.font_metrics.specs.Constants.{place_of_constant, lowest_of, highest_of}
-use Rattle.font_metrics.specs.Words.{is_scalar, is_name}
+use Rattle.font_metrics.specs.Constants.{place_of_constant}
 
 -- a glyph with the name that the file gives it
 pub record NamedGlyph : Type 0 where

@@ -27,6 +27,7 @@ mod growth; // Variant, Part
 mod keyword; // the first word of a line
 pub mod laws; // reading a print gives the metrics
 mod lines; // the fields of each kind of line
+mod mark; // Mark
 mod metrics; // Metrics
 mod named_lines; // those that name a glyph
 mod pieces; // lines of a file, words of a line
@@ -43,6 +44,7 @@ pub use constants::ConstName;
 pub use fault::LineFault;
 pub use glyph::{Glyph, GlyphId};
 pub use growth::{Part, Variant};
+pub use mark::Mark;
 pub use metrics::Metrics;
 pub use read::read_metrics;
 pub use refusal::{MetricsFault, MetricsRefusal};

@@ -1,9 +1,9 @@
-use Rattle.std.proofs.Common.{Bor, ◌≡◌, ◌∙◌, ap, sym, rules, tests, position, List, ℕ, map, refl}
+use Rattle.std.proofs.Common.{Bor, ◌∙◌, ap, sym, rules, tests, position, List, ℕ, map, refl}
 use Rattle.std.proofs.lemmas.Iterator.{YieldsList-from_slice}
 use Rattle.std.proofs.lemmas.Iterator.Search.{position_from_yields_List}
 use Rattle.std.specs.Slice.Iter.{iter_rest}
 use Rattle.std.specs.Str.{bytes_eq}
-use Rattle.font_metrics.specs.Constants.{constant_texts, place_of_text}
+use Rattle.font_metrics.specs.Constants.{place_of_text}
 use Rattle.font_metrics.proofs.Tables.{position-map}
 use Rattle.font_metrics.proofs.constants.place_of_text.Goals as goal
 

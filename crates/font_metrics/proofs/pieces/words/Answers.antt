@@ -1,4 +1,4 @@
-use Rattle.std.proofs.Common.{◌++◌, ◌≡◌, ◌∙◌, ap, map, not, rules, tests}
+use Rattle.std.proofs.Common.{◌++◌, ◌∙◌, ap, not, rules, tests}
 use Rattle.std.proofs.lemmas.Iterator.{YieldsList-from_take, items_from_drains}
 use Rattle.std.proofs.lemmas.Iterator.Consumers.{YieldsList-from_filter}
 use Rattle.std.proofs.lemmas.Iterator.Splits.{YieldsList-from_slice_split}

@@ -1,6 +1,5 @@
-use Rattle.std.proofs.Common.{◌≡◌, ◌≢◌, ◌∙◌, ◌+◌, ap, sym, subst, List, ℕ, [], Ok, Err, rules, arith, true}
+use Rattle.std.proofs.Common.{◌≡◌, ◌≢◌, ◌∙◌, ◌+◌, ap, sym, subst, [], Err, rules, arith, true}
 use Rattle.std.specs.Str.Lines.{lines}
-use Rattle.font_metrics.specs.declared.refusal.LineRefusal.TheVariants.{Fault as FaultyLine}
 use Rattle.font_metrics.specs.Reading.{after, after_first, finished, numbered, metrics_of}
 use Rattle.font_metrics.specs.Reads.{Reads}
 use Rattle.font_metrics.specs.Whole.{IsGiven}

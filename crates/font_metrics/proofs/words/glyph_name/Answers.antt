@@ -1,7 +1,6 @@
 use Rattle.std.proofs.Common.{◌≡◌, ◌∙◌, ap, sym, Bor, List, ℕ, Result, Ok, Err, true, not}
 use Rattle.std.specs.Result.{MatchResult}
 use Rattle.std.specs.Str.{IsUtf8}
-use Rattle.font_metrics.specs.declared.fault.LineFault.{LineFault}
 use Rattle.font_metrics.specs.declared.fault.LineFault.TheVariants.{WrongWord}
 use Rattle.font_metrics.specs.Faults.{Step, step_map, fault_if, ◌>>=◌}
 use Rattle.font_metrics.specs.Words.{is_name, name_in}

@@ -1,4 +1,4 @@
-use Rattle.std.proofs.Common.{◌≡◌, ◌∙◌, ◌+◌, ap, sym, rules, tests, take}
+use Rattle.std.proofs.Common.{◌∙◌, ◌+◌, ap, sym, rules, tests, take}
 use Rattle.std.proofs.lemmas.Iterator.{YieldsList-from_slice}
 use Rattle.std.proofs.lemmas.Iterator.Search.{position_from_yields_List}
 use Rattle.font_metrics.specs.Words.{text_of_codes, pair_in, operator_text_in}

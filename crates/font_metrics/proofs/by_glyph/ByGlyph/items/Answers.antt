@@ -1,7 +1,5 @@
-use Rattle.std.proofs.Common.{◌≡◌, ◌∙◌, ap, sym, [], None, Some, nat_eq}
-use Rattle.std.specs.Map.{lookup}
+use Rattle.std.proofs.Common.{◌∙◌, ap, sym, []}
 use Rattle.std.specs.Option.{option_map, option_copied, unwrap_or}
-use Rattle.font_metrics.specs.Kept.{lists_of_entries}
 use Rattle.font_metrics.specs.Metrics.{items_of}
 use Rattle.font_metrics.proofs.Listed.{lookup-lists}
 use Rattle.font_metrics.proofs.by_glyph.ByGlyph.items.Goals as goal

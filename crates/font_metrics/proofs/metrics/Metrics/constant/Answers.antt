@@ -1,4 +1,4 @@
-use Rattle.std.proofs.Common.{◌∙◌, ◌^◌, ap, sym, subst, ℤ, pos, lit<}
+use Rattle.std.proofs.Common.{◌∙◌, ◌^◌, ap, sym, subst, lit<}
 use Rattle.fixed_units.specs.Numbers.{IsWithin}
 use Rattle.font_metrics.specs.Metrics.{scale_of, constant_of}
 use Rattle.font_metrics.proofs.Scaling.{back64, within64, size_in}

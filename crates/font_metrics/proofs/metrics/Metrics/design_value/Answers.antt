@@ -1,4 +1,4 @@
-use Rattle.std.proofs.Common.{◌≡◌, ◌∙◌, ◌^◌, ap, sym, subst, pos, lit<, arith, Option, ℤ}
+use Rattle.std.proofs.Common.{◌∙◌, ◌^◌, ap, sym, subst, pos, lit<, arith, Option, ℤ}
 use Rattle.std.specs.Option.{unwrap_or}
 use Rattle.fixed_units.specs.Numbers.{IsWithin}
 use Rattle.font_metrics.proofs.Scaling.{back64, within64}

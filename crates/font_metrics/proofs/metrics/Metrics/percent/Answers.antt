@@ -1,8 +1,8 @@
-use Rattle.std.proofs.Common.{◌≡◌, ◌∙◌, ◌^◌, ◌≤ℤ◌, ap, sym, subst, pos, lit<, arith, Option, ℤ}
+use Rattle.std.proofs.Common.{◌∙◌, ◌^◌, ◌≤ℤ◌, ap, sym, subst, pos, lit<, arith, Option, ℤ}
 use Rattle.std.specs.Option.{unwrap_or, IfSome}
 use Rattle.fixed_units.specs.Numbers.{IsWithin}
 use Rattle.font_metrics.specs.Constants.{place_of_constant}
-use Rattle.font_metrics.specs.Metrics.{or_default, percent_of}
+use Rattle.font_metrics.specs.Metrics.{or_default}
 use Rattle.font_metrics.specs.Taken.{IsConstant}
 use Rattle.font_metrics.proofs.Scaling.{back64, within64}
 use Rattle.font_metrics.proofs.Values.{or_within, default_within, first_percent, second_percent, other_percent, scale_down_in}

@@ -1,4 +1,3 @@
-use Rattle.std.proofs.Common.{length}
 use Rattle.std.proofs.lemmas.Option.{slice_get-get_or}
 use Rattle.font_metrics.specs.Metrics.{name_at}
 use Rattle.font_metrics.specs.Print.{part_words}

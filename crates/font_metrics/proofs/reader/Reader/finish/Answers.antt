@@ -1,6 +1,6 @@
-use Rattle.std.proofs.Common.{◌∙◌, ◌≡◌, ap, sym, codes, ℕ, Ok, Err}
+use Rattle.std.proofs.Common.{◌∙◌, ap, sym, codes, ℕ, Ok, Err}
 use Rattle.font_metrics.specs.Metrics.{place_of_name}
-use Rattle.font_metrics.specs.Reading.{Given, finished}
+use Rattle.font_metrics.specs.Reading.{Given}
 use Rattle.font_metrics.proofs.Finish.{metrics_value, lacks_missing, lacking, is_finished}
 use Rattle.font_metrics.proofs.Steps.{failed}
 use Rattle.font_metrics.proofs.reader.Reader.finish.Goals as goal
