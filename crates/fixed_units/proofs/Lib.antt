@@ -4,5 +4,7 @@ pub mod Rounding
 pub mod Signed
 pub mod Sizes
 pub mod Stored
+pub mod Sums
+pub mod Unions
 pub mod Within
 pub mod Worked

@@ -33,7 +33,7 @@ stored z p =
     and_from (low z) (high z) (true_at_most (neg_ℤ (pos farthest)) z (omega (arith, signed, p)))
     (true_at_most z (pos farthest) (omega (arith, signed, p)))
 
-box_within : (frame : MathBox) → is_box_stored frame ≡ true → IsStored frame
+pub box_within : (frame : MathBox) → is_box_stored frame ≡ true → IsStored frame
 box_within f e =
     let a = and_parts (is_stored f.width && is_stored f.ascent && is_stored f.descent && is_stored f.ink_ascent && is_stored f.ink_descent && is_stored f.italic) (is_stored f.accent) e in
     let b = and_parts (is_stored f.width && is_stored f.ascent && is_stored f.descent && is_stored f.ink_ascent && is_stored f.ink_descent) (is_stored f.italic) a.0 in
@@ -51,7 +51,7 @@ box_within f e =
       accent = within f.accent a.1;
     }
 
-box_stored : (frame : MathBox) → IsStored frame → is_box_stored frame ≡ true
+pub box_stored : (frame : MathBox) → IsStored frame → is_box_stored frame ≡ true
 box_stored f s =
     and_from _ _ (and_from _ _ (and_from _ _ (and_from _ _ (and_from _ _ (and_from _ _
     (stored f.width s.width) (stored f.ascent s.ascent)) (stored f.descent s.descent))

@@ -1,7 +1,10 @@
 -- Worked figures: the definitions compute them, and a wrong one is refused at its line.
-use Rattle.std.proofs.Common.{◌≡◌, refl, pos, neg_ℤ, ◌*ℤ◌, ℤ, codes, Option, Some, None}
+use Rattle.std.proofs.Common.{◌≡◌, refl, ◌+◌, ◌*◌, pos, neg_ℤ, ◌*ℤ◌, ℤ, codes, Option, Some, None, [], ◌∷◌}
+use Rattle.fixed_units.specs.Boxes.{raised, joined, all_joined}
 use Rattle.fixed_units.specs.Lengths.{trimmed, is_negative, behind_sign, digits_in_front, behind_digits, fraction_of, number_of, unit_of, unit_at, length_of, size_of, resolved}
 use Rattle.fixed_units.specs.Numbers.{rounded, halved}
+use Rattle.fixed_units.specs.Sums.{sum_to, list_to}
+use Rattle.fixed_units.specs.declared.boxes.MathBox.{MathBox}
 use Rattle.fixed_units.specs.declared.lengths.LengthText.{LengthText}
 use Rattle.fixed_units.specs.declared.lengths.Unit.{Unit as LengthUnit}
 use Rattle.fixed_units.specs.declared.lengths.Unit.TheVariants.{Em, Px, Pt, Inch, Quarter, Percent}
@@ -102,3 +105,43 @@ resolved-half = refl
 pub resolved-minus_half : units (neg_ℤ (pos 50000000)) Percent ≡ neg_ℤ (pos 2500)
 unfolding resolved size_of rounded
 resolved-minus_half = refl
+
+-- ---- boxes
+
+-- the digit 1 of the sample font at 16 px, and a minus sign, whose ink lies above the baseline
+abbrev one : MathBox
+one = record {
+  width = pos 8192;
+  ascent = pos 14400;
+  descent = pos 4800;
+  ink_ascent = pos 10880;
+  ink_descent = pos 0;
+  italic = pos 0;
+  accent = pos 4096;
+}
+
+abbrev minus : MathBox
+minus = record one { width = pos 12800; ink_ascent = pos 4480; ink_descent = neg_ℤ (pos 3712); accent = pos 6400 }
+
+raised-one : raised one (pos 6400) ≡ record one { ascent = pos 20800; descent = neg_ℤ (pos 1600); ink_ascent = pos 17280; ink_descent = neg_ℤ (pos 6400) }
+unfolding raised
+raised-one = refl
+
+-- the width is the first one's
+joined-one_minus : joined minus one ≡ record minus { ink_ascent = pos 10880; ink_descent = pos 0 }
+unfolding joined
+joined-one_minus = refl
+
+-- a union of boxes that lie above the baseline does too
+all_joined-minus : all_joined (minus ∷ minus ∷ []) ≡ minus
+unfolding joined
+all_joined-minus = refl
+
+-- 1 + 4 + 9
+sum_to-three : sum_to 3 (λ i. pos ((i + 1) * (i + 1))) ≡ pos 14
+unfolding sum_to
+sum_to-three = refl
+
+list_to-three : list_to 3 (λ i. pos (i * i)) ≡ pos 0 ∷ pos 1 ∷ pos 4 ∷ []
+unfolding list_to
+list_to-three = refl

@@ -1,11 +1,16 @@
-//! The laws of numbers that layout rests on.
+//! The laws of numbers and boxes that layout rests on.
 //!
 //! A law is proved where it is a contract, so each function here has one and computes nothing.
-//! Proofs cite the lemmas themselves: `proofs/Signed` for `omega`, `proofs/Within` for bounds,
-//! `proofs/Products` and `proofs/Rounding`.
-ghost use Rattle.std.specs.Prelude.{◌≡◌, ◌↔◌, ℕ, ◌+◌, ◌*◌, ◌^◌, ◌<◌, max, ℤ, pos, ◌+ℤ◌, ◌-ℤ◌, ◌*ℤ◌, ◌≤ℤ◌, ◌<ℤ◌, FitsSigned};
+//! Proofs cite the lemmas themselves: `proofs/Signed` for `omega`, `proofs/Within` for bounds of
+//! numbers and `proofs/Unions` for those of boxes, `proofs/Products`, `proofs/Rounding`,
+//! `proofs/Sums`.
+ghost use Rattle.std.specs.Prelude.{◌≡◌, ◌↔◌, ℕ, ◌+◌, ◌*◌, ◌^◌, ◌<◌, max, ℤ, pos, ◌+ℤ◌, ◌-ℤ◌, ◌*ℤ◌, ◌≤ℤ◌, ◌<ℤ◌, FitsSigned, List, ◌∷◌, length, slice_get, Some, true};
 ghost use Rattle.std.specs.Int.{w64, w128, int_max, int_min, int_div_euclid};
+ghost use Rattle.std.specs.List.{All};
+ghost use Rattle.fixed_units.specs.Boxes.{is_box_stored, IsStored, IsBoxWithin, raised, joined, all_joined, IsUnion};
 ghost use Rattle.fixed_units.specs.Numbers.{IsRound, IsHalf, IsWithin, rounded, halved};
+ghost use Rattle.fixed_units.specs.Sums.{sum_to, list_to};
+ghost use Rattle.fixed_units.specs.declared.boxes.MathBox.{MathBox};
 
 /// `rounded a b` is nearest to `a / b`, and no other number is.
 pub fn rounded_is_the_nearest()
@@ -63,4 +68,37 @@ pub fn results_stay_within()
 pub fn what_is_within_fits()
     ensures fits_i64 { (m : ℕ) (a : ℤ) → IsWithin m a → m < 2 ^ 63 → FitsSigned w64 a }
     ensures fits_i128 { (m : ℕ) (a : ℤ) → IsWithin m a → m < 2 ^ 127 → FitsSigned w128 a }
+{}
+
+/// What stands behind the first `n` of something is a sum over places. A sum of `n` numbers within
+/// `m` lies within `n * m`, and the sum of two is the sum of their sums.
+pub fn sums_over_places()
+    ensures one_more { (n : ℕ) (f : ℕ → ℤ) → sum_to (n + 1) f ≡ sum_to n f +ℤ f n }
+    ensures within { (m n : ℕ) (f : ℕ → ℤ) →
+        ((i : ℕ) → i < n → IsWithin m (f i)) → IsWithin (n * m) (sum_to n f) }
+    ensures sum { (n : ℕ) (f g : ℕ → ℤ) →
+        sum_to n (λ i. f i +ℤ g i) ≡ sum_to n f +ℤ sum_to n g }
+{}
+
+/// A list over `n` places has `n` items, each that of its place.
+pub fn lists_over_places<T>()
+    ensures length { (n : ℕ) (f : ℕ → T) → length (list_to n f) ≡ n }
+    ensures item { (n i : ℕ) (f : ℕ → T) → i < n → slice_get (list_to n f) i ≡ Some (f i) }
+{}
+
+/// Joined boxes reach up and down as far as the farthest of them, and no farther.
+pub fn joined_boxes_are_a_union()
+    ensures { (frame : MathBox) (frames : List MathBox) →
+        IsUnion (frame ∷ frames) (all_joined (frame ∷ frames)) }
+{}
+
+/// How far boxes reach that are raised and joined, and that a box is stored where its test says so.
+pub fn boxes_stay_within()
+    ensures raised { (m n : ℕ) (part : MathBox) (height : ℤ) →
+        IsBoxWithin m part → IsWithin n height → IsBoxWithin (m + n) (raised part height) }
+    ensures joined { (m n : ℕ) (first second : MathBox) →
+        IsBoxWithin m first → IsBoxWithin n second → IsBoxWithin (max m n) (joined first second) }
+    ensures all_joined { (m : ℕ) (frames : List MathBox) →
+        All (IsBoxWithin m) frames → IsBoxWithin m (all_joined frames) }
+    ensures stored { (frame : MathBox) → (is_box_stored frame ≡ true) ↔ IsStored frame }
 {}
