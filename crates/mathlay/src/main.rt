@@ -1,35 +1,18 @@
 //! The program `mathlay`: it lays out the tree of one file with the metrics of another and writes
 //! what stands where, or prints both files in their canonical form.
 //!
-//! `run` does all that the program does, over any inputs and any sink. `main` hands it the words of
-//! the command line, the system's files and standard output, and ends with its status.
+//! `main` hands the words of the command line, the system's files and standard output to
+//! `commands::run`, which does all that the program does, and ends with its status.
 //!
-//! - Models: tokens and rows of MathML Core 3.2 and 3.3.1; words, lines and statuses are own.
-//! - Proved: `run` ends as `Ends` says (`specs/Ends.antt`): with the bytes and the status of
-//!   `output` (`specs/Answer.antt`), or cut short for a cause.
-//! - Knows nothing of: operators, styles, edits; how a metrics file or a tree is read.
-//! - Change what is answered: `specs/Answer.antt`, then the file of `src/` below, then `rt check`.
+//! - Proved: nothing beyond what `commands` and `doc_io` promise.
+//! - Change what is answered: `crates/commands`.
 #![tactic(auto)]
-
-mod command; // the words of the command line
-mod layout; // the boxes of tokens and rows
-mod lines; // the lines of output
-mod load; // the two files
-mod place; // what stands where
-mod placed; // the items that stand
-mod refusal; // why the answer is another
-mod refusal_line; // the line that tells of it
-mod run; // the top call
-mod status; // how a run ends
-#[cfg(test)]
-mod tests;
 
 ghost use Rattle.std.specs.Prelude.{◌≡◌, ◌<◌};
 
+use commands::{Status, run};
 use doc_io::{FileInputs, StdSink};
 use fixed_units::Steps;
-use run::run;
-use status::Status;
 use std::io::ErrorKind;
 use std::marker::Brand;
 use std::process::ExitCode;
@@ -56,7 +39,7 @@ fn run_counted<L: Ledger>(rt: &(impl Env + Files + Print + AllocGlobal), blank: 
     };
     run(
         rt.alloc(),
-        &words,
+        words.as_slice(),
         &mut FileInputs::make(rt),
         &mut StdSink::make(rt),
         &mut Steps::<L>::new(blank),

@@ -1,0 +1,179 @@
+-- How the answer and its delivery make the ending of a run.
+use Rattle.std.proofs.Common.{◌≡◌, ◌⊎◌, inl, inr, ℕ, List, take, refl, ap, sym, ◌∙◌, subst, Option, Some, None, IfSome}
+use Rattle.std.specs.Prelude.{Result, Ok, Err, IsErrOf, IsSomeAnd, IsNone}
+use Rattle.std.specs.Option.{option_map}
+use Rattle.std.specs.Io.KnownBytes.{Appends, Keeps}
+use Rattle.doc_io.specs.Causes.{Files, Rose}
+use Rattle.doc_io.proofs.Known.{appends_kept}
+use Rattle.commands.specs.Command.{asked_by}
+use Rattle.commands.specs.Refusals.{status_of}
+use Rattle.commands.specs.Answer.{answer, Output, output_of, output}
+use Rattle.commands.specs.Ends.{Seen, Told, LacksFile, HasReadCause, IsCut, IsCutShort, Answers, Delivers, Ends, KnowsWords}
+use Rattle.commands.specs.declared.status.Status.{Status}
+use Rattle.commands.specs.declared.status.Status.TheVariants as status
+use Rattle.commands.specs.declared.refusal.Refusal.{Refusal}
+use Rattle.commands.specs.declared.refusal.Refusal.TheVariants.{Usage, MetricsLong, Metrics, TreeLong, TreeJson, Tree, TreeLater, ReadFault, Memory}
+
+-- the status tells a failed read, want of memory, and words that are no command
+is_read_fault : (refusal : Refusal) → status_of refusal ≡ status.ReadFault → refusal ≡ ReadFault
+is_read_fault Usage e = cc
+is_read_fault MetricsLong e = cc
+is_read_fault (Metrics fault) e = cc
+is_read_fault TreeLong e = cc
+is_read_fault TreeJson e = cc
+is_read_fault (Tree fault) e = cc
+is_read_fault TreeLater e = cc
+is_read_fault ReadFault e = refl
+is_read_fault Memory e = cc
+
+is_memory : (refusal : Refusal) → status_of refusal ≡ status.Memory → refusal ≡ Memory
+is_memory Usage e = cc
+is_memory MetricsLong e = cc
+is_memory (Metrics fault) e = cc
+is_memory TreeLong e = cc
+is_memory TreeJson e = cc
+is_memory (Tree fault) e = cc
+is_memory TreeLater e = cc
+is_memory ReadFault e = cc
+is_memory Memory e = refl
+
+is_usage : (refusal : Refusal) → status_of refusal ≡ status.Usage → refusal ≡ Usage
+is_usage Usage e = refl
+is_usage MetricsLong e = cc
+is_usage (Metrics fault) e = cc
+is_usage TreeLong e = cc
+is_usage TreeJson e = cc
+is_usage (Tree fault) e = cc
+is_usage TreeLater e = cc
+is_usage ReadFault e = cc
+is_usage Memory e = cc
+
+-- no refusal's own status is that of a failed write
+pub not_write_fault : (refusal : Refusal) → status_of refusal ≡ status.WriteFault → ⊥
+not_write_fault Usage e = cc
+not_write_fault MetricsLong e = cc
+not_write_fault (Metrics fault) e = cc
+not_write_fault TreeLong e = cc
+not_write_fault TreeJson e = cc
+not_write_fault (Tree fault) e = cc
+not_write_fault TreeLater e = cc
+not_write_fault ReadFault e = cc
+not_write_fault Memory e = cc
+
+-- an answer as it is delivered
+abbrev DeliversAnswer : Result (List ℕ) Refusal → Told → Told → Status → Type 0
+DeliversAnswer result old new s = Delivers (output_of result).bytes (output_of result).status old new s
+
+-- a run that was cut short wrote nothing, and its status says why
+cut_ends : (result : Result (List ℕ) Refusal) (old new : Told) (s : Status) → IsCut result → DeliversAnswer result old new s
+    → ((s ≡ status.ReadFault) ⊎ (s ≡ status.Memory)) × Keeps old.written new.written
+cut_ends result old new s (inl fault) d =
+    let end = (subst (λ r. DeliversAnswer r old new s) fault d).silent refl in (inl end.0, end.1)
+cut_ends result old new s (inr memory) d =
+    let end = (subst (λ r. DeliversAnswer r old new s) memory d).silent refl in (inr end.0, end.1)
+
+told_fault : (result : Result (List ℕ) Refusal) (old new : Told) (s : Status) → DeliversAnswer result old new s
+    → s ≡ status.ReadFault → IsErrOf result ReadFault
+told_fault (Ok text) old new s d is = elim d.whole [ inl w ↦ absurd cc | inr e ↦ let f = e.0 in absurd cc ]
+told_fault (Err r) old new s d is = elim d.whole [ inl w ↦ absurd cc | inr e ↦ ap Err (is_read_fault r (sym e.0 ∙ is)) ]
+
+told_usage : (result : Result (List ℕ) Refusal) (old new : Told) (s : Status) → DeliversAnswer result old new s
+    → s ≡ status.Usage → IsErrOf result Usage
+told_usage (Ok text) old new s d is = elim d.whole [ inl w ↦ absurd cc | inr e ↦ let f = e.0 in absurd cc ]
+told_usage (Err r) old new s d is = elim d.whole [ inl w ↦ absurd cc | inr e ↦ ap Err (is_usage r (sym e.0 ∙ is)) ]
+
+told_memory : (result : Result (List ℕ) Refusal) (old new : Told) (s : Status) → DeliversAnswer result old new s
+    → s ≡ status.Memory → IsErrOf result Memory
+told_memory (Ok text) old new s d is = elim d.whole [ inl w ↦ absurd cc | inr e ↦ let f = e.0 in absurd cc ]
+told_memory (Err r) old new s d is = elim d.whole [ inl w ↦ absurd cc | inr e ↦ ap Err (is_memory r (sym e.0 ∙ is)) ]
+
+-- the bytes and the status are those of an output, or the run was cut short
+abbrev IsOutput : Output → Told → Told → Status → Type 0
+IsOutput o old new s = IsCutShort s ⊎ ((s ≡ o.status) × Appends old.written new.written o.bytes)
+
+abbrev HasFront : Output → Told → Told → Type 0
+HasFront o old new = (n : ℕ) × Appends old.written new.written (take n o.bytes)
+
+told_output : (result wanted : Result (List ℕ) Refusal) (old new : Told) (s : Status) → DeliversAnswer result old new s
+    → IsCut result ⊎ (result ≡ wanted) → IsOutput (output_of wanted) old new s × HasFront (output_of wanted) old new
+told_output result wanted old new s d (inl cut) =
+    let end = cut_ends result old new s cut d in
+    (inl (elim end.0 [ inl r ↦ inl r | inr m ↦ inr (inr m) ]), (0, appends_kept old.written new.written end.1))
+told_output result wanted old new s d (inr same) =
+    let whole = subst (λ r. DeliversAnswer r old new s) same d in
+    (elim whole.whole [ inl w ↦ inl (inr (inl w)) | inr e ↦ inr e ], whole.front)
+
+IfSome-first : {X : Type 0} (o : Option X) (P Q : X → Type 0) → IfSome o (λ x. P x × Q x) → IfSome o P
+IfSome-first None P Q h = tt
+IfSome-first (Some x) P Q h = h.0
+
+IfSome-second : {X : Type 0} (o : Option X) (P Q : X → Type 0) → IfSome o (λ x. P x × Q x) → IfSome o Q
+IfSome-second None P Q h = tt
+IfSome-second (Some x) P Q h = h.1
+
+-- told files of which none that is needed lacks, and no count risen: no read had a cause to fail
+no_cause : (lacks : Files → Type 0) (before after : Seen) (files : Files) → before.files ≡ Some files
+    → ¬ lacks files → ¬ Rose before.faults after.faults → HasReadCause lacks before after → ⊥
+no_cause lacks before after files is none still (inl rose) = still rose
+no_cause lacks before after files is none still (inr (inl lack)) = none (subst (λ o. IsSomeAnd o lacks) is lack)
+no_cause lacks before after files is none still (inr (inr untold)) = let e = subst IsNone is untold.0 in cc
+
+-- the whole ending
+module _ (words : List (List ℕ)) (before after : Seen) (old new : Told) (s : Status) (result : Result (List ℕ) Refusal)
+    (a : Answers (option_map (answer words) before.files) (LacksFile words) before after result)
+    (k : KnowsWords words result)
+    (d : DeliversAnswer result old new s) where
+  whole : (files : Option Files) → IfSome (option_map (answer words) files) (λ wanted. IsCut result ⊎ (result ≡ wanted))
+      → IfSome files (λ f. IsOutput (output words f) old new s × HasFront (output words f) old new)
+  whole None h = tt
+  whole (Some f) h = told_output result (answer words f) old new s d h
+
+  complete : (files : Option Files) → before.files ≡ files
+      → IfSome (option_map (answer words) files) (λ wanted. IsCut result ⊎ (result ≡ wanted))
+      → IfSome files (λ f. ¬ LacksFile words f → ¬ Rose before.faults after.faults → ¬ Rose old.faults new.faults
+      → (s ≡ (output words f).status) ⊎ (s ≡ status.Memory))
+  complete None is h = tt
+  complete (Some f) is h = λ there reads writes. elim d.whole [
+    | inl w ↦ absurd (writes (d.fault w))
+    | inr e ↦ elim h [
+      | inl cut ↦ elim cut [
+        | inl fault ↦ absurd (no_cause (LacksFile words) before after f is there reads (a.fault fault))
+        | inr memory ↦ inr (e.0 ∙ ap (λ r. (output_of r).status) memory)
+      ]
+      | inr same ↦ inl (e.0 ∙ ap (λ r. (output_of r).status) same)
+    ]
+  ]
+
+  no_command : asked_by words ≡ None → (s ≡ status.Usage) ⊎ (s ≡ status.WriteFault)
+  no_command none = elim d.whole [ inl w ↦ inr w | inr e ↦ inl (e.0 ∙ ap (λ r. (output_of r).status) (k.unknown none)) ]
+
+  cut : (s ≡ status.ReadFault) ⊎ (s ≡ status.Memory) → Keeps old.written new.written
+  cut (inl fault) = (cut_ends result old new s (inl (told_fault result old new s d fault)) d).1
+  cut (inr memory) = (cut_ends result old new s (inr (told_memory result old new s d memory)) d).1
+
+  pub ends : Ends words before after old new s
+  ends = record {
+    outcome = IfSome-first _ _ _ (whole before.files a.answer);
+    front = IfSome-second _ _ _ (whole before.files a.answer);
+    read_fault = λ is. a.fault (told_fault result old new s d is);
+    write_fault = d.fault;
+    lacking = λ lack. cut_ends result old new s (a.lacking lack) d;
+    cut = cut;
+    complete = complete before.files refl a.answer;
+    usage = λ is. k.known (told_usage result old new s d is);
+    no_command = no_command;
+    files = a.files;
+    faults = a.faults;
+    missing = a.missing;
+  }
+
+-- the same, where the words, the text and the status were handed on
+pub run_ends : (words shown : List (List ℕ)) (before after : Seen) (old new : Told) (s : Status) (result : Result (List ℕ) Refusal)
+    (text : List ℕ) (wanted : Status)
+    → shown ≡ words → text ≡ (output_of result).bytes → wanted ≡ (output_of result).status
+    → Answers (option_map (answer shown) before.files) (LacksFile shown) before after result → KnowsWords shown result
+    → Delivers text wanted old new s → Ends words before after old new s
+run_ends words shown before after old new s result text wanted is text_is status_is a k d =
+    subst (λ ws. Ends ws before after old new s) is
+    (ends shown before after old new s result a k
+    (subst (λ b. Delivers b (output_of result).status old new s) text_is (subst (λ w. Delivers text w old new s) status_is d)))

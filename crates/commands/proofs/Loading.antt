@@ -1,0 +1,186 @@
+-- What a file's bytes, or the lack of them, make of an answer.
+use Rattle.std.proofs.Common.{◌≡◌, ◌⊎◌, inl, inr, ℕ, ◌<◌, ◌≤◌, List, [], length, refl, ap, sym, ◌∙◌, subst, Option, Some, None, IfSome, Bool, true, false, nat_lt, unwrap_or}
+use Rattle.std.specs.Prelude.{Result, Ok, Err, IsErrOf, IsSomeAnd, IsNone}
+use Rattle.std.specs.Option.{option_map}
+use Rattle.std.proofs.lemmas.Bool.{le-ltb, lt-ltb}
+use Rattle.doc_io.specs.Causes.{Files, Rose}
+use Rattle.doc_io.specs.Whole.{ReadsAll}
+use Rattle.doc_io.specs.declared.whole.ReadRefusal.{ReadRefusal}
+use Rattle.doc_io.specs.declared.whole.ReadRefusal.TheVariants as reading
+use Rattle.font_metrics.specs.Metrics.{MetricsValue}
+use Rattle.font_metrics.specs.Reading.{Fault, metrics_of}
+use Rattle.math_tree.specs.Trees.{TreeValue}
+use Rattle.math_tree.specs.Reading.{tree_of}
+use Rattle.math_tree.specs.declared.fault.TreeFault.{TreeFault}
+use Rattle.serde_json.specs.Data.{Data}
+use Rattle.serde_json.specs.Read.{read}
+use Rattle.std.specs.Str.{IsUtf8, is_utf8}
+use Rattle.std.proofs.lemmas.Str.{IsUtf8-from_is_utf8, is_utf8-from_IsUtf8}
+use Rattle.commands.specs.Refusals.{of_reading}
+use Rattle.commands.specs.Answer.{content, of_metrics_file, metrics_in, json_in, of_tree_file, tree_of_json, tree_in}
+use Rattle.commands.specs.Ends.{Seen, IsCut, GivesOr, Answers}
+use Rattle.commands.specs.declared.refusal.Refusal.{Refusal}
+use Rattle.commands.specs.declared.refusal.Refusal.TheVariants.{MetricsLong, TreeLong, TreeJson, ReadFault, Memory}
+
+-- ---- a file's bytes
+
+-- an answer has one refusal
+err_same : {V : Type 0} (a b : Refusal) → IsErrOf {T = V} (Err a) b → a ≡ b
+err_same a b h = cc
+
+-- a missing file isn't there
+gone : (files : Option Files) (name bytes : List ℕ) → IfSome files (λ f. f name ≡ Some bytes) → IsSomeAnd files (λ f. f name ≡ None) → ⊥
+gone None name bytes there away = away
+gone (Some f) name bytes there away = let e = sym there ∙ away in absurd cc
+
+module _ {V : Type 0} (in_bytes : List ℕ → Result V Refusal) (limit : ℕ) (name : List ℕ) (before after : Seen)
+    (same : after.files ≡ before.files) where
+  -- the file was read: its bytes decide
+  pub read_whole : (bytes : List ℕ) (result : Result V Refusal)
+      → ReadsAll before.files before.faults after.faults before.missing after.missing name limit (Ok bytes)
+      → GivesOr (in_bytes bytes) result → ¬ (in_bytes bytes ≡ Err ReadFault)
+      → Answers (option_map (λ f. in_bytes (content f name)) before.files) (λ f. f name ≡ None) before after result
+  read_whole bytes result reads gives own = record {
+    answer = by before.files reads.whole;
+    fault = λ is. elim gives [ inl m ↦ absurd (let e = sym is ∙ m in cc) | inr g ↦ absurd (own (sym g ∙ is)) ];
+    lacking = λ away. absurd (gone before.files name bytes reads.whole away);
+    files = same;
+    faults = reads.later;
+    missing = reads.later_missing;
+  }
+    where
+      by : (files : Option Files) → IfSome files (λ f. f name ≡ Some bytes)
+          → IfSome (option_map (λ f. in_bytes (content f name)) files) (λ w. IsCut result ⊎ (result ≡ w))
+      by None there = tt
+      by (Some f) there = elim gives [
+        | inl m ↦ inl (inr m)
+        | inr g ↦ inr (g ∙ ap in_bytes (sym (ap (λ o. unwrap_or o []) there)))
+      ]
+
+  unread : (refused : ReadRefusal) (long : Refusal)
+      → ReadsAll before.files before.faults after.faults before.missing after.missing name limit (Err refused)
+      → ((bytes : List ℕ) → limit < length bytes → in_bytes bytes ≡ Err long) → ¬ (long ≡ ReadFault)
+      → Answers {V = V} (option_map (λ f. in_bytes (content f name)) before.files) (λ f. f name ≡ None) before after (Err (of_reading refused long))
+  unread reading.ReadFault long reads too_long own = record {
+    answer = by before.files;
+    fault = λ is. cause before.files (reads.fault refl);
+    lacking = λ away. inl refl;
+    files = same;
+    faults = reads.later;
+    missing = reads.later_missing;
+  }
+    where
+      by : (files : Option Files) → IfSome (option_map (λ f. in_bytes (content f name)) files) (λ w. IsCut {V = V} (Err ReadFault) ⊎ (Err ReadFault ≡ w))
+      by None = tt
+      by (Some f) = inl (inl refl)
+
+      cause : (files : Option Files) → Rose before.faults after.faults ⊎ (Rose before.missing after.missing × IfSome files (λ f. f name ≡ None))
+          → Rose before.faults after.faults ⊎ (IsSomeAnd files (λ f. f name ≡ None) ⊎ (IsNone files × Rose before.missing after.missing))
+      cause files (inl rose) = inl rose
+      cause None (inr rose) = inr (inr (refl, rose.0))
+      cause (Some f) (inr rose) = inr (inl rose.1)
+  unread reading.TooLong long reads too_long own = record {
+    answer = by before.files (reads.long refl);
+    fault = λ is. absurd (own (err_same long ReadFault is));
+    lacking = λ away. absurd (there before.files (reads.long refl) away);
+    files = same;
+    faults = reads.later;
+    missing = reads.later_missing;
+  }
+    where
+      by : (files : Option Files) → IfSome files (λ f. (bytes : List ℕ) × (f name ≡ Some bytes) × (limit < length bytes))
+          → IfSome (option_map (λ f. in_bytes (content f name)) files) (λ w. IsCut {V = V} (Err long) ⊎ (Err long ≡ w))
+      by None h = tt
+      by (Some f) h = inr (sym (ap in_bytes (ap (λ o. unwrap_or o []) h.1) ∙ too_long h.0 h.2))
+
+      there : (files : Option Files) → IfSome files (λ f. (bytes : List ℕ) × (f name ≡ Some bytes) × (limit < length bytes))
+          → IsSomeAnd files (λ f. f name ≡ None) → ⊥
+      there None h away = away
+      there (Some f) h away = let e = sym h.1 ∙ away in absurd cc
+  unread reading.Memory long reads too_long own = record {
+    answer = by before.files;
+    fault = λ is. absurd cc;
+    lacking = λ away. inr refl;
+    files = same;
+    faults = reads.later;
+    missing = reads.later_missing;
+  }
+    where
+      by : (files : Option Files) → IfSome (option_map (λ f. in_bytes (content f name)) files) (λ w. IsCut {V = V} (Err Memory) ⊎ (Err Memory ≡ w))
+      by None = tt
+      by (Some f) = inl (inr refl)
+
+  -- it wasn't: the inputs failed, the file is too long, or memory was refused
+  pub not_read : (refused : ReadRefusal) (long why : Refusal) → why ≡ of_reading refused long
+      → ReadsAll before.files before.faults after.faults before.missing after.missing name limit (Err refused)
+      → ((bytes : List ℕ) → limit < length bytes → in_bytes bytes ≡ Err long) → ¬ (long ≡ ReadFault)
+      → Answers {V = V} (option_map (λ f. in_bytes (content f name)) before.files) (λ f. f name ≡ None) before after (Err why)
+  not_read refused long why is reads too_long own =
+      subst (λ r. Answers {V = V} (option_map (λ f. in_bytes (content f name)) before.files) (λ f. f name ≡ None) before after (Err r)) (sym is)
+      (unread refused long reads too_long own)
+
+-- ---- metrics
+
+metrics_no_fault : (said : Result MetricsValue Fault) → of_metrics_file said ≡ Err ReadFault → ⊥
+metrics_no_fault (Ok metrics) h = cc
+metrics_no_fault (Err fault) h = let e = err_same _ ReadFault h in cc
+
+metrics_short : (bytes : List ℕ) → length bytes ≤ 8388608 → metrics_in bytes ≡ of_metrics_file (metrics_of bytes)
+unfolding metrics_in
+metrics_short bytes short = let no : nat_lt 8388608 (length bytes) ≡ false = le-ltb 8388608 (length bytes) short in rw no refl
+
+pub metrics_long : (bytes : List ℕ) → 8388608 < length bytes → metrics_in bytes ≡ Err MetricsLong
+unfolding metrics_in
+metrics_long bytes long = let yes : nat_lt 8388608 (length bytes) ≡ true = lt-ltb 8388608 (length bytes) long in rw yes refl
+
+-- the bytes that were read, as they were handed on
+pub metrics_read : (name bytes shown : List ℕ) (before after : Seen) (result : Result MetricsValue Refusal) → after.files ≡ before.files
+    → ReadsAll before.files before.faults after.faults before.missing after.missing name 8388608 (Ok bytes)
+    → shown ≡ bytes → GivesOr (of_metrics_file (metrics_of shown)) result
+    → Answers (option_map (λ f. metrics_in (content f name)) before.files) (λ f. f name ≡ None) before after result
+metrics_read name bytes shown before after result same reads is gives =
+    let whole : metrics_in bytes ≡ of_metrics_file (metrics_of shown) =
+    metrics_short bytes reads.short ∙ ap (λ b. of_metrics_file (metrics_of b)) (sym is) in
+    read_whole metrics_in 8388608 name before after same bytes result reads
+    (subst (λ w. GivesOr w result) (sym whole) gives)
+    (λ fault. metrics_no_fault (metrics_of shown) (sym whole ∙ fault))
+
+-- ---- trees
+
+pub tree_short : (bytes : List ℕ) → length bytes ≤ 4194304 → tree_in bytes ≡ tree_of_json (json_in bytes)
+unfolding tree_in
+tree_short bytes short = let no : nat_lt 4194304 (length bytes) ≡ false = le-ltb 4194304 (length bytes) short in rw no refl
+
+pub tree_long : (bytes : List ℕ) → 4194304 < length bytes → tree_in bytes ≡ Err TreeLong
+unfolding tree_in
+tree_long bytes long = let yes : nat_lt 4194304 (length bytes) ≡ true = lt-ltb 4194304 (length bytes) long in rw yes refl
+
+tree_no_fault : (said : Result TreeValue TreeFault) → of_tree_file said ≡ Err ReadFault → ⊥
+tree_no_fault (Ok tree) h = cc
+tree_no_fault (Err fault) h = let e = err_same _ ReadFault h in cc
+
+json_no_fault : (json : Option Data) → tree_of_json json ≡ Err ReadFault → ⊥
+json_no_fault None h = let e = err_same TreeJson ReadFault h in cc
+json_no_fault (Some value) h = tree_no_fault (tree_of value) h
+
+pub tree_read : (name bytes shown : List ℕ) (before after : Seen) (result : Result TreeValue Refusal) → after.files ≡ before.files
+    → ReadsAll before.files before.faults after.faults before.missing after.missing name 4194304 (Ok bytes)
+    → shown ≡ bytes → GivesOr (tree_of_json (json_in shown)) result
+    → Answers (option_map (λ f. tree_in (content f name)) before.files) (λ f. f name ≡ None) before after result
+tree_read name bytes shown before after result same reads is gives =
+    let whole : tree_in bytes ≡ tree_of_json (json_in shown) =
+    tree_short bytes reads.short ∙ ap (λ b. tree_of_json (json_in b)) (sym is) in
+    read_whole tree_in 4194304 name before after same bytes result reads
+    (subst (λ w. GivesOr w result) (sym whole) gives)
+    (λ fault. json_no_fault (json_in shown) (sym whole ∙ fault))
+
+-- a text that `serde_json` reads, and bytes that have no reading
+pub json_of_text : (bytes : List ℕ) (value : Data) → IsUtf8 bytes → read bytes ≡ Some value → json_in bytes ≡ Some value
+json_of_text bytes value text is = let yes : is_utf8 bytes ≡ true = is_utf8-from_IsUtf8 bytes text in rw yes is
+
+pub no_json : (bytes : List ℕ) → (IsUtf8 bytes → read bytes ≡ None) → json_in bytes ≡ None
+no_json bytes none = by (is_utf8 bytes) refl
+  where
+    by : (text : Bool) → is_utf8 bytes ≡ text → json_in bytes ≡ None
+    by true text = rw text (none (IsUtf8-from_is_utf8 bytes text))
+    by false text = rw text refl

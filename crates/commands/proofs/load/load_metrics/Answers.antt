@@ -1,0 +1,14 @@
+use Rattle.std.proofs.Common.{◌≡◌}
+use Rattle.commands.specs.Answer.{metrics_in}
+use Rattle.commands.specs.declared.refusal.Refusal.TheVariants.{MetricsLong, ReadFault}
+use Rattle.commands.proofs.Loading.{metrics_read, metrics_long, not_read}
+use Rattle.commands.proofs.load.load_metrics.Goals as goal
+
+pub returns-in-Ok-clause-answers : goal.returns-in-Ok-clause-answers
+returns-in-Ok-clause-answers g c =
+    metrics_read _ _ _ _ _ _ c.in-Ok.ensures.files c.in-Ok.ensures.reads c.as_slice.ensures c.metrics_of.ensures.gives
+
+pub returns-in-Err-clause-answers : goal.returns-in-Err-clause-answers
+returns-in-Err-clause-answers g c =
+    let own : ¬ (MetricsLong ≡ ReadFault) = λ e. cc in
+    not_read metrics_in 8388608 _ _ _ c.in-Err.ensures.files _ MetricsLong _ c.of_reading.ensures c.in-Err.ensures.reads metrics_long own

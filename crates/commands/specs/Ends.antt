@@ -1,0 +1,121 @@
+-- How a run ends, and why.
+use Rattle.std.specs.Prelude.{◌≡◌, ◌⊎◌, ℕ, ◌≤◌, List, [], take, Option, Some, None, IsNone, IfSome, IsSomeAnd, Result, IsOk, IsErrOf}
+use Rattle.std.specs.Io.KnownBytes.{Appends, Keeps}
+use Rattle.doc_io.specs.Causes.{Files, Rose}
+use Rattle.commands.specs.Command.{Asked, asked_by}
+use Rattle.commands.specs.Answer.{content, metrics_in, output}
+use Rattle.commands.specs.declared.status.Status.{Status}
+use Rattle.commands.specs.declared.status.Status.TheVariants.{Usage, ReadFault, WriteFault, Memory}
+use Rattle.commands.specs.declared.refusal.Refusal.{Refusal}
+use Rattle.commands.specs.declared.refusal.Refusal.TheVariants as refusal
+
+-- what inputs tell at a moment
+pub record Seen : Type 0 where
+  pub files : Option Files
+  pub faults : ℕ
+  pub missing : ℕ
+
+abbrev pub seen : {X : Type 0} → (X → Option Files) → (X → ℕ) → (X → ℕ) → X → Seen
+seen files faults missing inputs =
+    record { files = files inputs; faults = faults inputs; missing = missing inputs }
+
+-- what a sink tells at a moment
+pub record Told : Type 0 where
+  pub written : Option (List ℕ)
+  pub faults : ℕ
+
+abbrev pub told : {X : Type 0} → (X → Option (List ℕ)) → (X → ℕ) → X → Told
+told written faults out = record { written = written out; faults = faults out }
+
+-- ---- which files are reached
+
+-- the metrics file always, and the tree file where the metrics file gives metrics
+abbrev pub IsReachedOf : Option Asked → Files → List ℕ → Type 0
+IsReachedOf None files name = ⊥
+IsReachedOf (Some asked) files name =
+    (name ≡ asked.metrics)
+    ⊎ ((name ≡ asked.tree) × IsOk (metrics_in (content files asked.metrics)))
+
+-- a reached file isn't there
+abbrev pub LacksFileOf : Option Asked → Files → Type 0
+LacksFileOf asked files = (name : List ℕ) × IsReachedOf asked files name × (files name ≡ None)
+
+abbrev pub LacksFile : List (List ℕ) → Files → Type 0
+LacksFile words files = LacksFileOf (asked_by words) files
+
+-- ---- causes
+
+-- a count of faults rose; or a file that is needed isn't there; or the inputs don't tell their
+-- files and the count of missing ones rose
+abbrev pub HasReadCause : (Files → Type 0) → Seen → Seen → Type 0
+HasReadCause lacks before after =
+    Rose before.faults after.faults
+    ⊎ (IsSomeAnd before.files lacks ⊎ (IsNone before.files × Rose before.missing after.missing))
+
+-- ---- the answer of a part
+
+-- a read failed, or memory was refused
+abbrev pub IsCut : {V : Type 0} → Result V Refusal → Type 0
+IsCut result = IsErrOf result refusal.ReadFault ⊎ IsErrOf result refusal.Memory
+
+-- the wanted answer, or want of memory
+abbrev pub GivesOr : {V : Type 0} → Result V Refusal → Result V Refusal → Type 0
+GivesOr wanted result = IsErrOf result refusal.Memory ⊎ (result ≡ wanted)
+
+-- the wanted answer, or the reason why it was cut short
+pub record Answers {V : Type 0} (wanted : Option (Result V Refusal)) (lacks : Files → Type 0)
+    (before after : Seen) (result : Result V Refusal) : Type 0 where
+  pub answer : IfSome wanted (λ answer. IsCut result ⊎ (result ≡ answer))
+  pub fault : IsErrOf result refusal.ReadFault → HasReadCause lacks before after
+  pub lacking : IsSomeAnd before.files lacks → IsCut result
+  pub files : after.files ≡ before.files
+  pub faults : before.faults ≤ after.faults
+  pub missing : before.missing ≤ after.missing
+
+-- the words are told to be no command exactly where they are none
+pub record KnowsWords {V : Type 0} (words : List (List ℕ))
+    (result : Result V Refusal) : Type 0 where
+  pub known : IsErrOf result refusal.Usage → asked_by words ≡ None
+  pub unknown : asked_by words ≡ None → IsErrOf result refusal.Usage
+
+-- the text was written and the status is the wanted one, or a write failed
+pub record Delivers (text : List ℕ) (wanted : Status) (old new : Told)
+    (status : Status) : Type 0 where
+  pub whole : (status ≡ WriteFault) ⊎ ((status ≡ wanted) × Appends old.written new.written text)
+  pub front : (n : ℕ) × Appends old.written new.written (take n text)
+  pub fault : status ≡ WriteFault → Rose old.faults new.faults
+  pub silent : text ≡ [] → (status ≡ wanted) × Keeps old.written new.written
+
+-- ---- the ending of a run
+
+abbrev pub IsCutShort : Status → Type 0
+IsCutShort status = (status ≡ ReadFault) ⊎ ((status ≡ WriteFault) ⊎ (status ≡ Memory))
+
+pub record Ends (words : List (List ℕ)) (before after : Seen) (old new : Told)
+    (status : Status) : Type 0 where
+  -- the output's status with its bytes written, or one of the three endings that cut a run short
+  pub outcome : IfSome before.files (λ files.
+      IsCutShort status
+      ⊎ ((status ≡ (output words files).status)
+      × Appends old.written new.written (output words files).bytes))
+  -- what was written is a front of the output, at every ending
+  pub front : IfSome before.files (λ files.
+      (n : ℕ) × Appends old.written new.written (take n (output words files).bytes))
+  pub read_fault : status ≡ ReadFault → HasReadCause (LacksFile words) before after
+  pub write_fault : status ≡ WriteFault → Rose old.faults new.faults
+  -- where a reached file isn't there nothing is written
+  pub lacking : IsSomeAnd before.files (LacksFile words) →
+      ((status ≡ ReadFault) ⊎ (status ≡ Memory)) × Keeps old.written new.written
+  -- a failed read and want of memory write nothing
+  pub cut : (status ≡ ReadFault) ⊎ (status ≡ Memory) → Keeps old.written new.written
+  -- where every reached file is there and no count rose, only want of memory stands between
+  pub complete : IfSome before.files (λ files.
+      ¬ LacksFile words files → ¬ Rose before.faults after.faults → ¬ Rose old.faults new.faults →
+      (status ≡ (output words files).status) ⊎ (status ≡ Memory))
+  -- words that are no command are told so, and no others are, whatever the inputs tell
+  pub usage : status ≡ Usage → asked_by words ≡ None
+  pub no_command : asked_by words ≡ None → (status ≡ Usage) ⊎ (status ≡ WriteFault)
+  -- no file is changed, and no count of the inputs falls
+  pub files : after.files ≡ before.files
+  pub faults : before.faults ≤ after.faults
+  pub missing : before.missing ≤ after.missing

@@ -1,0 +1,56 @@
+-- What a refusal tells the user, and which refusal stands for those of the crates below.
+use Rattle.std.specs.Prelude.{ℕ, List, [], ◌∷◌, codes}
+use Rattle.std.specs.Fmt.{decimal}
+use Rattle.doc_io.specs.declared.whole.ReadRefusal.{ReadRefusal}
+use Rattle.doc_io.specs.declared.whole.ReadRefusal.TheVariants as reading
+use Rattle.font_metrics.specs.declared.refusal.MetricsRefusal.{MetricsRefusal}
+use Rattle.font_metrics.specs.declared.refusal.MetricsRefusal.TheVariants as metrics
+use Rattle.math_tree.specs.declared.refusal.TreeRefusal.{TreeRefusal}
+use Rattle.math_tree.specs.declared.refusal.TreeRefusal.TheVariants as tree
+use Rattle.commands.specs.declared.status.Status.{Status}
+use Rattle.commands.specs.declared.status.Status.TheVariants as status
+use Rattle.commands.specs.declared.refusal.Refusal.{Refusal}
+use Rattle.commands.specs.declared.refusal.Refusal.TheVariants.{Usage, MetricsLong, Metrics, TreeLong, TreeJson, Tree, TreeLater, ReadFault, Memory}
+use Rattle.commands.specs.Lines.{line}
+
+-- the line of a fault: where it is, and the number of its kind
+abbrev pub fault_line : List ℕ → ℕ → ℕ → List ℕ
+fault_line file place kind = line file (decimal place ∷ decimal kind ∷ [])
+
+-- the one line that is written
+abbrev pub line_of : Refusal → List ℕ
+line_of Usage = codes "usage: mathlay layout METRICS TREE | check METRICS TREE\n"
+line_of MetricsLong = codes "metrics long\n"
+line_of (Metrics fault) = fault_line (codes "metrics") fault.line fault.kind
+line_of TreeLong = codes "tree long\n"
+line_of TreeJson = codes "tree json\n"
+line_of (Tree fault) = fault_line (codes "tree") fault.element fault.kind
+line_of TreeLater = codes "tree later\n"
+line_of ReadFault = []
+line_of Memory = []
+
+-- the status with which the run ends
+abbrev pub status_of : Refusal → Status
+status_of Usage = status.Usage
+status_of MetricsLong = status.Metrics
+status_of (Metrics fault) = status.Metrics
+status_of TreeLong = status.Tree
+status_of TreeJson = status.Tree
+status_of (Tree fault) = status.Tree
+status_of TreeLater = status.Tree
+status_of ReadFault = status.ReadFault
+status_of Memory = status.Memory
+
+-- a file that wasn't read whole, where `long` stands for one that is too long
+abbrev pub of_reading : ReadRefusal → Refusal → Refusal
+of_reading reading.ReadFault long = ReadFault
+of_reading reading.TooLong long = long
+of_reading reading.Memory long = Memory
+
+abbrev pub of_metrics : MetricsRefusal → Refusal
+of_metrics (metrics.Fault fault) = Metrics fault
+of_metrics metrics.Memory = Memory
+
+abbrev pub of_tree : TreeRefusal → Refusal
+of_tree (tree.Fault fault) = Tree fault
+of_tree tree.Memory = Memory

@@ -1,0 +1,14 @@
+-- The numbers of the endings.
+use Rattle.std.specs.Prelude.{ℕ}
+use Rattle.commands.specs.declared.status.Status.{Status}
+use Rattle.commands.specs.declared.status.Status.TheVariants.{Done, Usage, Metrics, Tree, ReadFault, WriteFault, Memory}
+
+-- the exit status of the program
+abbrev pub number_of : Status → ℕ
+number_of Done = 0
+number_of Usage = 2
+number_of Metrics = 3
+number_of Tree = 4
+number_of ReadFault = 5
+number_of WriteFault = 6
+number_of Memory = 7

@@ -1,0 +1,26 @@
+//! The commands of the program: what it answers to its words, over any inputs and any sink.
+//!
+//! `run` is the one call. It takes the words after the program's name, reads the files that they
+//! name, writes the answer, and says how the run ended. `layout` writes the lines of a tree's boxes,
+//! `check` prints both files in their canonical form.
+//!
+//! - Models: tokens and rows of MathML Core 3.2 and 3.3.1; words, lines and statuses are own.
+//! - Proved: `run` ends as `Ends` says (`specs/Ends.antt`): with the bytes and the status of
+//!   `output` (`specs/Answer.antt`), or cut short for a cause.
+//! - Knows nothing of: the system, operators, styles, edits; how a metrics file or a tree is read.
+//! - Change what is answered: `specs/Answer.antt`, then the file of `src/` below, then `rt check`.
+#![tactic(auto)]
+
+mod command; // the words of the command line
+mod layout; // the boxes of tokens and rows
+mod lines; // the lines of output
+mod load; // the two files
+mod place; // what stands where
+mod placed; // the items that stand
+mod program; // the top call
+mod refusal; // why the answer is another
+mod refusal_line; // the line that tells of it
+mod status; // how a run ends
+
+pub use program::run;
+pub use status::Status;

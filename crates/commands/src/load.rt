@@ -1,0 +1,88 @@
+ghost use Rattle.std.specs.Prelude.{◌≡◌, ◌≤◌, None, IsErrOf, length};
+ghost use Rattle.std.specs.Option.{option_map};
+ghost use Rattle.commands.specs.Answer.{content, metrics_in, tree_in, tree_of_json, json_in, of_metrics_file, of_tree_file};
+ghost use Rattle.commands.specs.Ends.{Answers, GivesOr, seen};
+ghost use Rattle.font_metrics.specs.Reading.{metrics_of};
+ghost use Rattle.math_tree.specs.Reading.{tree_of};
+ghost use Rattle.serde_json.specs.View.{view};
+
+use crate::refusal::Refusal;
+use doc_io::{Inputs, read_all};
+use font_metrics::{Metrics, read_metrics};
+use math_tree::{Tree, read_tree};
+use serde_json::Value;
+use std::alloc::Global;
+
+/// The most bytes that a metrics file may have.
+const METRICS_LIMIT: usize = 8_388_608;
+
+/// The most bytes that a tree file may have.
+const TREE_LIMIT: usize = 4_194_304;
+
+/// Reads the metrics of a file.
+pub fn load_metrics<I: Inputs>(
+    alloc: Global,
+    name: &str,
+    inputs: &mut I,
+) -> Result<Metrics, Refusal>
+    ensures answers { Answers
+        (option_map (λ files. metrics_in (content files name.now)) (I.files inputs.old))
+        (λ files. files name.now ≡ None)
+        (seen I.files I.faults I.missing inputs.old)
+        (seen I.files I.faults I.missing inputs.new) result }
+    ensures known { ¬ IsErrOf result Refusal.Usage }
+{
+    match read_all(alloc, inputs, name, METRICS_LIMIT) {
+        Ok(bytes) => metrics_of(alloc, bytes.as_slice()),
+        Err(refusal) => Err(Refusal::of_reading(refusal, Refusal::MetricsLong)),
+    }
+}
+
+/// The metrics of a file's bytes.
+fn metrics_of(alloc: Global, bytes: &[u8]) -> Result<Metrics, Refusal>
+    requires { length bytes.now ≤ 8388608 }
+    ensures gives { GivesOr (of_metrics_file (metrics_of bytes.now)) result }
+    ensures known { ¬ IsErrOf result Refusal.Usage }
+{
+    Ok(read_metrics(alloc, bytes)?)
+}
+
+/// Reads the tree of a file.
+pub fn load_tree<I: Inputs>(alloc: Global, name: &str, inputs: &mut I) -> Result<Tree, Refusal>
+    ensures answers { Answers
+        (option_map (λ files. tree_in (content files name.now)) (I.files inputs.old))
+        (λ files. files name.now ≡ None)
+        (seen I.files I.faults I.missing inputs.old)
+        (seen I.files I.faults I.missing inputs.new) result }
+    ensures known { ¬ IsErrOf result Refusal.Usage }
+{
+    match read_all(alloc, inputs, name, TREE_LIMIT) {
+        Ok(bytes) => tree_of(alloc, bytes.as_slice()),
+        Err(refusal) => Err(Refusal::of_reading(refusal, Refusal::TreeLong)),
+    }
+}
+
+/// The tree of a file's bytes.
+fn tree_of(alloc: Global, bytes: &[u8]) -> Result<Tree, Refusal>
+    ensures gives { GivesOr (tree_of_json (json_in bytes.now)) result }
+    ensures known { ¬ IsErrOf result Refusal.Usage }
+{
+    match Value::from_slice(alloc, bytes) {
+        Ok(value) => tree_of_value(alloc, &value),
+        Err(error) => {
+            if error.is_memory() {
+                Err(Refusal::Memory)
+            } else {
+                Err(Refusal::TreeJson)
+            }
+        }
+    }
+}
+
+/// The tree of a JSON value.
+fn tree_of_value(alloc: Global, value: &Value) -> Result<Tree, Refusal>
+    ensures gives { GivesOr (of_tree_file (tree_of (view value.now))) result }
+    ensures known { ¬ IsErrOf result Refusal.Usage }
+{
+    Ok(read_tree(alloc, value)?)
+}

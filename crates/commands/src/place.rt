@@ -1,0 +1,82 @@
+ghost use Rattle.std.specs.Prelude.{◌≡◌, [], ◌∷◌, ◌++◌, All, IfOk, OnOk};
+ghost use Rattle.commands.specs.Placed.{place, row_items, frame_at_origin, token_items, IsOfFont};
+
+use crate::layout::{FONT_SIZE, row, token};
+use crate::placed::{PlacedBox, PlacedGlyph, PlacedItem};
+use fixed_units::{List, MathBox, Memory};
+use font_metrics::Metrics;
+use math_tree::{Head, Node};
+use std::alloc::Global;
+
+/// Lays a short tree out and says what stands where, in document order.
+pub fn place(alloc: Global, root: &Node, metrics: &Metrics) -> Result<List<PlacedItem>, Memory>
+    ensures items { IfOk result (λ items. items ≡ place metrics.now root.now) }
+    ensures glyphs { IfOk result (All (IsOfFont metrics.now)) }
+{
+    match root.children.as_slice().first() {
+        None => place_row(alloc, &root.head, row(None)),
+        Some(child) => place_row_of(alloc, &root.head, child, metrics),
+    }
+}
+
+/// A row's box alone.
+fn place_row(alloc: Global, head: &Head, frame: MathBox) -> Result<List<PlacedItem>, Memory>
+    ensures { IfOk result (λ items. items ≡ frame_at_origin head.now frame ∷ []) }
+{
+    let mut items = List::make(alloc);
+    items.push(at_origin(alloc, head, frame)?)?;
+    Ok(items)
+}
+
+/// The box of a row, and what its only child has.
+fn place_row_of(
+    alloc: Global,
+    head: &Head,
+    child: &Node,
+    metrics: &Metrics,
+) -> Result<List<PlacedItem>, Memory>
+    ensures items { IfOk result (λ items. items ≡ row_items metrics.now head.now child.now) }
+    ensures glyphs { IfOk result (All (IsOfFont metrics.now)) }
+{
+    let frame = row(Some(token(metrics, child.head.text.as_str())));
+    let mut items = place_row(alloc, head, frame)?;
+    place_token(alloc, child, metrics, &mut items)?;
+    Ok(items)
+}
+
+/// Adds a token's box, and the glyph of its character if it has one.
+fn place_token(
+    alloc: Global,
+    node: &Node,
+    metrics: &Metrics,
+    items: &mut List<PlacedItem>,
+) -> Result<(), Memory>
+    ensures items { OnOk result (items.new ≡ items.old ++ token_items metrics.now node.now) }
+    ensures glyphs { OnOk result
+        (All (IsOfFont metrics.now) items.old → All (IsOfFont metrics.now) items.new) }
+{
+    let text = node.head.text.as_str();
+    items.push(at_origin(alloc, &node.head, token(metrics, text))?)?;
+    if let Some(letter) = text.as_bytes().first() {
+        items.push(PlacedItem::Glyph(PlacedGlyph {
+            x: 0,
+            y: 0,
+            size: FONT_SIZE,
+            glyph: metrics.glyph_of(char::from(*letter)),
+        }))?;
+    }
+    Ok(())
+}
+
+/// An element's box at the start of the root's baseline.
+fn at_origin(alloc: Global, head: &Head, frame: MathBox) -> Result<PlacedItem, Memory>
+    ensures { IfOk result (λ item. item ≡ frame_at_origin head.now frame) }
+{
+    Ok(PlacedItem::Frame(PlacedBox {
+        id: head.id,
+        name: head.name.copy(alloc)?,
+        x: 0,
+        y: 0,
+        frame,
+    }))
+}

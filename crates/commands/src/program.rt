@@ -1,0 +1,123 @@
+ghost use Rattle.std.specs.Prelude.{◌≡◌, ◌≢◌, Some, Ok, IsErrOf, IfOk, map, string_bytes};
+ghost use Rattle.std.specs.Option.{option_map};
+ghost use Rattle.commands.specs.Command.{asked_of};
+ghost use Rattle.commands.specs.Answer.{answer, answer_to, done, laid_out, checked};
+ghost use Rattle.commands.specs.Ends.{Answers, Delivers, Ends, GivesOr, KnowsWords, LacksFile, LacksFileOf, seen, told};
+
+use crate::command::{Request, Task};
+use crate::lines::Lines;
+use crate::load::{load_metrics, load_tree};
+use crate::place::place;
+use crate::refusal::Refusal;
+use crate::status::Status;
+use doc_io::{Inputs, Sink, write_all};
+use fixed_units::{List, Memory, Steps};
+use font_metrics::Metrics;
+use math_tree::Tree;
+use std::alloc::Global;
+use std::sync::ledger::Ledger;
+
+/// Does all that the program does: carries out the words after the program's name, reads from the
+/// inputs, writes to the sink, and says how it ended.
+pub fn run<I: Inputs, O: Sink, L: Ledger>(
+    alloc: Global,
+    words: &[String],
+    inputs: &mut I,
+    out: &mut O,
+    steps: &mut Steps<L>,
+) -> Status
+    ensures ends { Ends (map string_bytes words.now)
+        (seen I.files I.faults I.missing inputs.old)
+        (seen I.files I.faults I.missing inputs.new)
+        (told O.written O.faults out.old) (told O.written O.faults out.new) result }
+    ensures steps { steps.new ≡ steps.old }
+{
+    match answer(alloc, words, inputs) {
+        Ok(text) => deliver(out, text.as_slice(), Status::Done),
+        Err(refusal) => deliver(out, refusal.line().as_str().as_bytes(), refusal.status()),
+    }
+}
+
+/// Writes a text and answers the status, unless a write fails.
+fn deliver<O: Sink>(out: &mut O, text: &[u8], status: Status) -> Status
+    requires { status ≢ Status.WriteFault }
+    ensures { Delivers text.now status
+        (told O.written O.faults out.old) (told O.written O.faults out.new) result }
+{
+    // Nothing to write: no write can fail.
+    if text.is_empty() {
+        return status;
+    }
+    match write_all(out, text) {
+        Ok(()) => status,
+        Err(_) => Status::WriteFault,
+    }
+}
+
+/// The text that the words ask for, or why there is none.
+fn answer<I: Inputs>(alloc: Global, words: &[String], inputs: &mut I) -> Result<List<u8>, Refusal>
+    ensures answers { Answers
+        (option_map (answer (map string_bytes words.now)) (I.files inputs.old))
+        (LacksFile (map string_bytes words.now))
+        (seen I.files I.faults I.missing inputs.old)
+        (seen I.files I.faults I.missing inputs.new) result }
+    ensures knows { KnowsWords (map string_bytes words.now) result }
+{
+    match Request::from_words(words) {
+        None => Err(Refusal::Usage),
+        Some(request) => carry_out(alloc, request, inputs),
+    }
+}
+
+/// The text that a request asks for, or why there is none.
+fn carry_out<I: Inputs>(
+    alloc: Global,
+    request: Request,
+    inputs: &mut I,
+) -> Result<List<u8>, Refusal>
+    ensures answers { Answers
+        (option_map (answer_to (Some (asked_of request.entry))) (I.files inputs.old))
+        (LacksFileOf (Some (asked_of request.entry)))
+        (seen I.files I.faults I.missing inputs.old)
+        (seen I.files I.faults I.missing inputs.new) result }
+    ensures known { ¬ IsErrOf result Refusal.Usage }
+{
+    let metrics = load_metrics(alloc, request.metrics, inputs)?;
+    let tree = load_tree(alloc, request.tree, inputs)?;
+    do_task(alloc, request.task, &metrics, &tree)
+}
+
+/// What a task makes of the two files.
+#[tactic(auto, unfolding(crate::specs::Answer::done))]
+fn do_task(alloc: Global, task: Task, metrics: &Metrics, tree: &Tree) -> Result<List<u8>, Refusal>
+    ensures gives { GivesOr (done task metrics.now tree.now) result }
+    ensures known { ¬ IsErrOf result Refusal.Usage }
+{
+    match task {
+        Task::Layout => lay_out(alloc, metrics, tree),
+        Task::Check => Ok(print_both(alloc, metrics, tree)?),
+    }
+}
+
+/// The lines of the boxes, where the tree is one that is laid out so far.
+fn lay_out(alloc: Global, metrics: &Metrics, tree: &Tree) -> Result<List<u8>, Refusal>
+    ensures gives { GivesOr (laid_out metrics.now tree.now) result }
+    ensures known { ¬ IsErrOf result Refusal.Usage }
+{
+    if !tree.root().is_built() {
+        return Err(Refusal::TreeLater);
+    }
+    let items = place(alloc, tree.root(), metrics)?;
+    let lines = Lines::of_items(alloc, items.as_slice(), metrics)?;
+    Ok(lines.into_bytes())
+}
+
+/// The canonical print of both files, and a line feed.
+fn print_both(alloc: Global, metrics: &Metrics, tree: &Tree) -> Result<List<u8>, Memory>
+    ensures { IfOk result (λ text. text ≡ checked metrics.now tree.now) }
+{
+    let mut text = metrics.print(alloc)?;
+    text.push_all(tree.print(alloc)?.as_slice())?;
+    text.push(b'\n')?;
+    Ok(text)
+}

@@ -1,0 +1,129 @@
+ghost use Rattle.std.specs.Prelude.{◌≡◌};
+ghost use Rattle.commands.specs.Refusals.{line_of, status_of, of_reading};
+
+use crate::refusal_line::RefusalLine;
+use crate::status::Status;
+use doc_io::ReadRefusal;
+use fixed_units::Memory;
+use font_metrics::{MetricsFault, MetricsRefusal};
+use math_tree::{TreeFault, TreeRefusal};
+use thiserror::Error;
+
+/// The words of each command.
+const USAGE: &str = "usage: mathlay layout METRICS TREE | check METRICS TREE\n";
+
+/// Why a run doesn't write what is asked for.
+#[derive(Clone, Copy, Debug, PartialEq, Eq, Error)]
+pub enum Refusal {
+    /// The words are no command.
+    #[error("the words are no command")]
+    Usage,
+    /// The metrics file has more bytes than its limit.
+    #[error("the metrics file is too long")]
+    MetricsLong,
+    /// The metrics file has this fault.
+    #[error("line {} of the metrics file has a fault of kind {}", .0.line, .0.kind)]
+    Metrics(MetricsFault),
+    /// The tree file has more bytes than its limit.
+    #[error("the tree file is too long")]
+    TreeLong,
+    /// The tree file has no reading as JSON.
+    #[error("the tree file is no JSON")]
+    TreeJson,
+    /// The tree has this fault.
+    #[error("element {} of the tree has a fault of kind {}", .0.element, .0.kind)]
+    Tree(TreeFault),
+    /// The tree is none of those that are laid out yet.
+    #[error("only a `math` over at most one `mn` of one character is laid out for now")]
+    TreeLater,
+    /// A read failed, or a file isn't there.
+    #[error("a read failed")]
+    ReadFault,
+    /// Memory was refused.
+    #[error("memory was refused")]
+    Memory,
+}
+
+impl Refusal {
+    /// The one line that tells the user, with its line feed. A failed read and want of memory
+    /// are told by the status alone.
+    pub fn line(self) -> RefusalLine
+        ensures { result ≡ line_of self }
+    {
+        match self {
+            Refusal::Usage => RefusalLine::of_text(USAGE),
+            Refusal::MetricsLong => RefusalLine::of_text("metrics long\n"),
+            Refusal::Metrics(fault) => RefusalLine::of_fault("metrics", fault.line, fault.kind),
+            Refusal::TreeLong => RefusalLine::of_text("tree long\n"),
+            Refusal::TreeJson => RefusalLine::of_text("tree json\n"),
+            Refusal::Tree(fault) => RefusalLine::of_fault("tree", fault.element, fault.kind),
+            Refusal::TreeLater => RefusalLine::of_text("tree later\n"),
+            Refusal::ReadFault | Refusal::Memory => RefusalLine::of_text(""),
+        }
+    }
+
+    /// The status with which the run ends.
+    pub fn status(self) -> Status
+        ensures { result ≡ status_of self }
+    {
+        match self {
+            Refusal::Usage => Status::Usage,
+            Refusal::MetricsLong | Refusal::Metrics(_) => Status::Metrics,
+            Refusal::TreeLong | Refusal::TreeJson | Refusal::Tree(_) | Refusal::TreeLater => {
+                Status::Tree
+            }
+            Refusal::ReadFault => Status::ReadFault,
+            Refusal::Memory => Status::Memory,
+        }
+    }
+
+    /// Why a file wasn't read whole, where `long` is the refusal of too long a file.
+    pub fn of_reading(refusal: ReadRefusal, long: Refusal) -> Refusal
+        ensures { result ≡ of_reading refusal long }
+    {
+        match refusal {
+            ReadRefusal::ReadFault => Refusal::ReadFault,
+            ReadRefusal::TooLong => long,
+            ReadRefusal::Memory => Refusal::Memory,
+        }
+    }
+}
+
+impl From<Memory> for Refusal {
+    ghost use Rattle.commands.specs.declared.refusal.Refusal.TheVariants.{Memory as NoMemory};
+    ghost use Rattle.std.specs.Prelude.{◌≡◌};
+
+    ghost from_gives = { λ _ refusal. refusal ≡ NoMemory };
+
+    fn from(_: Memory) -> Self {
+        Refusal::Memory
+    }
+}
+
+impl From<MetricsRefusal> for Refusal {
+    ghost use Rattle.std.specs.Prelude.{◌≡◌};
+    ghost use Rattle.commands.specs.Refusals.{of_metrics};
+
+    ghost from_gives = { λ refused refusal. refusal ≡ of_metrics refused };
+
+    fn from(refusal: MetricsRefusal) -> Self {
+        match refusal {
+            MetricsRefusal::Fault(fault) => Refusal::Metrics(fault),
+            MetricsRefusal::Memory => Refusal::Memory,
+        }
+    }
+}
+
+impl From<TreeRefusal> for Refusal {
+    ghost use Rattle.std.specs.Prelude.{◌≡◌};
+    ghost use Rattle.commands.specs.Refusals.{of_tree};
+
+    ghost from_gives = { λ refused refusal. refusal ≡ of_tree refused };
+
+    fn from(refusal: TreeRefusal) -> Self {
+        match refusal {
+            TreeRefusal::Fault(fault) => Refusal::Tree(fault),
+            TreeRefusal::Memory => Refusal::Memory,
+        }
+    }
+}

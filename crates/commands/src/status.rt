@@ -1,0 +1,48 @@
+ghost use Rattle.std.specs.Prelude.{◌≡◌};
+ghost use Rattle.std.specs.Process.{exit_status};
+ghost use Rattle.commands.specs.Status.{number_of};
+
+use std::process::ExitCode;
+
+/// How a run ends.
+#[derive(Clone, Copy, Debug, PartialEq, Eq)]
+pub enum Status {
+    /// The work was done to the end of the input.
+    Done,
+    /// The words are no command.
+    Usage,
+    /// The metrics file passes its limit or isn't metrics.
+    Metrics,
+    /// The tree file passes its limit, has no reading as JSON or isn't a tree.
+    Tree,
+    /// A read failed, or a file isn't there.
+    ReadFault,
+    /// A write failed.
+    WriteFault,
+    /// Memory was refused.
+    Memory,
+}
+
+impl Status {
+    /// The number of the exit status.
+    pub fn number(self) -> u8
+        ensures { result ≡ number_of self }
+    {
+        match self {
+            Status::Done => 0,
+            Status::Usage => 2,
+            Status::Metrics => 3,
+            Status::Tree => 4,
+            Status::ReadFault => 5,
+            Status::WriteFault => 6,
+            Status::Memory => 7,
+        }
+    }
+
+    /// The exit status as the program ends with it.
+    pub fn exit_code(self) -> ExitCode
+        ensures { exit_status result ≡ number_of self }
+    {
+        ExitCode::from(self.number())
+    }
+}
