@@ -12,6 +12,7 @@ pub mod Ranges
 pub mod Forward
 pub mod Values
 pub mod Scaling
+pub mod Bounds
 pub mod Worked
 pub mod WorkedPrints
 mod ReadBack

@@ -64,10 +64,10 @@ other_percent m name p h k = refl
 
 -- ---- bounds
 
-reach_within : (z : ℤ) → IsReach z → IsWithin (2 ^ 16) z
+pub reach_within : (z : ℤ) → IsReach z → IsWithin (2 ^ 16) z
 reach_within z h = let low = h.0 in let high = h.1 in record { low = omega (arith, signed, low); high = omega (arith, signed, high) }
 
-in_reach : (place : ℕ) (z : ℤ) → IsConstant (place, z) → IsReach z
+pub in_reach : (place : ℕ) (z : ℤ) → IsConstant (place, z) → IsReach z
 in_reach place z h = by (is_scale_down place) h.1 h.2
   where
     by : (b : Bool) → (if b then pos 0 else negsuc 32767) ≤ℤ z → z ≤ℤ (if b then pos 200 else pos 65535) → IsReach z

@@ -42,6 +42,14 @@ pub record IsInDesign (g : Glyph) : Type 0 where
   pub italic : IsWithin (2 ^ 16) g.italic
   pub accent : IfSome g.accent (IsWithin (2 ^ 16))
 
+-- how far a glyph reaches, and where an accent goes on it
+pub record IsMeasured (g : Glyph) : Type 0 where
+  pub advance : IsLength g.advance
+  pub ink_ascent : IsReach g.ink_ascent
+  pub ink_descent : IsReach g.ink_descent
+  pub italic : IsReach g.italic
+  pub accent : IfSome g.accent IsReach
+
 pub record IsGlyph (g : NamedGlyph) : Type 0 where
   pub name : IsTrue (is_name g.name)
   pub advance : IsLength g.glyph.advance

@@ -3,7 +3,7 @@ ghost use Rattle.std.specs.List.{All};
 ghost use Rattle.fixed_units.specs.Numbers.{IsWithin, rounded};
 ghost use Rattle.font_metrics.specs.Metrics.{scale_of, constant_of, percent_of, or_default, IsPercent, IsScaleDown, given_constant, line_ascent_of, line_descent_of, ex_of, overlap_of, place_of_letter, glyph_at, name_at, variants_of, parts_of};
 ghost use Rattle.font_metrics.specs.Constants.{place_of_constant};
-ghost use Rattle.font_metrics.specs.Taken.{IsInDesign, IsConstant, IsVariant, IsPart, IsTaken};
+ghost use Rattle.font_metrics.specs.Taken.{IsInDesign, IsMeasured, IsConstant, IsVariant, IsPart, IsTaken};
 
 use crate::by_glyph::ByGlyph;
 use crate::characters::CharacterMap;
@@ -50,6 +50,14 @@ impl Model for Metrics {
 }
 
 impl Metrics {
+    /// What these metrics say may stand in a file: each number is in its range, each glyph is there.
+    /// It does nothing; a caller gets the fact by a call.
+    pub fn is_taken(&self)
+        ensures { IsTaken self.now }
+    {
+        let _ = &self.upem;
+    }
+
     /// A value of at most 2^20 design units at a font size, in units (1/1024 px): the value times
     /// the size over `upem`, rounded.
     pub fn scale(&self, value: i64, size: i64) -> i64
@@ -150,6 +158,7 @@ impl Metrics {
         requires { glyph.0 < length self.now.glyphs }
         ensures value { result ≡ glyph_at self.now glyph.0 }
         ensures within { IsInDesign result }
+        ensures ranges { IsMeasured result }
     {
         self.glyphs.glyph(usize::from(glyph.0))
     }

@@ -1,0 +1,6 @@
+use Rattle.std.proofs.Common.{subst}
+use Rattle.font_metrics.specs.Taken.{IsTaken}
+use Rattle.font_metrics.proofs.metrics.Metrics.is_taken.Goals as goal
+
+pub returns : goal.returns
+returns c = subst IsTaken c.self.view_is c.self.invariant.taken
