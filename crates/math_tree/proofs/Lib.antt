@@ -1,4 +1,8 @@
-pub mod OnLiterals
+-- for the crates above: induction over the children of a node, and an element before those below it
+pub mod Nodes
+-- for the crates above: the elements and the bytes in a node, from those in its children
+pub mod Counts
+mod OnLiterals
 mod Worked
 mod Known
 mod Members
@@ -13,7 +17,6 @@ mod Proper
 mod Whole
 mod BuiltForm
 mod Firsts
-mod Nodes
 mod Printing
 mod Reread
 mod RoundTrip

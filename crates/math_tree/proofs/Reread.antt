@@ -1,23 +1,22 @@
 -- What a printed element says when it is read.
-use Rattle.std.proofs.Common.{◌≡◌, ℕ, ◌+◌, ◌≤◌, List, [], ◌∷◌, ◌++◌, length, map, codes, Bool, true, false, if◌then◌else◌, not, ◌&&◌, ◌||◌, Option, Some, None, refl, sym, ap, ◌∙◌, arith, Ordering, Less, Equal, Greater, is_eq, nat_cmp}
+use Rattle.std.proofs.Common.{◌≡◌, ℕ, List, [], ◌∷◌, length, codes, Bool, true, false, if◌then◌else◌, not, ◌&&◌, ◌||◌, Option, Some, None, refl, sym, ap, ◌∙◌, arith, Ordering, Less, Equal, Greater, is_eq, nat_cmp}
 use Rattle.std.proofs.lemmas.Cmp.{nat_list_cmp_total}
 use Rattle.std.proofs.lemmas.Map.Text.{is_eq-slice_cmp}
 use Rattle.std.specs.Cmp.Lexicographic.{slice_cmp}
 use Rattle.std.specs.List.{AllByRecursion}
 use Rattle.std.specs.Option.{option_and_then, option_map_or, unwrap_or}
-use Rattle.std.specs.Ordering.{match_ordering, ordering_reverse}
+use Rattle.std.specs.Ordering.{ordering_reverse}
 use Rattle.std.specs.Str.{bytes_eq}
-use Rattle.serde_json.specs.Data.{Data, string, array, object, Items, no_items, item}
+use Rattle.serde_json.specs.Data.{Data, string, array, object, no_items}
 use Rattle.serde_json.specs.Find.{get, get_member, as_str, as_array, as_object}
 use Rattle.math_tree.specs.Attributes.{value_of as attribute_value}
-use Rattle.math_tree.specs.Elements.{name_in, kind_in, attributes_in, text_in, children_in, attributes_held, text_held, bytes_held, has_known_keys, has_attributes, is_right_to_left, has_text, has_children, text_or_empty, attributes_of, are_attributes, is_attribute, is_map_of_attributes, may_stand_below, listed_items}
-use Rattle.math_tree.specs.Forms.{is_name, is_short_enough, is_white_space, is_rtl}
+use Rattle.math_tree.specs.Elements.{name_in, kind_in, attributes_in, text_in, children_in, attributes_held, text_held, has_known_keys, has_attributes, is_right_to_left, has_text, has_children, text_or_empty, attributes_of, are_attributes, is_map_of_attributes, may_stand_below, listed_items}
+use Rattle.math_tree.specs.Forms.{is_short_enough, is_white_space, is_rtl}
 use Rattle.math_tree.specs.Kinds.{kind_of, is_text_kind}
 use Rattle.math_tree.specs.Print.{members_of, items_of, object_of}
-use Rattle.math_tree.specs.Trees.{IsProperAttribute, bytes_of_head}
+use Rattle.math_tree.specs.Trees.{IsProperAttribute}
 use Rattle.math_tree.specs.declared.attributes.Attribute.{Attribute}
 use Rattle.math_tree.specs.declared.kind.Kind.{Kind}
-use Rattle.math_tree.specs.declared.node.Head.{Head}
 
 -- ---- the keys
 

@@ -1,5 +1,5 @@
 -- A printed tree, read again: no element is faulty, and the tree is the same but for its ids.
-use Rattle.std.proofs.Common.{◌≡◌, ℕ, ◌+◌, ◌≤◌, ◌<◌, List, [], ◌∷◌, ◌++◌, length, map, codes, Bool, true, false, not, ◌&&◌, nat_lt, nat_eq, Option, Some, None, Ok, refl, sym, ap, subst, ◌∙◌, arith}
+use Rattle.std.proofs.Common.{◌≡◌, ℕ, ◌+◌, ◌≤◌, List, [], ◌∷◌, ◌++◌, length, map, codes, Bool, true, false, not, ◌&&◌, nat_lt, nat_eq, None, Ok, refl, sym, ap, subst, ◌∙◌, arith}
 use Rattle.std.proofs.lemmas.Bool.{le-ltb}
 use Rattle.std.proofs.lemmas.Bool.Decides.{nat_tests}
 use Rattle.std.proofs.lemmas.List.{append_assoc, append-nil, length-append, length-map}
@@ -7,20 +7,20 @@ use Rattle.std.proofs.lemmas.List.Concat.{flat_map-cons}
 use Rattle.std.proofs.lemmas.List.Elements.{recursion_from_All}
 use Rattle.std.proofs.lemmas.List.Folds.{flat_map-map}
 use Rattle.std.proofs.lemmas.List.Sums.{sum_by-append, sum_by-cons}
-use Rattle.std.specs.List.{AllByRecursion, All, flat_map, sum_by, find}
-use Rattle.std.specs.Option.{option_map, option_or, option_map_or}
-use Rattle.serde_json.specs.Data.{Data, Items, no_items, item}
+use Rattle.std.specs.List.{AllByRecursion, flat_map, sum_by, find}
+use Rattle.std.specs.Option.{option_map, option_or}
+use Rattle.serde_json.specs.Data.{Data}
 use Rattle.math_tree.specs.Attributes.{bytes_of_attributes}
-use Rattle.math_tree.specs.Elements.{Element, over, over_items, elements, element_first, name_in, bytes_held, has_known_keys, has_attributes, is_right_to_left, has_text, has_children}
+use Rattle.math_tree.specs.Elements.{Element, over, over_items, elements, element_first, name_in, bytes_held}
 use Rattle.math_tree.specs.Faults.{fault_of, fault_at, first_fault_after, is_misplaced}
 use Rattle.math_tree.specs.Kinds.{kind_of, is_text_kind}
 use Rattle.math_tree.specs.declared.fault.ElementFault.{ElementFault}
 use Rattle.math_tree.specs.declared.fault.ElementFault.TheVariants.{NotAnObject, BadName, NotMath, UnknownKey, BadAttributes, BadText, BadChildren, TooDeep, TooMany, RightToLeft, TooLong}
 use Rattle.std.specs.Str.{bytes_eq}
 use Rattle.math_tree.specs.Forms.{most_levels, most_elements, most_bytes, is_name}
-use Rattle.math_tree.specs.Print.{items_of, object_of, value_of, layer_value, with_id, renumbered_layer, renumbered, anew, PrintReadsBack}
+use Rattle.math_tree.specs.Print.{items_of, value_of, with_id, renumbered_layer, renumbered, PrintReadsBack}
 use Rattle.math_tree.specs.Reading.{Planted, planted, nodes_from, head_of, node_of, tree_of, tree_without}
-use Rattle.math_tree.specs.Trees.{TreeValue, node, Listed, listed, bytes_of_head, IsProper, IsProperAttribute, IsWhole}
+use Rattle.math_tree.specs.Trees.{node, Listed, listed, bytes_of_head, IsProper, IsProperAttribute}
 use Rattle.math_tree.specs.declared.attributes.Attribute.{Attribute}
 use Rattle.math_tree.specs.declared.node.Head.{Head}
 use Rattle.math_tree.specs.declared.node.Node.{Node}

@@ -14,7 +14,7 @@ use Rattle.math_tree.specs.Forms.{most_levels}
 use Rattle.math_tree.specs.Reading.{Reads, node_of, tree_without, tree_of}
 use Rattle.math_tree.specs.Parts.{ReadsPart}
 use Rattle.math_tree.specs.Laws.{entry, entries}
-use Rattle.math_tree.specs.Trees.{TreeValue, Listed, ids_of, bytes_of_head, IsProper, IsWhole}
+use Rattle.math_tree.specs.Trees.{TreeValue, Listed, ids_of, bytes_of_head, IsProper, IsWhole, IsTotalled}
 use Rattle.math_tree.specs.declared.node.Node.TheViews.{out-roll-Node}
 use Rattle.math_tree.specs.declared.read.Seen.{Seen}
 use Rattle.math_tree.specs.declared.refusal.TreeRefusal.{TreeRefusal}
@@ -97,6 +97,20 @@ whole value next_id e next =
       next = omega (arith, next, limits.0);
       few = rw (same, count_is 1 list) (omega (arith, limits.0));
       small = rw (same, bytes_are 1 list) (omega (arith, limits.1));
+    }
+
+-- what was seen of the elements are its totals
+pub totalled : (value : Data) (next_id count held : ℕ) → first_fault_after 0 0 (elements 1 value) ≡ None
+    → next_id ≡ 1 + length (elements 1 value) → count ≡ length (elements 1 value)
+    → held ≡ bytes_of (elements 1 value)
+    → IsTotalled (record { root = node_of 1 value; next_id = next_id }) count held
+totalled value next_id count held e next counts holds =
+    let list = elements 1 value in
+    let same = listed_is value 1 1 in
+    record {
+      whole = whole value next_id e next;
+      elements_are = counts ∙ sym (ap length same ∙ count_is 1 list);
+      bytes_are = holds ∙ sym (ap (sum_by (λ (e : Listed). bytes_of_head e.head)) same ∙ bytes_are 1 list);
     }
 
 -- ---- what is read of a whole value

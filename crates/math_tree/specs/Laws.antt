@@ -5,9 +5,11 @@ use Rattle.serde_json.specs.Data.{Data}
 use Rattle.math_tree.specs.Elements.{Element, below, elements, bytes_held}
 use Rattle.math_tree.specs.Faults.{fault_of, fault_at}
 use Rattle.math_tree.specs.Reading.{head_of, tree_of}
-use Rattle.math_tree.specs.Trees.{TreeValue, Listed, listed}
+use Rattle.math_tree.specs.Trees.{TreeValue, Listed, listed, element_count, byte_count, bytes_of_head}
 use Rattle.math_tree.specs.declared.fault.ElementFault.{ElementFault}
 use Rattle.math_tree.specs.declared.fault.TreeFault.{TreeFault}
+use Rattle.math_tree.specs.declared.node.Node.{Node}
+use Rattle.math_tree.specs.declared.node.Node.TheViews.{out-Node}
 
 -- the fault of the element at an index of a list, if there are an element and a fault: its place is
 -- one more, and the bytes are those of all elements up to it
@@ -48,3 +50,15 @@ pub record IsTreeOf (value : Data) (tree : TreeValue) : Type 0 where
 
 abbrev pub TreeLaw : Type 0
 TreeLaw = (value : Data) (tree : TreeValue) → tree_of value ≡ Ok tree → IsTreeOf value tree
+
+-- the elements in a node are itself and those in its children, and its bytes likewise; so it has
+-- fewer children than elements, and each child has fewer elements than it
+pub record IsCounted (node : Node) : Type 0 where
+  pub elements : element_count node ≡ 1 + sum_by element_count (out-Node node).children
+  pub bytes : byte_count node ≡ bytes_of_head (out-Node node).head + sum_by byte_count (out-Node node).children
+  pub few : length (out-Node node).children < element_count node
+  pub below : (index : ℕ) (child : Node) → slice_get (out-Node node).children index ≡ Some child
+      → element_count child < element_count node
+
+abbrev pub CountLaw : Type 0
+CountLaw = (node : Node) → IsCounted node

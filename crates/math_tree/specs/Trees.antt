@@ -37,9 +37,17 @@ listed_first layer level =
 unfoldable pub listed : ℕ → Node → List Listed
 listed level node = fold-Node (ℕ → List Listed) listed_first node level
 
+-- how many elements there are in a node, itself included
+abbrev pub element_count : Node → ℕ
+element_count node = length (listed 1 node)
+
 -- the bytes of an element's name, its text and its attributes
 abbrev pub bytes_of_head : Head → ℕ
 bytes_of_head head = length head.name + length head.text + bytes_of_attributes head.attributes
+
+-- the bytes of all elements in a node
+abbrev pub byte_count : Node → ℕ
+byte_count node = sum_by (λ e. bytes_of_head e.head) (listed 1 node)
 
 -- ---- what holds of every tree
 
@@ -71,5 +79,11 @@ pub record IsWhole (tree : TreeValue) : Type 0 where
   pub distinct : IsDistinct nat_eq (ids_of (listed 1 tree.root))
   pub given : All (λ id. id < tree.next_id) (ids_of (listed 1 tree.root))
   pub next : tree.next_id ≤ 2 ^ 32
-  pub few : length (listed 1 tree.root) ≤ most_elements
-  pub small : sum_by (λ e. bytes_of_head e.head) (listed 1 tree.root) ≤ most_bytes
+  pub few : element_count tree.root ≤ most_elements
+  pub small : byte_count tree.root ≤ most_bytes
+
+-- a whole tree with how many elements there are in it, and how many bytes they hold
+pub record IsTotalled (tree : TreeValue) (elements bytes : ℕ) : Type 0 where
+  pub whole : IsWhole tree
+  pub elements_are : elements ≡ element_count tree.root
+  pub bytes_are : bytes ≡ byte_count tree.root

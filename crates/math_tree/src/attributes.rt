@@ -28,6 +28,16 @@ pub struct Attribute {
 }
 
 impl Attribute {
+    /// The same attribute again.
+    fn copy(&self, alloc: Global) -> Result<Attribute, Memory>
+        ensures { IfOk result (λ copied. copied ≡ self.now) }
+    {
+        Ok(Attribute {
+            name: self.name.copy(alloc)?,
+            value: self.value.copy(alloc)?,
+        })
+    }
+
     /// How its name stands to another in the order of names, which is that of their bytes.
     fn compare(&self, name: &str) -> Ordering
         ensures { result ≡ slice_cmp nat_cmp self.now.name name.now }
@@ -102,5 +112,16 @@ impl Attributes {
         ensures order { IsInOrder self.now }
     {
         self.items.as_slice()
+    }
+
+    /// The same attributes again.
+    pub fn copy(&self, alloc: Global) -> Result<Attributes, Memory>
+        ensures { IfOk result (λ copied. copied ≡ self.now) }
+    {
+        let mut items = List::make(alloc);
+        for attribute in self.as_slice() {
+            items.push(attribute.copy(alloc)?)?;
+        }
+        Ok(Attributes { items })
     }
 }

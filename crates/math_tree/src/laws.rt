@@ -1,5 +1,5 @@
 //! Laws of the definitions. Each is a contract, so that it is proved; the functions compute nothing.
-ghost use Rattle.math_tree.specs.Laws.{FirstFaultLaw, TreeLaw};
+ghost use Rattle.math_tree.specs.Laws.{FirstFaultLaw, TreeLaw, CountLaw};
 ghost use Rattle.math_tree.specs.Print.{PrintReadsBack};
 
 /// The fault of a value is that of an element in document order before which no element has one.
@@ -17,4 +17,10 @@ pub fn trees_list_the_elements()
 #[tactic(auto, using(crate::proofs::RoundTrip::print_reads_back))]
 pub fn a_printed_tree_reads_back()
     ensures { PrintReadsBack }
+{}
+
+/// The elements in a node are itself and those in its children, and so are the bytes; it has fewer
+/// children than elements. So an element of a whole tree has at most 65,535 children.
+pub fn elements_are_counted()
+    ensures { CountLaw }
 {}

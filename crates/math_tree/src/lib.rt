@@ -33,7 +33,10 @@ mod tree;
 pub use attributes::{Attribute, Attributes};
 pub use fault::TreeFault;
 pub use kind::Kind;
-pub use laws::{a_printed_tree_reads_back, the_first_fault_is_told, trees_list_the_elements};
+pub use laws::{
+    a_printed_tree_reads_back, elements_are_counted, the_first_fault_is_told,
+    trees_list_the_elements,
+};
 pub use node::{Head, Node, NodeId};
 pub use read::read_tree;
 pub use refusal::TreeRefusal;

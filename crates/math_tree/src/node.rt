@@ -48,6 +48,19 @@ impl Head {
             text: Txt::make(alloc, text_held(value))?,
         })
     }
+
+    /// The same again, with its id.
+    pub fn copy(&self, alloc: Global) -> Result<Head, Memory>
+        ensures { IfOk result (λ copied. copied ≡ self.now) }
+    {
+        Ok(Head {
+            id: self.id,
+            name: self.name.copy(alloc)?,
+            kind: self.kind,
+            attributes: self.attributes.copy(alloc)?,
+            text: self.text.copy(alloc)?,
+        })
+    }
 }
 
 impl Node {

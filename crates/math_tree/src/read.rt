@@ -25,7 +25,8 @@ pub fn read_tree(alloc: Global, value: &Value) -> Result<Tree, TreeRefusal>
         bytes: 0,
     };
     let root = read_element(alloc, value, 1, &mut seen)?;
-    Ok(Tree::whole(root, seen.elements as u64 + 1))
+    let next_id = seen.elements as u64 + 1;
+    Ok(Tree::whole(root, next_id, seen.elements, seen.bytes))
 }
 
 /// The elements that were read so far: how many there are, and how many bytes they hold together.

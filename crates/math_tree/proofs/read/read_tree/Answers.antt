@@ -3,7 +3,7 @@ use Rattle.serde_json.specs.View.{view}
 use Rattle.math_tree.specs.declared.read.Seen.{Seen}
 use Rattle.math_tree.specs.declared.refusal.TreeRefusal.{TreeRefusal}
 use Rattle.math_tree.proofs.ReadParts.{as_refused}
-use Rattle.math_tree.proofs.Whole.{whole, tree_is, refused}
+use Rattle.math_tree.proofs.Whole.{totalled, tree_is, refused}
 use Rattle.math_tree.proofs.read.read_tree.Goals as goal
 
 pub returns-in_err-root : goal.returns-in_err-root
@@ -17,8 +17,10 @@ pub whole-requires : goal.whole-requires
 whole-requires c =
     let read = c.in_ok-root.ensures in
     let count = ap (λ (s : Seen). s.elements) read.2 in
+    let bytes = ap (λ (s : Seen). s.bytes) read.2 in
     let next : ℕ = c.read_element.new.seen.elements + 1 in
-    rw (read.1) (whole (view c.args.value.now) next read.0 (omega (arith, count)))
+    rw (read.1) (totalled (view c.args.value.now) next c.read_element.new.seen.elements c.read_element.new.seen.bytes read.0
+    (omega (arith, count)) (omega (arith, count)) (omega (arith, bytes)))
 
 pub returns : goal.returns
 returns c =
