@@ -1,0 +1,4 @@
+pub mod Equation
+pub mod Laws
+pub mod Lengths
+pub mod Placing
