@@ -61,10 +61,8 @@ font = record {
   constants = [];
   glyphs = glyph_named (codes "missing") 600 ∷ glyph_named (codes "one") 680 ∷ [];
   characters = (0x31, 1) ∷ [];
-  block_variants = [];
-  inline_variants = [];
-  block_parts = [];
-  inline_parts = [];
+  variants = ([], []);
+  parts = ([], []);
   operators = [];
 }
 

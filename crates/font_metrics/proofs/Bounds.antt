@@ -34,15 +34,7 @@ reach_is_within z h = reach_within z h
 pub glyph_measured : (m : MetricsValue) (place : ℕ) → IsTaken m → place < length m.glyphs
     → IsMeasured (glyph_at m place)
 unfolding glyph_at
-glyph_measured m place h low =
-    let is = h.glyphs place nameless low in
-    record {
-      advance = is.advance;
-      ink_ascent = is.ink_ascent;
-      ink_descent = is.ink_descent;
-      italic = is.italic;
-      accent = is.accent;
-    }
+glyph_measured m place h low = (h.glyphs place nameless low).measures
 
 pub measured_in_design : (g : Glyph) → IsMeasured g → IsInDesign g
 measured_in_design g h = record {

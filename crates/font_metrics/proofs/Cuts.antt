@@ -6,9 +6,11 @@ use Rattle.std.proofs.lemmas.Option.{none-some, same_Some}
 use Rattle.std.specs.List.{list_all, slice_split, onto_first, position_or_len}
 use Rattle.std.specs.Str.Lines.{lines, lines_of_parts, strip_carriage_return}
 use Rattle.font_metrics.specs.declared.keyword.Keyword.{Keyword}
-use Rattle.font_metrics.specs.declared.keyword.Keyword.TheVariants.{Upem, Line, XHeight, Overlap, Constant, Glyph, Char, BlockVariant, InlineVariant, BlockPart, InlinePart, Operator, Unknown}
-use Rattle.font_metrics.specs.Lines.{Words, keyword_of}
-use Rattle.font_metrics.specs.Reading.{Given, lines_of, words_of, is_foreign, is_comment, after, after_words, after_fields, is_version}
+use Rattle.font_metrics.specs.declared.keyword.Keyword.TheVariants.{Unknown}
+use Rattle.font_metrics.specs.declared.given.Given.{Given}
+use Rattle.font_metrics.specs.Lines.{Words, keyword_of, item_in}
+use Rattle.font_metrics.specs.Metrics.{NamedGlyph}
+use Rattle.font_metrics.specs.Reading.{lines_of, words_of, is_foreign, is_comment, allowed, put, after, after_words, is_version}
 use Rattle.std.specs.Char.{is_digit}
 use Rattle.std.specs.Str.Parse.{digits_value}
 use Rattle.std.proofs.lemmas.List.{take_all}
@@ -90,21 +92,10 @@ next_line (b ∷ bs) i h =
 
 -- ---- the words of a line beyond the eighth make no difference
 
-same_fields : (g : Given) (keyword : Keyword) (a b c d e f h : List ℕ) (more : Words)
-    → after_fields g keyword (a ∷ b ∷ c ∷ d ∷ e ∷ f ∷ h ∷ []) ≡ after_fields g keyword (a ∷ b ∷ c ∷ d ∷ e ∷ f ∷ h ∷ more)
-same_fields g Upem a b c d e f h more = refl
-same_fields g Line a b c d e f h more = refl
-same_fields g XHeight a b c d e f h more = refl
-same_fields g Overlap a b c d e f h more = refl
-same_fields g Constant a b c d e f h more = refl
-same_fields g Glyph a b c d e f h more = refl
-same_fields g Char a b c d e f h more = refl
-same_fields g BlockVariant a b c d e f h more = refl
-same_fields g InlineVariant a b c d e f h more = refl
-same_fields g BlockPart a b c d e f h more = refl
-same_fields g InlinePart a b c d e f h more = refl
-same_fields g Operator a b c d e f h more = refl
-same_fields g Unknown a b c d e f h more = refl
+same_item : (glyphs : List NamedGlyph) (keyword : Keyword) (a b c d e f h : List ℕ) (more : Words)
+    → item_in glyphs keyword (a ∷ b ∷ c ∷ d ∷ e ∷ f ∷ h ∷ []) ≡ item_in glyphs keyword (a ∷ b ∷ c ∷ d ∷ e ∷ f ∷ h ∷ more)
+same_item glyphs Unknown a b c d e f h more = refl
+same_item glyphs keyword a b c d e f h more = refl
 
 pub after_words-take : (g : Given) (words : Words) → after_words g (take 8 words) ≡ after_words g words
 after_words-take g [] = refl
@@ -115,7 +106,8 @@ after_words-take g (w ∷ a ∷ b ∷ c ∷ []) = refl
 after_words-take g (w ∷ a ∷ b ∷ c ∷ d ∷ []) = refl
 after_words-take g (w ∷ a ∷ b ∷ c ∷ d ∷ e ∷ []) = refl
 after_words-take g (w ∷ a ∷ b ∷ c ∷ d ∷ e ∷ f ∷ []) = refl
-after_words-take g (w ∷ a ∷ b ∷ c ∷ d ∷ e ∷ f ∷ h ∷ more) = same_fields g (keyword_of w) a b c d e f h more
+after_words-take g (w ∷ a ∷ b ∷ c ∷ d ∷ e ∷ f ∷ h ∷ more) =
+    ap (λ step. step >>= λ item. allowed g item >>= λ free. Ok (put g item)) (same_item g.glyphs (keyword_of w) a b c d e f h more)
 
 pub is_version-take : (words : Words) → is_version (take 8 words) ≡ is_version words
 is_version-take [] = refl

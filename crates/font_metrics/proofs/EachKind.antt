@@ -18,7 +18,7 @@ use Rattle.font_metrics.specs.Faults.{or_fault, fault_if}
 use Rattle.font_metrics.specs.Lines.{Words, upem_in, line_in, one_length_in, length_in, reach_in, reach_if_given, named_in, constant_in, glyph_with, glyph_in, character_in, variant_in, part_with, part_in, operator_in}
 use Rattle.font_metrics.specs.Metrics.{NamedGlyph, place_of_name}
 use Rattle.font_metrics.specs.Taken.{IsLength, IsReach, IsGlyph, IsConstant, IsCharacter, IsVariant, IsPart, IsOperatorText}
-use Rattle.font_metrics.specs.Whole.{IsUpem, IsReachOfLine}
+use Rattle.font_metrics.specs.Whole.{IsUpem, IsLine}
 use Rattle.font_metrics.specs.Words.{number_of, is_between, number_in, natural_in, code_of, is_scalar, is_in_pair, letter_in, text_of_codes, operator_text_in, is_name, name_in, extender_in, form_in, category_in, axis_in, plus}
 use Rattle.font_metrics.proofs.Steps.{same_Ok, no_value, had, found, holds}
 use Rattle.font_metrics.proofs.Tables.{place_within}
@@ -100,13 +100,13 @@ upem_range [] n h = no_value FieldCount n h
 upem_range (a ∷ []) n h = natural_range 16 16384 a n h
 upem_range (a ∷ b ∷ more) n h = no_value FieldCount n h
 
-pub line_range : (fields : Words) (n : ℕ × ℕ) → line_in fields ≡ Ok n → IsReachOfLine n
+pub line_range : (fields : Words) (n : ℕ × ℕ) → line_in fields ≡ Ok n → IsLine n
 line_range [] n h = no_value FieldCount n h
 line_range (a ∷ []) n h = no_value FieldCount n h
 line_range (a ∷ b ∷ []) n h =
     let up = had (length_in a) _ n h in
     let down = had (length_in b) _ n up.2 in
-    subst IsReachOfLine (same_Ok (up.0, down.0) n down.2) (length_range a up.0 up.1, length_range b down.0 down.1)
+    subst IsLine (same_Ok (up.0, down.0) n down.2) (length_range a up.0 up.1, length_range b down.0 down.1)
 line_range (a ∷ b ∷ c ∷ more) n h = no_value FieldCount n h
 
 pub one_length_range : (fields : Words) (n : ℕ) → one_length_in fields ≡ Ok n → n ≤ 65535
@@ -140,11 +140,13 @@ glyph_with_range a b c d e f g h =
     let accent = had (reach_if_given f) _ g italic.2 in
     subst IsGlyph (same_Ok _ g accent.2) (record {
       name = name_is a name.0 name.1;
-      advance = is_length advance.0 (length_range b advance.0 advance.1);
-      ink_ascent = reach_range c up.0 up.1;
-      ink_descent = reach_range d down.0 down.1;
-      italic = or_zero italic.0 (given_reach e italic.0 italic.1);
-      accent = given_reach f accent.0 accent.1;
+      measures = record {
+        advance = is_length advance.0 (length_range b advance.0 advance.1);
+        ink_ascent = reach_range c up.0 up.1;
+        ink_descent = reach_range d down.0 down.1;
+        italic = or_zero italic.0 (given_reach e italic.0 italic.1);
+        accent = given_reach f accent.0 accent.1;
+      };
     })
 
 pub glyph_range : (fields : Words) (g : NamedGlyph) → glyph_in fields ≡ Ok g → IsGlyph g

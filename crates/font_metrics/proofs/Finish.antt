@@ -1,75 +1,77 @@
 -- What a file gives at its end.
-use Rattle.std.proofs.Common.{subst, ◌≡◌, sym, refl, ℕ, ◌≤◌, codes, Option, Some, None, Ok, Err}
-use Rattle.font_metrics.specs.declared.fault.LineFault.TheVariants.{NoMissing}
+use Rattle.std.proofs.Common.{◌≡◌, ◌∙◌, ap, sym, subst, ◌≤◌, codes, Some, Ok, Err, refl}
+use Rattle.std.specs.Option.{IfSome, IsSome}
 use Rattle.font_metrics.specs.declared.fault.LineFault.{LineFault}
-use Rattle.std.specs.Option.{ok_or, IfSome, IsSome}
-use Rattle.font_metrics.specs.Faults.{Step}
-use Rattle.font_metrics.specs.Taken.{IsTaken}
-use Rattle.font_metrics.specs.Whole.{IsUpem, IsReachOfLine, IsGiven}
-use Rattle.font_metrics.proofs.Steps.{no_value}
+use Rattle.font_metrics.specs.declared.fault.LineFault.TheVariants.{NoUpem, NoLine, NoXHeight, NoMissing}
+use Rattle.font_metrics.specs.declared.given.Given.{Given}
+use Rattle.font_metrics.specs.declared.given.Needed.{Needed}
+use Rattle.font_metrics.specs.declared.metrics.Metrics.TheInside.{Inside}
+use Rattle.font_metrics.specs.Faults.{Step, step_map, or_fault}
 use Rattle.font_metrics.specs.Metrics.{MetricsValue, place_of_name}
-use Rattle.font_metrics.specs.Reading.{Given, whole_of, finished}
+use Rattle.font_metrics.specs.Reading.{needed, metrics_with, finished}
+use Rattle.font_metrics.specs.Taken.{IsTaken}
+use Rattle.font_metrics.specs.Whole.{IsUpem, IsLine, IsGiven, IsWhole, value_of}
+use Rattle.font_metrics.proofs.Steps.{same_Ok, had, found}
 
--- the metrics of what is given
-abbrev pub metrics_value : ℕ → ℕ × ℕ → ℕ → Given → MetricsValue
-metrics_value units reach height given = record {
-  upem = units;
-  line_ascent = reach.0;
-  line_descent = reach.1;
-  x_height = height;
-  overlap = given.overlap;
-  constants = given.constants;
-  glyphs = given.glyphs;
-  characters = given.characters;
-  block_variants = given.block_variants;
-  inline_variants = given.inline_variants;
-  block_parts = given.block_parts;
-  inline_parts = given.inline_parts;
-  operators = given.operators;
-}
+-- what metrics need was given
+pub record AreThere (g : Given) (n : Needed) : Type 0 where
+  pub upem : g.upem ≡ Some n.upem
+  pub line : g.line ≡ Some n.line
+  pub x_height : g.x_height ≡ Some n.x_height
+  pub missing : place_of_name g.glyphs (codes "missing") ≡ Some n.missing
 
-pub is_finished : (g : Given) (units : ℕ) (reach : ℕ × ℕ) (height missing : ℕ) → g.upem ≡ Some units → g.line ≡ Some reach
-    → g.x_height ≡ Some height → place_of_name g.glyphs (codes "missing") ≡ Some missing
-    → finished g ≡ Ok (metrics_value units reach height g)
-unfolding finished
-is_finished g units reach height missing u l x m = λ i. whole_of (u i) (l i) (x i) (m i) g
+pub needs_are : (g : Given) (n : Needed) → needed g ≡ Ok n → AreThere g n
+needs_are g n h =
+    let u = had (or_fault NoUpem g.upem) _ n h in
+    let l = had (or_fault NoLine g.line) _ n u.2 in
+    let x = had (or_fault NoXHeight g.x_height) _ n l.2 in
+    let p = had (or_fault NoMissing (place_of_name g.glyphs (codes "missing"))) _ n x.2 in
+    let e = same_Ok _ n p.2 in
+    record {
+      upem = found g.upem NoUpem u.0 u.1 ∙ ap (λ (n : Needed). Some n.upem) e;
+      line = found g.line NoLine l.0 l.1 ∙ ap (λ (n : Needed). Some n.line) e;
+      x_height = found g.x_height NoXHeight x.0 x.1 ∙ ap (λ (n : Needed). Some n.x_height) e;
+      missing = found (place_of_name g.glyphs (codes "missing")) NoMissing p.0 p.1 ∙ ap (λ (n : Needed). Some n.missing) e;
+    }
 
-pub lacks_missing : (g : Given) (units : ℕ) (reach : ℕ × ℕ) (height : ℕ) → g.upem ≡ Some units → g.line ≡ Some reach
-    → g.x_height ≡ Some height → place_of_name g.glyphs (codes "missing") ≡ None → finished g ≡ Err NoMissing
-unfolding finished
-lacks_missing g units reach height u l x m = λ i. whole_of (u i) (l i) (x i) (m i) g
-
-pub lacking : (o : Option ℕ) (fault : LineFault) → ◌≡◌ {A = Step ℕ} (Err fault) (ok_or o NoMissing)
-    → (o ≡ None) × (fault ≡ NoMissing)
-lacking None fault h = (refl, cc)
-lacking (Some n) fault h = no_value fault n h
+pub missing_is : (g : Given) (n : Needed) → needed g ≡ Ok n → place_of_name g.glyphs (codes "missing") ≡ Some n.missing
+missing_is g n h = (needs_are g n h).missing
 
 -- what holds of all that lines give holds of their metrics
-pub taken_of : (g : Given) (units : ℕ) (reach : ℕ × ℕ) (height missing : ℕ) → g.upem ≡ Some units → g.line ≡ Some reach
-    → g.x_height ≡ Some height → place_of_name g.glyphs (codes "missing") ≡ Some missing → IsGiven g
-    → IsTaken (metrics_value units reach height g)
-taken_of g units reach height missing u l x m h =
-    let upem = subst (λ o. IfSome o IsUpem) u h.upem in
-    let line = subst (λ o. IfSome o IsReachOfLine) l h.line in
+pub taken_of : (g : Given) (n : Needed) → IsGiven g → needed g ≡ Ok n → IsTaken (metrics_with n g)
+taken_of g n h e =
+    let there = needs_are g n e in
+    let upem = subst (λ o. IfSome o IsUpem) there.upem h.upem in
+    let line = subst (λ o. IfSome o IsLine) there.line h.line in
     record {
       upem_low = upem.0;
       upem_high = upem.1;
       line_ascent = line.0;
       line_descent = line.1;
-      x_height = subst (λ o. IfSome o (λ n. n ≤ 65535)) x h.x_height;
+      x_height = subst (λ o. IfSome o (λ n. n ≤ 65535)) there.x_height h.x_height;
       overlap = h.overlap;
       constants = h.constants.ranges;
       constants_ordered = h.constants.ordered;
       count = h.glyphs.count;
       glyphs = h.glyphs.ranges;
       names = h.glyphs.names;
-      missing = subst IsSome (sym m) (refl);
+      missing = subst IsSome (sym there.missing) refl;
       characters = h.characters.ranges;
       characters_ordered = h.characters.ordered;
-      block_variants = h.block_variants;
-      inline_variants = h.inline_variants;
-      block_parts = h.block_parts;
-      inline_parts = h.inline_parts;
+      variants = h.variants;
+      parts = h.parts;
       operators = h.operators.texts;
       operators_distinct = h.operators.distinct;
     }
+
+pub whole_taken : (m : Inside) → IsWhole m → IsTaken (value_of m)
+whole_taken m h = taken_of m.given m.needs h.given h.needs
+
+-- the end of a file, by what it needs
+pub ends_with : (g : Given) (n : Needed) → Ok n ≡ needed g → Ok (metrics_with n g) ≡ finished g
+unfolding finished
+ends_with g n h = ap (step_map (λ n. metrics_with n g)) h
+
+pub ends_without : (g : Given) (fault : LineFault) → Err fault ≡ needed g → ◌≡◌ {A = Step MetricsValue} (Err fault) (finished g)
+unfolding finished
+ends_without g fault h = ap (step_map (λ n. metrics_with n g)) h

@@ -6,10 +6,11 @@ use Rattle.std.specs.Str.Lines.{lines}
 use Rattle.font_metrics.specs.declared.fault.LineFault.{LineFault}
 use Rattle.font_metrics.specs.declared.refusal.LineRefusal.{LineRefusal}
 use Rattle.font_metrics.specs.declared.refusal.LineRefusal.TheVariants.{Fault as FaultyLine, Memory as NoMemory}
+use Rattle.font_metrics.specs.declared.given.Given.{Given}
 use Rattle.font_metrics.specs.Faults.{Step}
 use Rattle.font_metrics.specs.Metrics.{MetricsValue}
-use Rattle.font_metrics.specs.Reading.{Given, Fault, fault_at, fault_or, nothing, after, after_first, kept, given_from, first_fault_behind, finished, numbered, metrics_or, lines_of, metrics_of}
-use Rattle.font_metrics.specs.Reads.{Reads, Takes, Begins, refusal_at}
+use Rattle.font_metrics.specs.Reading.{Fault, fault_at, fault_or, nothing, after, after_first, kept, given_from, first_fault_behind, finished, numbered, metrics_or, lines_of, metrics_of}
+use Rattle.font_metrics.specs.Reads.{Reads, Takes, refusal_at}
 use Rattle.font_metrics.proofs.Ranges.{first_gives}
 
 -- what follows a line, where it isn't faulty
@@ -23,7 +24,7 @@ from_line number given [] = numbered (number + 1) (finished given)
 from_line number given (line ∷ lines) =
     continued (number + 1) (after given line) (λ next. from_line (number + 1) next lines)
 
-given_from-push : (g : Given) (lines : List (List ℕ)) (line : List ℕ)
+pub given_from-push : (g : Given) (lines : List (List ℕ)) (line : List ℕ)
     → given_from g (lines ++ line ∷ []) ≡ kept (given_from g lines) (after (given_from g lines) line)
 given_from-push g [] line = refl
 given_from-push g (l ∷ ls) line = given_from-push (kept g (after g l)) ls line
@@ -73,13 +74,6 @@ pub stopped : (said : Result MetricsValue Fault) (number : ℕ) (s : Step Given)
 stopped said number s new rest (FaultyLine fault) h k =
     (fault_at number fault, h ∙ ap (λ t. continued number t rest) k, refl)
 stopped said number s new rest NoMemory h k = tt
-
-pub stopped_first : (said : Result MetricsValue Fault) (number : ℕ) (s : Step Given)
-    (rest : Given → Result MetricsValue Fault) (refusal : LineRefusal) → said ≡ continued number s rest
-    → Begins s (Err refusal) → Reads {X = MetricsValue} said (Err (refusal_at number refusal))
-stopped_first said number s rest (FaultyLine fault) h k =
-    (fault_at number fault, h ∙ ap (λ t. continued number t rest) k, refl)
-stopped_first said number s rest NoMemory h k = tt
 
 -- ---- the text that is left
 

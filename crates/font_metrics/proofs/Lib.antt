@@ -6,7 +6,7 @@ pub mod Cuts
 pub mod Steps
 pub mod EachKind
 pub mod Finish
-pub mod SamePairs
+pub mod SameNames
 pub mod Ordered
 pub mod Ranges
 pub mod Forward

@@ -12,8 +12,7 @@ use Rattle.std.specs.Map.{keys_of, lookup, set_value}
 use Rattle.std.specs.Option.{option_map, unwrap_or}
 use Rattle.std.specs.Ordering.{nat_cmp, is_eq, match_ordering}
 use Rattle.font_metrics.specs.Kept.{lists_of_entries}
-use Rattle.font_metrics.specs.Metrics.{items_of}
-use Rattle.font_metrics.specs.Reading.{with_item}
+use Rattle.font_metrics.specs.Metrics.{items_of, with_item}
 
 -- the test of a map of numbers is equality
 pub at_is_eq : (k n : ℕ) → is_at (nat_cmp k) n ≡ nat_eq k n

@@ -1,5 +1,6 @@
 -- Glyph names are text.
-use Rattle.std.proofs.Common.{◌≡◌, ℕ, ◌<◌, Bool, true, false, ◌&&◌, List, [], ◌∷◌, refl, sym, true≢false, arith}
+use Rattle.std.proofs.Common.{◌≡◌, ℕ, ◌<◌, true, List, [], ◌∷◌, arith}
+use Rattle.std.proofs.lemmas.Bool.{and_parts}
 use Rattle.std.proofs.lemmas.Bool.Decides.{nat_tests}
 use Rattle.std.proofs.lemmas.Str.{IsUtf8-from_ascii}
 use Rattle.std.proofs.lemmas.Str.Ascii.{IsAscii-nil, IsAscii-cons}
@@ -7,19 +8,15 @@ use Rattle.std.specs.List.{list_all}
 use Rattle.std.specs.Str.{IsAscii, IsUtf8}
 use Rattle.font_metrics.specs.Words.{is_name_byte, is_name}
 
-both_true : (a b : Bool) → (a && b) ≡ true → (a ≡ true) × (b ≡ true)
-both_true true b h = (refl, h)
-both_true false b h = absurd (true≢false (sym h))
-
 name_byte_small : (b : ℕ) → is_name_byte b ≡ true → b < 128
 name_byte_small b h = grind (arith, nat_tests)
 
 name_bytes_ascii : (word : List ℕ) → list_all is_name_byte word ≡ true → IsAscii word
 name_bytes_ascii [] h = IsAscii-nil
 name_bytes_ascii (b ∷ bs) h =
-    let parts = both_true (is_name_byte b) (list_all is_name_byte bs) h in
+    let parts = and_parts (is_name_byte b) (list_all is_name_byte bs) h in
     IsAscii-cons b bs (name_byte_small b parts.0) (name_bytes_ascii bs parts.1)
 
 pub name_is_text : (word : List ℕ) → is_name word ≡ true → IsUtf8 word
 unfolding is_name
-name_is_text word h = IsUtf8-from_ascii word (name_bytes_ascii word (both_true _ (list_all is_name_byte word) h).1)
+name_is_text word h = IsUtf8-from_ascii word (name_bytes_ascii word (and_parts _ (list_all is_name_byte word) h).1)

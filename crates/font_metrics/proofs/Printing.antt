@@ -1,12 +1,13 @@
 -- Loops that print: the lines of a list, one after another.
-use Rattle.std.proofs.Common.{◌≡◌, ◌∙◌, ap, refl, sym, ℕ, ◌+◌, zero, suc, List, [], ◌∷◌, ◌++◌, length, map, flat_map, take, slice_get, Some, append_assoc, append-nil, add-one, add-zero, zero-add, arith, codes, All}
+use Rattle.std.proofs.Common.{◌≡◌, ◌∙◌, ap, refl, sym, ℕ, ◌+◌, zero, suc, List, [], ◌∷◌, ◌++◌, length, map, flat_map, take, slice_get, Some, append_assoc, append-nil, add-one, add-zero, zero-add, arith, All}
 use Rattle.std.specs.List.{range_with_len}
 use Rattle.std.proofs.lemmas.List.{map_push}
 use Rattle.std.proofs.lemmas.List.Elements.{All-head, All-same}
 use Rattle.std.proofs.lemmas.List.Concat.{flat_map-append}
+use Rattle.op_dictionary.specs.declared.operator.Axis.TheVariants.{Block, Inline}
 use Rattle.font_metrics.specs.Lines.{Words}
-use Rattle.font_metrics.specs.Metrics.{MetricsValue, items_of}
-use Rattle.font_metrics.specs.Print.{constant_words, glyph_words, character_words, variant_words, part_words, growth_lines, operator_words, header_lines, line_text, print_of}
+use Rattle.font_metrics.specs.Metrics.{MetricsValue}
+use Rattle.font_metrics.specs.Print.{constant_words, glyph_words, character_words, variant_lines, part_lines, growth_lines, operator_words, header_lines, line_text, print_of}
 
 -- the bytes of lines
 abbrev texts : List Words → List ℕ
@@ -49,10 +50,10 @@ range-more from (suc count) =
 -- the places before are printed: one place more, by its four lists in turn
 pub growth-more : (m : MetricsValue) (place : ℕ) (old now one two three four : List ℕ)
     → now ≡ old ++ texts (flat_map (growth_lines m) (range_with_len 0 place))
-    → one ≡ now ++ texts (map (variant_words (codes "vvariant") m.glyphs place) (items_of m.block_variants place))
-    → two ≡ one ++ texts (map (variant_words (codes "hvariant") m.glyphs place) (items_of m.inline_variants place))
-    → three ≡ two ++ texts (map (part_words (codes "vassembly") m.glyphs place) (items_of m.block_parts place))
-    → four ≡ three ++ texts (map (part_words (codes "hassembly") m.glyphs place) (items_of m.inline_parts place))
+    → one ≡ now ++ texts (variant_lines m place Block)
+    → two ≡ one ++ texts (variant_lines m place Inline)
+    → three ≡ two ++ texts (part_lines m place Block)
+    → four ≡ three ++ texts (part_lines m place Inline)
     → four ≡ old ++ texts (flat_map (growth_lines m) (range_with_len 0 (place + 1)))
 growth-more m place old now one two three four h a b c d =
     let range : range_with_len 0 (place + 1) ≡ range_with_len 0 place ++ place ∷ [] =

@@ -9,7 +9,6 @@ mod Printed
 mod Fields
 mod Taking
 mod Tables
-mod Pairs
 mod Following
 mod Growing
 pub mod Whole

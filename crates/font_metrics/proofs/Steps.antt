@@ -2,7 +2,7 @@
 use Rattle.std.specs.Result.{IsErrAnd}
 use Rattle.std.proofs.Common.{◌≡◌, ap, Bool, true, false, not, Option, Some, None, Ok, Err, refl}
 use Rattle.font_metrics.specs.declared.fault.LineFault.{LineFault}
-use Rattle.font_metrics.specs.Faults.{Step, ◌>>=◌, or_fault, fault_if}
+use Rattle.font_metrics.specs.Faults.{Step, ◌>>=◌, step_map, or_fault, fault_if}
 
 pub same_Ok : {X : Type 0} (x y : X) → ◌≡◌ {A = Step X} (Ok x) (Ok y) → x ≡ y
 same_Ok x y h = cc
@@ -33,3 +33,9 @@ holds false fault u h = no_value fault u h
 pub failed : {X : Type 0} (s : Step X) (fault : LineFault) → IsErrAnd s (λ e. e ≡ fault) → s ≡ Err fault
 failed (Ok x) fault h = absurd h
 failed (Err e) fault h = ap (λ f. Err f) h
+
+-- a step's value that is seen another way
+pub mapped : {X Y : Type 0} (f : X → Y) (s : Step X) (y : Y) → step_map f s ≡ Ok y
+    → (x : X) × (s ≡ Ok x) × (f x ≡ y)
+mapped f (Ok x) y h = (x, refl, same_Ok (f x) y h)
+mapped f (Err fault) y h = no_value fault y h

@@ -21,24 +21,24 @@ use Rattle.font_metrics.proofs.Ordered.{all_items, few_items}
 pub variants_in : (m : MetricsValue) (place : ℕ) (axis : Axis) → IsTaken m
     → All (IsVariant (length m.glyphs)) (variants_of m place axis)
 unfolding variants_of
-variants_in m place Block h = all_items (IsVariant (length m.glyphs)) (length m.glyphs) most_variants m.block_variants place h.block_variants.entries
-variants_in m place Inline h = all_items (IsVariant (length m.glyphs)) (length m.glyphs) most_variants m.inline_variants place h.inline_variants.entries
+variants_in m place Block h = all_items (IsVariant (length m.glyphs)) (length m.glyphs) most_variants m.variants.0 place h.variants.0.entries
+variants_in m place Inline h = all_items (IsVariant (length m.glyphs)) (length m.glyphs) most_variants m.variants.1 place h.variants.1.entries
 
 pub variants_few : (m : MetricsValue) (place : ℕ) (axis : Axis) → IsTaken m → length (variants_of m place axis) ≤ 64
 unfolding variants_of
-variants_few m place Block h = few_items (IsVariant (length m.glyphs)) (length m.glyphs) most_variants m.block_variants place h.block_variants.entries
-variants_few m place Inline h = few_items (IsVariant (length m.glyphs)) (length m.glyphs) most_variants m.inline_variants place h.inline_variants.entries
+variants_few m place Block h = few_items (IsVariant (length m.glyphs)) (length m.glyphs) most_variants m.variants.0 place h.variants.0.entries
+variants_few m place Inline h = few_items (IsVariant (length m.glyphs)) (length m.glyphs) most_variants m.variants.1 place h.variants.1.entries
 
 pub parts_in : (m : MetricsValue) (place : ℕ) (axis : Axis) → IsTaken m
     → All (IsPart (length m.glyphs)) (parts_of m place axis)
 unfolding parts_of
-parts_in m place Block h = all_items (IsPart (length m.glyphs)) (length m.glyphs) most_parts m.block_parts place h.block_parts.entries
-parts_in m place Inline h = all_items (IsPart (length m.glyphs)) (length m.glyphs) most_parts m.inline_parts place h.inline_parts.entries
+parts_in m place Block h = all_items (IsPart (length m.glyphs)) (length m.glyphs) most_parts m.parts.0 place h.parts.0.entries
+parts_in m place Inline h = all_items (IsPart (length m.glyphs)) (length m.glyphs) most_parts m.parts.1 place h.parts.1.entries
 
 pub parts_few : (m : MetricsValue) (place : ℕ) (axis : Axis) → IsTaken m → length (parts_of m place axis) ≤ 16
 unfolding parts_of
-parts_few m place Block h = few_items (IsPart (length m.glyphs)) (length m.glyphs) most_parts m.block_parts place h.block_parts.entries
-parts_few m place Inline h = few_items (IsPart (length m.glyphs)) (length m.glyphs) most_parts m.inline_parts place h.inline_parts.entries
+parts_few m place Block h = few_items (IsPart (length m.glyphs)) (length m.glyphs) most_parts m.parts.0 place h.parts.0.entries
+parts_few m place Inline h = few_items (IsPart (length m.glyphs)) (length m.glyphs) most_parts m.parts.1 place h.parts.1.entries
 
 -- ---- constants
 

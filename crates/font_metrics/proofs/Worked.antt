@@ -29,10 +29,8 @@ a-small-file : metrics_of (header ++ missing_line) ≡ Ok (record {
   constants = [];
   glyphs = record { name = codes "missing"; glyph = record { advance = pos 512; ink_ascent = pos 600; ink_descent = pos 0; italic = pos 0; accent = None } } ∷ [];
   characters = [];
-  block_variants = [];
-  inline_variants = [];
-  block_parts = [];
-  inline_parts = [];
+  variants = ([], []);
+  parts = ([], []);
   operators = [];
 })
 unfolding metrics_of after_first after finished is_foreign words_of keyword_of value_of_digits numeral_of number_of number_in natural_in is_name name_in

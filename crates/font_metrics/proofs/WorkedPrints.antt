@@ -23,10 +23,8 @@ small = record {
   constants = [];
   glyphs = record { name = codes "missing"; glyph = record { advance = pos 512; ink_ascent = pos 600; ink_descent = pos 0; italic = pos 0; accent = None } } ∷ [];
   characters = [];
-  block_variants = [];
-  inline_variants = [];
-  block_parts = [];
-  inline_parts = [];
+  variants = ([], []);
+  parts = ([], []);
   operators = [];
 }
 
@@ -44,9 +42,8 @@ rich = record small {
   constants = (0, pos 0) ∷ (5, negsuc 255) ∷ [];
   glyphs = small.glyphs ++ record { name = codes "bar.v"; glyph = glyph_of (pos 0) } ∷ [];
   characters = (0x7C, 1) ∷ (0x1D400, 0) ∷ [];
-  block_variants = (1, record { glyph = record { 0 = 0 }; measure = pos 900 } ∷ []) ∷ [];
-  inline_variants = (0, record { glyph = record { 0 = 1 }; measure = pos 9 } ∷ []) ∷ (1, record { glyph = record { 0 = 1 }; measure = pos 0 } ∷ []) ∷ [];
-  block_parts = (1, record { glyph = record { 0 = 1 }; extender = true; start = pos 1; end = pos 2; full = pos 3 } ∷ record { glyph = record { 0 = 0 }; extender = false; start = pos 4; end = pos 5; full = pos 6 } ∷ []) ∷ [];
+  variants = ((1, record { glyph = record { 0 = 0 }; measure = pos 900 } ∷ []) ∷ [], (0, record { glyph = record { 0 = 1 }; measure = pos 9 } ∷ []) ∷ (1, record { glyph = record { 0 = 1 }; measure = pos 0 } ∷ []) ∷ []);
+  parts = ((1, record { glyph = record { 0 = 1 }; extender = true; start = pos 1; end = pos 2; full = pos 3 } ∷ record { glyph = record { 0 = 0 }; extender = false; start = pos 4; end = pos 5; full = pos 6 } ∷ []) ∷ [], []);
   operators = record { text = Two 0x3D 0x338; form = Infix; category = B; axis = Block } ∷ record { text = One 0x27F6; form = Postfix; category = Default; axis = Inline } ∷ [];
 }
 

@@ -7,5 +7,6 @@ pub mod Lines
 pub mod Reading
 pub mod Reads
 pub mod Kept
+pub mod Said
 pub mod Whole
 pub mod Print

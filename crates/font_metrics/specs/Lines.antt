@@ -3,13 +3,15 @@ use Rattle.std.specs.Prelude.{ℕ, ℤ, pos, negsuc, if◌then◌else◌, List, 
 use Rattle.std.specs.Str.{bytes_eq}
 use Rattle.std.specs.Borrow.{Bor}
 use Rattle.op_dictionary.specs.declared.extra.OperatorLine.{OperatorLine}
-use Rattle.font_metrics.specs.declared.fault.LineFault.TheVariants.{FieldCount, NotNamed}
+use Rattle.op_dictionary.specs.declared.operator.Axis.{Axis}
+use Rattle.op_dictionary.specs.declared.operator.Axis.TheVariants.{Block, Inline}
+use Rattle.font_metrics.specs.declared.fault.LineFault.TheVariants.{UnknownWord, FieldCount, NotNamed}
 use Rattle.font_metrics.specs.declared.growth.Variant.{Variant}
 use Rattle.font_metrics.specs.declared.growth.Part.{Part}
 use Rattle.font_metrics.specs.declared.keyword.Keyword.{Keyword}
-use Rattle.font_metrics.specs.declared.keyword.Keyword.TheVariants.{Upem, Line, XHeight, Overlap, Constant, Glyph, Char, BlockVariant, InlineVariant, BlockPart, InlinePart, Operator, Unknown}
+use Rattle.font_metrics.specs.declared.keyword.Keyword.TheVariants.{Upem, Line, XHeight, Overlap, Constant, Glyph, Char, Variant as VariantOf, Part as PartOf, Operator, Unknown}
 use Rattle.font_metrics.specs.Constants.{place_of_text, lowest_of, highest_of}
-use Rattle.font_metrics.specs.Faults.{Step, ◌>>=◌, or_fault}
+use Rattle.font_metrics.specs.Faults.{Step, ◌>>=◌, step_map, or_fault}
 use Rattle.font_metrics.specs.Metrics.{NamedGlyph, place_of_name}
 use Rattle.font_metrics.specs.Words.{number_in, natural_in, letter_in, name_in, operator_text_in, extender_in, form_in, category_in, axis_in}
 
@@ -36,10 +38,10 @@ keyword_of word =
     else if bytes_eq word (codes "const") then Constant
     else if bytes_eq word (codes "glyph") then Glyph
     else if bytes_eq word (codes "char") then Char
-    else if bytes_eq word (codes "vvariant") then BlockVariant
-    else if bytes_eq word (codes "hvariant") then InlineVariant
-    else if bytes_eq word (codes "vassembly") then BlockPart
-    else if bytes_eq word (codes "hassembly") then InlinePart
+    else if bytes_eq word (codes "vvariant") then VariantOf Block
+    else if bytes_eq word (codes "hvariant") then VariantOf Inline
+    else if bytes_eq word (codes "vassembly") then PartOf Block
+    else if bytes_eq word (codes "hassembly") then PartOf Inline
     else if bytes_eq word (codes "operator") then Operator
     else Unknown
 
@@ -193,3 +195,33 @@ operator_with text form category axis = do
 abbrev pub operator_in : Words → Step OperatorLine
 operator_in (text ∷ form ∷ category ∷ axis ∷ []) = operator_with text form category axis
 operator_in fields = Err FieldCount
+
+-- ---- what a line says
+
+-- a line behind the first, whose fields are read: a base glyph's place stands before its variant or
+-- part, and a constant's place before its value
+pub data Item : Type 0 where
+  SaysUpem : ℕ → Item
+  SaysLine : ℕ × ℕ → Item
+  SaysXHeight : ℕ → Item
+  SaysOverlap : ℕ → Item
+  SaysConstant : ℕ × ℤ → Item
+  SaysGlyph : NamedGlyph → Item
+  SaysCharacter : ℕ × ℕ → Item
+  SaysVariant : Axis → ℕ × Variant → Item
+  SaysPart : Axis → ℕ × Part → Item
+  SaysOperator : OperatorLine → Item
+
+-- by the first word and the fields, where lines before have named these glyphs
+abbrev pub item_in : List NamedGlyph → Keyword → Words → Step Item
+item_in glyphs Upem fields = step_map SaysUpem (upem_in fields)
+item_in glyphs Line fields = step_map SaysLine (line_in fields)
+item_in glyphs XHeight fields = step_map SaysXHeight (one_length_in fields)
+item_in glyphs Overlap fields = step_map SaysOverlap (one_length_in fields)
+item_in glyphs Constant fields = step_map SaysConstant (constant_in fields)
+item_in glyphs Glyph fields = step_map SaysGlyph (glyph_in fields)
+item_in glyphs Char fields = step_map SaysCharacter (character_in glyphs fields)
+item_in glyphs (VariantOf axis) fields = step_map (SaysVariant axis) (variant_in glyphs fields)
+item_in glyphs (PartOf axis) fields = step_map (SaysPart axis) (part_in glyphs fields)
+item_in glyphs Operator fields = step_map SaysOperator (operator_in fields)
+item_in glyphs Unknown fields = Err UnknownWord

@@ -1,7 +1,8 @@
 -- What a metrics file says, and what is read off it at a font size.
-use Rattle.std.specs.Prelude.{ℕ, ℤ, pos, ◌*ℤ◌, if◌then◌else◌, List, [], codes, Option, Some, None, unwrap_or, nat_eq, slice_index_or, position}
+use Rattle.std.specs.Prelude.{ℕ, ℤ, pos, ◌*ℤ◌, if◌then◌else◌, List, [], codes, Option, Some, None, unwrap_or, nat_eq, slice_index_or, position, Bool, nat_le, ◌∷◌, ◌++◌, length}
+use Rattle.std.specs.BTreeMap.{insert_entry}
 use Rattle.std.specs.Map.{lookup}
-use Rattle.std.specs.Ordering.{int_eq}
+use Rattle.std.specs.Ordering.{nat_cmp, int_eq}
 use Rattle.std.specs.Str.{bytes_eq}
 use Rattle.fixed_units.specs.Numbers.{rounded}
 use Rattle.op_dictionary.specs.declared.extra.OperatorLine.{OperatorLine}
@@ -23,6 +24,19 @@ pub record NamedGlyph : Type 0 where
 abbrev pub ByGlyph : Type 0 → Type 0
 ByGlyph X = List (ℕ × List X)
 
+-- a table for each axis: first for block, then for inline
+abbrev pub ByAxis : Type 0 → Type 0
+ByAxis X = ByGlyph X × ByGlyph X
+
+abbrev pub along : {X : Type 0} → Axis → ByAxis X → ByGlyph X
+along Block tables = tables.0
+along Inline tables = tables.1
+
+-- the tables with this one along the axis
+abbrev pub with_along : {X : Type 0} → Axis → ByAxis X → ByGlyph X → ByAxis X
+with_along Block tables table = (table, tables.1)
+with_along Inline tables table = (tables.0, table)
+
 -- The numbers of a metrics file in design units; what may lack is an option. Glyphs and operator
 -- lines stand in file order. Constants are pairs of a place in the table of constants and a value,
 -- by that place; characters are pairs of a code and the place of a glyph, by that code.
@@ -35,10 +49,8 @@ pub record MetricsValue : Type 0 where
   pub constants : List (ℕ × ℤ)
   pub glyphs : List NamedGlyph
   pub characters : List (ℕ × ℕ)
-  pub block_variants : ByGlyph Variant
-  pub inline_variants : ByGlyph Variant
-  pub block_parts : ByGlyph Part
-  pub inline_parts : ByGlyph Part
+  pub variants : ByAxis Variant
+  pub parts : ByAxis Part
   pub operators : List OperatorLine
 
 -- ---- what is looked up
@@ -54,6 +66,17 @@ place_of_code characters code = lookup (nat_eq code) characters
 -- what a table has at a glyph
 abbrev pub items_of : {X : Type 0} → ByGlyph X → ℕ → List X
 items_of table place = unwrap_or (lookup (nat_eq place) table) []
+
+-- a table with one more item of a glyph, behind those that it has
+abbrev pub with_item : {X : Type 0} → ByGlyph X → ℕ → X → ByGlyph X
+with_item table place item = insert_entry nat_cmp table place (items_of table place ++ item ∷ [])
+
+abbrev pub with_item_along : {X : Type 0} → Axis → ByAxis X → ℕ → X → ByAxis X
+with_item_along axis tables place item = with_along axis tables (with_item (along axis tables) place item)
+
+-- the glyph has as many items as it may have
+abbrev pub is_full : {X : Type 0} → ℕ → ByGlyph X → ℕ → Bool
+is_full most table place = nat_le most (length (items_of table place))
 
 -- the place of the glyph that stands for what a font lacks
 unfoldable pub missing_place : MetricsValue → ℕ
@@ -83,20 +106,12 @@ unfoldable pub name_at : MetricsValue → ℕ → List ℕ
 name_at m place = name_in_list m.glyphs place
 
 -- the variants of a glyph along an axis, in file order
-abbrev pub variants_along : Axis → MetricsValue → ByGlyph Variant
-variants_along Block m = m.block_variants
-variants_along Inline m = m.inline_variants
-
 unfoldable pub variants_of : MetricsValue → ℕ → Axis → List Variant
-variants_of m place axis = items_of (variants_along axis m) place
+variants_of m place axis = items_of (along axis m.variants) place
 
 -- the parts of a glyph's assembly along an axis, in file order
-abbrev pub parts_along : Axis → MetricsValue → ByGlyph Part
-parts_along Block m = m.block_parts
-parts_along Inline m = m.inline_parts
-
 unfoldable pub parts_of : MetricsValue → ℕ → Axis → List Part
-parts_of m place axis = items_of (parts_along axis m) place
+parts_of m place axis = items_of (along axis m.parts) place
 
 -- ---- values at a font size
 

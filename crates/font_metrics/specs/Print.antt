@@ -16,7 +16,7 @@ use Rattle.font_metrics.specs.declared.growth.Variant.{Variant}
 use Rattle.font_metrics.specs.declared.growth.Part.{Part}
 use Rattle.font_metrics.specs.Constants.{constant_texts}
 use Rattle.font_metrics.specs.Lines.{Words}
-use Rattle.font_metrics.specs.Metrics.{NamedGlyph, MetricsValue, name_in_list, items_of}
+use Rattle.font_metrics.specs.Metrics.{NamedGlyph, MetricsValue, name_in_list, along, items_of}
 use Rattle.font_metrics.specs.Reading.{metrics_of}
 use Rattle.font_metrics.specs.Taken.{IsTaken}
 use Rattle.font_metrics.specs.Words.{plus}
@@ -121,13 +121,29 @@ part_words keyword glyphs place p =
     ∷ extender_text p.extender ∷ signed_decimal p.start ∷ signed_decimal p.end
     ∷ signed_decimal p.full ∷ []
 
--- the lines of what the glyph at a place grows by, each list in file order
+-- the keywords of the variants and of the parts along an axis
+abbrev pub variant_keyword : Axis → List ℕ
+variant_keyword Block = codes "vvariant"
+variant_keyword Inline = codes "hvariant"
+
+abbrev pub part_keyword : Axis → List ℕ
+part_keyword Block = codes "vassembly"
+part_keyword Inline = codes "hassembly"
+
+-- the lines of the variants and of the parts of the glyph at a place along an axis, in file order
+abbrev pub variant_lines : MetricsValue → ℕ → Axis → List Words
+variant_lines m place axis =
+    map (variant_words (variant_keyword axis) m.glyphs place) (items_of (along axis m.variants) place)
+
+abbrev pub part_lines : MetricsValue → ℕ → Axis → List Words
+part_lines m place axis =
+    map (part_words (part_keyword axis) m.glyphs place) (items_of (along axis m.parts) place)
+
+-- the lines of what the glyph at a place grows by
 abbrev pub growth_lines : MetricsValue → ℕ → List Words
 growth_lines m place =
-    map (variant_words (codes "vvariant") m.glyphs place) (items_of m.block_variants place)
-    ++ map (variant_words (codes "hvariant") m.glyphs place) (items_of m.inline_variants place)
-    ++ map (part_words (codes "vassembly") m.glyphs place) (items_of m.block_parts place)
-    ++ map (part_words (codes "hassembly") m.glyphs place) (items_of m.inline_parts place)
+    variant_lines m place Block ++ variant_lines m place Inline
+    ++ part_lines m place Block ++ part_lines m place Inline
 
 abbrev pub operator_words : OperatorLine → Words
 operator_words line =

@@ -1,22 +1,20 @@
 -- What a metrics file says: the first fault of its lines, or what all of them give.
-use Rattle.std.specs.Prelude.{ℕ, ◌+◌, Bool, true, false, not, ◌&&◌, ◌||◌, nat_eq, nat_le, if◌then◌else◌, List, [], ◌∷◌, ◌++◌, length, codes, Option, Some, None, is_some, Result, Ok, Err, ℤ}
+use Rattle.std.specs.Prelude.{ℕ, ◌+◌, Bool, true, false, not, ◌&&◌, ◌||◌, nat_eq, nat_le, if◌then◌else◌, List, [], ◌∷◌, ◌++◌, length, codes, Option, Some, None, is_some, Result, Ok, Err}
 use Rattle.std.specs.List.{slice_split, list_any, filter}
 use Rattle.std.specs.Map.{lookup}
 use Rattle.std.specs.BTreeMap.{insert_entry}
 use Rattle.std.specs.Ordering.{nat_cmp}
 use Rattle.std.specs.Str.{bytes_eq}
 use Rattle.std.specs.Str.Lines.{lines}
-use Rattle.op_dictionary.specs.declared.extra.OperatorLine.{OperatorLine}
 use Rattle.op_dictionary.specs.Dictionary.{is_named}
 use Rattle.font_metrics.specs.declared.fault.LineFault.{LineFault}
-use Rattle.font_metrics.specs.declared.fault.LineFault.TheVariants.{ForeignByte, WrongFirstLine, UnknownWord, Repeated, TooMany, NoUpem, NoLine, NoXHeight, NoMissing}
-use Rattle.font_metrics.specs.declared.growth.Variant.{Variant}
-use Rattle.font_metrics.specs.declared.growth.Part.{Part}
+use Rattle.font_metrics.specs.declared.fault.LineFault.TheVariants.{ForeignByte, WrongFirstLine, Repeated, TooMany, NoUpem, NoLine, NoXHeight, NoMissing}
+use Rattle.font_metrics.specs.declared.given.Given.{Given}
+use Rattle.font_metrics.specs.declared.given.Needed.{Needed}
 use Rattle.font_metrics.specs.declared.keyword.Keyword.{Keyword}
-use Rattle.font_metrics.specs.declared.keyword.Keyword.TheVariants.{Upem, Line, XHeight, Overlap, Constant, Glyph, Char, BlockVariant, InlineVariant, BlockPart, InlinePart, Operator, Unknown}
-use Rattle.font_metrics.specs.Faults.{Step, ◌>>=◌, or_fault, fault_if}
-use Rattle.font_metrics.specs.Lines.{Words, keyword_of, upem_in, line_in, one_length_in, constant_in, glyph_in, character_in, variant_in, part_in, operator_in}
-use Rattle.font_metrics.specs.Metrics.{NamedGlyph, MetricsValue, ByGlyph, items_of, place_of_name}
+use Rattle.font_metrics.specs.Faults.{Step, ◌>>=◌, step_map, or_fault, fault_if}
+use Rattle.font_metrics.specs.Lines.{Words, Item, SaysUpem, SaysLine, SaysXHeight, SaysOverlap, SaysConstant, SaysGlyph, SaysCharacter, SaysVariant, SaysPart, SaysOperator, keyword_of, item_in}
+use Rattle.font_metrics.specs.Metrics.{MetricsValue, along, with_item_along, is_full, place_of_name}
 use Rattle.font_metrics.specs.Taken.{most_glyphs, most_variants, most_parts}
 
 -- ---- lines and words
@@ -53,21 +51,7 @@ is_foreign line = not (is_comment line) && list_any (λ b. not (is_plain b)) lin
 
 -- ---- what lines give
 
--- what the lines before have given; the fields are those of the metrics
-pub record Given : Type 0 where
-  pub upem : Option ℕ
-  pub line : Option (ℕ × ℕ)
-  pub x_height : Option ℕ
-  pub overlap : Option ℕ
-  pub constants : List (ℕ × ℤ)
-  pub glyphs : List NamedGlyph
-  pub characters : List (ℕ × ℕ)
-  pub block_variants : ByGlyph Variant
-  pub inline_variants : ByGlyph Variant
-  pub block_parts : ByGlyph Part
-  pub inline_parts : ByGlyph Part
-  pub operators : List OperatorLine
-
+-- before any line
 abbrev pub nothing : Given
 nothing = record {
   upem = None;
@@ -77,106 +61,48 @@ nothing = record {
   constants = [];
   glyphs = [];
   characters = [];
-  block_variants = [];
-  inline_variants = [];
-  block_parts = [];
-  inline_parts = [];
+  variants = ([], []);
+  parts = ([], []);
   operators = [];
 }
 
--- a table with one more item of a glyph, behind those that it has
-abbrev pub with_item : {X : Type 0} → ByGlyph X → ℕ → X → ByGlyph X
-with_item table place item = insert_entry nat_cmp table place (items_of table place ++ item ∷ [])
+-- whether an item may follow what is given: what is repeated, then what is too many
+abbrev pub allowed : Given → Item → Step (Unit {0})
+allowed given (SaysUpem n) = fault_if (is_some given.upem) Repeated
+allowed given (SaysLine n) = fault_if (is_some given.line) Repeated
+allowed given (SaysXHeight n) = fault_if (is_some given.x_height) Repeated
+allowed given (SaysOverlap n) = fault_if (is_some given.overlap) Repeated
+allowed given (SaysConstant c) = fault_if (is_some (lookup (nat_eq c.0) given.constants)) Repeated
+allowed given (SaysGlyph g) = do
+  new ← fault_if (is_some (place_of_name given.glyphs g.name)) Repeated
+  fault_if (nat_le most_glyphs (length given.glyphs)) TooMany
+allowed given (SaysCharacter c) = fault_if (is_some (lookup (nat_eq c.0) given.characters)) Repeated
+allowed given (SaysVariant axis v) = fault_if (is_full most_variants (along axis given.variants) v.0) TooMany
+allowed given (SaysPart axis p) = fault_if (is_full most_parts (along axis given.parts) p.0) TooMany
+allowed given (SaysOperator line) = fault_if (is_named given.operators line.text line.form) Repeated
 
--- the glyph has as many items as it may have
-abbrev pub is_full : {X : Type 0} → ℕ → ByGlyph X → ℕ → Bool
-is_full most table place = nat_le most (length (items_of table place))
+-- what is given with one item more
+abbrev pub put : Given → Item → Given
+put given (SaysUpem n) = record given { upem = Some n }
+put given (SaysLine n) = record given { line = Some n }
+put given (SaysXHeight n) = record given { x_height = Some n }
+put given (SaysOverlap n) = record given { overlap = Some n }
+put given (SaysConstant c) =
+    record given { constants = insert_entry nat_cmp given.constants c.0 c.1 }
+put given (SaysGlyph g) = record given { glyphs = given.glyphs ++ g ∷ [] }
+put given (SaysCharacter c) =
+    record given { characters = insert_entry nat_cmp given.characters c.0 c.1 }
+put given (SaysVariant axis v) =
+    record given { variants = with_item_along axis given.variants v.0 v.1 }
+put given (SaysPart axis p) = record given { parts = with_item_along axis given.parts p.0 p.1 }
+put given (SaysOperator line) = record given { operators = given.operators ++ line ∷ [] }
 
--- what is given after a line of each kind: its fields, then what is repeated, then what is too many
-abbrev pub after_upem : Given → Words → Step Given
-after_upem given fields = do
-  units ← upem_in fields
-  new ← fault_if (is_some given.upem) Repeated
-  Ok (record given { upem = Some units })
-
-abbrev pub after_line : Given → Words → Step Given
-after_line given fields = do
-  reach ← line_in fields
-  new ← fault_if (is_some given.line) Repeated
-  Ok (record given { line = Some reach })
-
-abbrev pub after_x_height : Given → Words → Step Given
-after_x_height given fields = do
-  height ← one_length_in fields
-  new ← fault_if (is_some given.x_height) Repeated
-  Ok (record given { x_height = Some height })
-
-abbrev pub after_overlap : Given → Words → Step Given
-after_overlap given fields = do
-  least ← one_length_in fields
-  new ← fault_if (is_some given.overlap) Repeated
-  Ok (record given { overlap = Some least })
-
-abbrev pub after_constant : Given → Words → Step Given
-after_constant given fields = do
-  constant ← constant_in fields
-  new ← fault_if (is_some (lookup (nat_eq constant.0) given.constants)) Repeated
-  Ok (record given { constants = insert_entry nat_cmp given.constants constant.0 constant.1 })
-
-abbrev pub after_glyph : Given → Words → Step Given
-after_glyph given fields = do
-  glyph ← glyph_in fields
-  new ← fault_if (is_some (place_of_name given.glyphs glyph.name)) Repeated
-  room ← fault_if (nat_le most_glyphs (length given.glyphs)) TooMany
-  Ok (record given { glyphs = given.glyphs ++ glyph ∷ [] })
-
-abbrev pub after_character : Given → Words → Step Given
-after_character given fields = do
-  character ← character_in given.glyphs fields
-  new ← fault_if (is_some (lookup (nat_eq character.0) given.characters)) Repeated
-  Ok (record given { characters = insert_entry nat_cmp given.characters character.0 character.1 })
-
--- a table with one more variant, or one more part, of a glyph
-abbrev pub one_variant_more : List NamedGlyph → ByGlyph Variant → Words → Step (ByGlyph Variant)
-one_variant_more glyphs table fields = do
-  variant ← variant_in glyphs fields
-  room ← fault_if (is_full most_variants table variant.0) TooMany
-  Ok (with_item table variant.0 variant.1)
-
-abbrev pub one_part_more : List NamedGlyph → ByGlyph Part → Words → Step (ByGlyph Part)
-one_part_more glyphs table fields = do
-  part ← part_in glyphs fields
-  room ← fault_if (is_full most_parts table part.0) TooMany
-  Ok (with_item table part.0 part.1)
-
-abbrev pub after_operator : Given → Words → Step Given
-after_operator given fields = do
-  line ← operator_in fields
-  new ← fault_if (is_named given.operators line.text line.form) Repeated
-  Ok (record given { operators = given.operators ++ line ∷ [] })
-
+-- what is given after the fields of a line: what they say, whether it may follow, and then with it
 abbrev pub after_fields : Given → Keyword → Words → Step Given
-after_fields given Upem fields = after_upem given fields
-after_fields given Line fields = after_line given fields
-after_fields given XHeight fields = after_x_height given fields
-after_fields given Overlap fields = after_overlap given fields
-after_fields given Constant fields = after_constant given fields
-after_fields given Glyph fields = after_glyph given fields
-after_fields given Char fields = after_character given fields
-after_fields given BlockVariant fields = do
-  table ← one_variant_more given.glyphs given.block_variants fields
-  Ok (record given { block_variants = table })
-after_fields given InlineVariant fields = do
-  table ← one_variant_more given.glyphs given.inline_variants fields
-  Ok (record given { inline_variants = table })
-after_fields given BlockPart fields = do
-  table ← one_part_more given.glyphs given.block_parts fields
-  Ok (record given { block_parts = table })
-after_fields given InlinePart fields = do
-  table ← one_part_more given.glyphs given.inline_parts fields
-  Ok (record given { inline_parts = table })
-after_fields given Operator fields = after_operator given fields
-after_fields given Unknown fields = Err UnknownWord
+after_fields given keyword fields = do
+  item ← item_in given.glyphs keyword fields
+  free ← allowed given item
+  Ok (put given item)
 
 abbrev pub after_words : Given → Words → Step Given
 after_words given [] = Ok given
@@ -243,32 +169,37 @@ first_fault_behind before (line ∷ lines) =
 
 -- ---- the whole file
 
--- the metrics, or what the file ended without
-abbrev pub whole_of : Option ℕ → Option (ℕ × ℕ) → Option ℕ → Option ℕ → Given → Step MetricsValue
-whole_of upem line x_height missing given = do
+-- what a file has to give, or what it ended without
+abbrev pub needed_of : Option ℕ → Option (ℕ × ℕ) → Option ℕ → Option ℕ → Step Needed
+needed_of upem line x_height missing = do
   units ← or_fault NoUpem upem
   reach ← or_fault NoLine line
   height ← or_fault NoXHeight x_height
   place ← or_fault NoMissing missing
-  Ok (record {
-    upem = units;
-    line_ascent = reach.0;
-    line_descent = reach.1;
-    x_height = height;
-    overlap = given.overlap;
-    constants = given.constants;
-    glyphs = given.glyphs;
-    characters = given.characters;
-    block_variants = given.block_variants;
-    inline_variants = given.inline_variants;
-    block_parts = given.block_parts;
-    inline_parts = given.inline_parts;
-    operators = given.operators;
-  })
+  Ok (record { upem = units; line = reach; x_height = height; missing = place })
+
+abbrev pub needed : Given → Step Needed
+needed given =
+    needed_of given.upem given.line given.x_height (place_of_name given.glyphs (codes "missing"))
+
+-- the metrics of what is given
+abbrev pub metrics_with : Needed → Given → MetricsValue
+metrics_with needs given = record {
+  upem = needs.upem;
+  line_ascent = needs.line.0;
+  line_descent = needs.line.1;
+  x_height = needs.x_height;
+  overlap = given.overlap;
+  constants = given.constants;
+  glyphs = given.glyphs;
+  characters = given.characters;
+  variants = given.variants;
+  parts = given.parts;
+  operators = given.operators;
+}
 
 unfoldable pub finished : Given → Step MetricsValue
-finished given =
-    whole_of given.upem given.line given.x_height (place_of_name given.glyphs (codes "missing")) given
+finished given = step_map (λ needs. metrics_with needs given) (needed given)
 
 abbrev pub numbered : ℕ → Step MetricsValue → Result MetricsValue Fault
 numbered number (Ok metrics) = Ok metrics

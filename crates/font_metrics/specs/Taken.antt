@@ -13,7 +13,7 @@ use Rattle.font_metrics.specs.declared.glyph.Glyph.{Glyph}
 use Rattle.font_metrics.specs.declared.growth.Variant.{Variant}
 use Rattle.font_metrics.specs.declared.growth.Part.{Part}
 use Rattle.font_metrics.specs.Constants.{lowest_of, highest_of}
-use Rattle.font_metrics.specs.Metrics.{NamedGlyph, MetricsValue, ByGlyph, place_of_name}
+use Rattle.font_metrics.specs.Metrics.{NamedGlyph, MetricsValue, ByGlyph, ByAxis, place_of_name}
 use Rattle.font_metrics.specs.Words.{is_scalar, is_in_pair, is_name}
 
 -- a glyph's number has 16 bits, and the last of them isn't given
@@ -52,11 +52,7 @@ pub record IsMeasured (g : Glyph) : Type 0 where
 
 pub record IsGlyph (g : NamedGlyph) : Type 0 where
   pub name : IsTrue (is_name g.name)
-  pub advance : IsLength g.glyph.advance
-  pub ink_ascent : IsReach g.glyph.ink_ascent
-  pub ink_descent : IsReach g.glyph.ink_descent
-  pub italic : IsReach g.glyph.italic
-  pub accent : IfSome g.glyph.accent IsReach
+  pub measures : IsMeasured g.glyph
 
 -- a constant in its range
 abbrev pub IsConstant : ℕ × ℤ → Type 0
@@ -88,6 +84,10 @@ pub record IsTable {X : Type 0} (count most : ℕ) (Is : X → Type 0) (table : 
   pub ordered : IsStrictlySortedBy nat_cmp (keys_of table)
   pub entries : All (IsEntry count most Is) table
 
+-- those along both axes
+abbrev pub AreTables : {X : Type 0} → ℕ → ℕ → (X → Type 0) → ByAxis X → Type 0
+AreTables count most Is tables = IsTable count most Is tables.0 × IsTable count most Is tables.1
+
 -- the text of an operator line, of one character or two
 abbrev pub IsOperatorText : OpText → Type 0
 IsOperatorText Empty = ⊥
@@ -114,9 +114,7 @@ pub record IsTaken (m : MetricsValue) : Type 0 where
   pub missing : IsSome (place_of_name m.glyphs (codes "missing"))
   pub characters : All (IsCharacter (length m.glyphs)) m.characters
   pub characters_ordered : IsStrictlySortedBy nat_cmp (keys_of m.characters)
-  pub block_variants : IsTable (length m.glyphs) most_variants (IsVariant (length m.glyphs)) m.block_variants
-  pub inline_variants : IsTable (length m.glyphs) most_variants (IsVariant (length m.glyphs)) m.inline_variants
-  pub block_parts : IsTable (length m.glyphs) most_parts (IsPart (length m.glyphs)) m.block_parts
-  pub inline_parts : IsTable (length m.glyphs) most_parts (IsPart (length m.glyphs)) m.inline_parts
+  pub variants : AreTables (length m.glyphs) most_variants (IsVariant (length m.glyphs)) m.variants
+  pub parts : AreTables (length m.glyphs) most_parts (IsPart (length m.glyphs)) m.parts
   pub operators : All (λ line. IsOperatorText line.text) m.operators
   pub operators_distinct : AreDistinct m.operators

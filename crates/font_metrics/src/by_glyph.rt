@@ -1,6 +1,5 @@
 ghost use Rattle.std.specs.Prelude.{◌≡◌, [], ◌∷◌, ◌++◌, OnOk};
-ghost use Rattle.font_metrics.specs.Metrics.{items_of};
-ghost use Rattle.font_metrics.specs.Reading.{with_item};
+ghost use Rattle.font_metrics.specs.Metrics.{items_of, with_item};
 
 use fixed_units::Memory;
 use std::alloc::Global;

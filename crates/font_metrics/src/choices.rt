@@ -2,6 +2,7 @@ ghost use Rattle.std.specs.Prelude.{◌≡◌};
 ghost use Rattle.font_metrics.specs.Words.{extender_in, form_in, category_in, axis_in};
 
 use crate::fault::LineFault;
+use crate::texts::is_text;
 use op_dictionary::{Axis, Category, Form};
 
 /// Whether a part of an assembly is an extender: `FIX` or `EXT`.
@@ -9,9 +10,9 @@ use op_dictionary::{Axis, Category, Form};
 pub fn extender(word: &[u8]) -> Result<bool, LineFault>
     ensures { result ≡ extender_in word.now }
 {
-    if word == b"FIX".as_slice() {
+    if is_text(word, "FIX") {
         Ok(false)
-    } else if word == b"EXT".as_slice() {
+    } else if is_text(word, "EXT") {
         Ok(true)
     } else {
         Err(LineFault::WrongWord)
@@ -23,11 +24,11 @@ pub fn extender(word: &[u8]) -> Result<bool, LineFault>
 pub fn form(word: &[u8]) -> Result<Form, LineFault>
     ensures { result ≡ form_in word.now }
 {
-    if word == b"prefix".as_slice() {
+    if is_text(word, "prefix") {
         Ok(Form::Prefix)
-    } else if word == b"infix".as_slice() {
+    } else if is_text(word, "infix") {
         Ok(Form::Infix)
-    } else if word == b"postfix".as_slice() {
+    } else if is_text(word, "postfix") {
         Ok(Form::Postfix)
     } else {
         Err(LineFault::WrongWord)
@@ -39,9 +40,9 @@ pub fn form(word: &[u8]) -> Result<Form, LineFault>
 pub fn axis(word: &[u8]) -> Result<Axis, LineFault>
     ensures { result ≡ axis_in word.now }
 {
-    if word == b"block".as_slice() {
+    if is_text(word, "block") {
         Ok(Axis::Block)
-    } else if word == b"inline".as_slice() {
+    } else if is_text(word, "inline") {
         Ok(Axis::Inline)
     } else {
         Err(LineFault::WrongWord)
@@ -53,7 +54,7 @@ pub fn axis(word: &[u8]) -> Result<Axis, LineFault>
 pub fn category(word: &[u8]) -> Result<Category, LineFault>
     ensures { result ≡ category_in word.now }
 {
-    if word == b"Default".as_slice() {
+    if is_text(word, "Default") {
         return Ok(Category::Default);
     }
     match word {

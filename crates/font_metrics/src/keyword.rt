@@ -1,8 +1,11 @@
 ghost use Rattle.std.specs.Prelude.{◌≡◌};
 ghost use Rattle.font_metrics.specs.Lines.{keyword_of};
 
+use crate::texts::is_text;
+use op_dictionary::Axis;
+
 /// The first word of a line, which says what its fields are.
-#[derive(Clone, Copy, Debug, PartialEq, Eq)]
+#[derive(Clone, Copy)]
 pub enum Keyword {
     /// `upem`
     Upem,
@@ -18,14 +21,10 @@ pub enum Keyword {
     Glyph,
     /// `char`
     Char,
-    /// `vvariant`
-    BlockVariant,
-    /// `hvariant`
-    InlineVariant,
-    /// `vassembly`
-    BlockPart,
-    /// `hassembly`
-    InlinePart,
+    /// `vvariant`, or `hvariant`
+    Variant(Axis),
+    /// `vassembly`, or `hassembly`
+    Part(Axis),
     /// `operator`
     Operator,
     /// Any other word.
@@ -37,29 +36,29 @@ pub enum Keyword {
 pub fn keyword_of(word: &[u8]) -> Keyword
     ensures { result ≡ keyword_of word.now }
 {
-    if word == b"upem".as_slice() {
+    if is_text(word, "upem") {
         Keyword::Upem
-    } else if word == b"line".as_slice() {
+    } else if is_text(word, "line") {
         Keyword::Line
-    } else if word == b"xheight".as_slice() {
+    } else if is_text(word, "xheight") {
         Keyword::XHeight
-    } else if word == b"overlap".as_slice() {
+    } else if is_text(word, "overlap") {
         Keyword::Overlap
-    } else if word == b"const".as_slice() {
+    } else if is_text(word, "const") {
         Keyword::Constant
-    } else if word == b"glyph".as_slice() {
+    } else if is_text(word, "glyph") {
         Keyword::Glyph
-    } else if word == b"char".as_slice() {
+    } else if is_text(word, "char") {
         Keyword::Char
-    } else if word == b"vvariant".as_slice() {
-        Keyword::BlockVariant
-    } else if word == b"hvariant".as_slice() {
-        Keyword::InlineVariant
-    } else if word == b"vassembly".as_slice() {
-        Keyword::BlockPart
-    } else if word == b"hassembly".as_slice() {
-        Keyword::InlinePart
-    } else if word == b"operator".as_slice() {
+    } else if is_text(word, "vvariant") {
+        Keyword::Variant(Axis::Block)
+    } else if is_text(word, "hvariant") {
+        Keyword::Variant(Axis::Inline)
+    } else if is_text(word, "vassembly") {
+        Keyword::Part(Axis::Block)
+    } else if is_text(word, "hassembly") {
+        Keyword::Part(Axis::Inline)
+    } else if is_text(word, "operator") {
         Keyword::Operator
     } else {
         Keyword::Unknown

@@ -15,12 +15,14 @@
 //!   then `src/lines.rt` and its mirror `src/printed.rt`, then `rt check`.
 #![tactic(auto)]
 
+mod by_axis; // ByAxis: such lists for each axis
 mod by_glyph; // ByGlyph: lists by a glyph's place
 mod characters; // CharacterMap
 mod choices; // words of a small choice: FIX, prefix, block, A
 mod constant_table; // ConstantTable
 mod constants; // ConstName
 mod fault; // LineFault
+mod given; // Given: what lines have given so far
 mod glyph; // GlyphId, Glyph
 mod glyphs; // GlyphTable
 mod growth; // Variant, Part
@@ -34,9 +36,10 @@ mod pieces; // lines of a file, words of a line
 mod print; // Metrics::print
 mod printed; // the lines of a print
 mod read; // read_metrics
-mod reader; // what lines give, one after the other
+mod reader; // line after line
 mod refusal; // MetricsFault, MetricsRefusal
-mod taking; // what a line of each kind gives
+mod said; // Said: what a line says
+mod taking; // what may be said, and is kept
 mod texts; // the texts of a choice
 mod words; // numbers, codes and names
 

@@ -5,12 +5,9 @@ ghost use Rattle.font_metrics.specs.Metrics.{scale_of, constant_of, percent_of, 
 ghost use Rattle.font_metrics.specs.Constants.{place_of_constant};
 ghost use Rattle.font_metrics.specs.Taken.{IsInDesign, IsMeasured, IsConstant, IsVariant, IsPart, IsTaken};
 
-use crate::by_glyph::ByGlyph;
-use crate::characters::CharacterMap;
-use crate::constant_table::ConstantTable;
 use crate::constants::ConstName;
+use crate::given::{Given, Needed};
 use crate::glyph::{Glyph, GlyphId};
-use crate::glyphs::GlyphTable;
 use crate::growth::{Part, Variant};
 use fixed_units::{Ratio, round};
 use op_dictionary::{Axis, Extra};
@@ -20,21 +17,8 @@ use std::marker::Model;
 /// record of what the file says.
 #[derive(Drop)]
 pub struct Metrics {
-    pub(crate) upem: u16,
-    pub(crate) line_ascent: u16,
-    pub(crate) line_descent: u16,
-    pub(crate) x_height: u16,
-    pub(crate) overlap: Option<u16>,
-    pub(crate) constants: ConstantTable,
-    pub(crate) glyphs: GlyphTable,
-    pub(crate) characters: CharacterMap,
-    pub(crate) block_variants: ByGlyph<Variant>,
-    pub(crate) inline_variants: ByGlyph<Variant>,
-    pub(crate) block_parts: ByGlyph<Part>,
-    pub(crate) inline_parts: ByGlyph<Part>,
-    pub(crate) operators: Extra,
-    // The place of the glyph `missing`.
-    pub(crate) missing: u16,
+    pub(crate) needs: Needed,
+    pub(crate) given: Given,
 }
 
 impl Model for Metrics {
@@ -55,7 +39,7 @@ impl Metrics {
     pub fn is_taken(&self)
         ensures { IsTaken self.now }
     {
-        let _ = &self.upem;
+        let _ = &self.needs;
     }
 
     /// A value of at most 2^20 design units at a font size, in units (1/1024 px): the value times
@@ -68,7 +52,7 @@ impl Metrics {
         ensures within { IsWithin (2 ^ 36) result }
         ensures narrow { IsWithin (2 ^ 16) value → IsWithin (2 ^ 32) result }
     {
-        scaled(value, size, self.upem)
+        scaled(value, size, self.needs.upem)
     }
 
     /// A constant at a font size, in units; an absent one is 0. The percents have a call of their
@@ -91,7 +75,7 @@ impl Metrics {
         ensures within { IsWithin (2 ^ 16) result }
         ensures scale_down { IsScaleDown name → (pos 1 ≤ℤ result) × (result ≤ℤ pos 200) }
     {
-        let given = self.given(name);
+        let given = self.given_value(name);
         match name {
             ConstName::ScriptPercentScaleDown => or_default(70, given),
             ConstName::ScriptScriptPercentScaleDown => or_default(50, given),
@@ -106,7 +90,7 @@ impl Metrics {
         ensures value { result ≡ line_ascent_of self.now size }
         ensures within { IsWithin (2 ^ 32) result }
     {
-        self.scale(i64::from(self.line_ascent), size)
+        self.scale(i64::from(self.needs.line.0), size)
     }
 
     /// The descent of a line of text at a font size, in units.
@@ -116,7 +100,7 @@ impl Metrics {
         ensures value { result ≡ line_descent_of self.now size }
         ensures within { IsWithin (2 ^ 32) result }
     {
-        self.scale(i64::from(self.line_descent), size)
+        self.scale(i64::from(self.needs.line.1), size)
     }
 
     /// One ex at a font size, in units.
@@ -126,7 +110,7 @@ impl Metrics {
         ensures value { result ≡ ex_of self.now size }
         ensures within { IsWithin (2 ^ 32) result }
     {
-        self.scale(i64::from(self.x_height), size)
+        self.scale(i64::from(self.needs.x_height), size)
     }
 
     /// The least overlap of an assembly's connectors, in design units; 0 where absent.
@@ -134,7 +118,7 @@ impl Metrics {
         ensures value { result ≡ overlap_of self.now }
         ensures within { IsWithin (2 ^ 16) result }
     {
-        i64::from(self.overlap.unwrap_or(0))
+        i64::from(self.given.overlap.unwrap_or(0))
     }
 
     /// How many glyphs there are. A `GlyphId` below it is one of this font's.
@@ -142,7 +126,7 @@ impl Metrics {
         ensures count { result ≡ length self.now.glyphs }
         ensures within { result ≤ 65535 }
     {
-        self.glyphs.len()
+        self.given.glyphs.len()
     }
 
     /// The glyph that shows a character: the one that the file gives it, else `missing`.
@@ -150,7 +134,12 @@ impl Metrics {
         ensures value { result.0 ≡ place_of_letter self.now letter }
         ensures within { result.0 < length self.now.glyphs }
     {
-        GlyphId(self.characters.place(letter).unwrap_or(self.missing))
+        GlyphId(
+            self.given
+                .characters
+                .place(letter)
+                .unwrap_or(self.needs.missing),
+        )
     }
 
     /// What is known of a glyph, in design units.
@@ -160,7 +149,7 @@ impl Metrics {
         ensures within { IsInDesign result }
         ensures ranges { IsMeasured result }
     {
-        self.glyphs.glyph(usize::from(glyph.0))
+        self.given.glyphs.glyph(usize::from(glyph.0))
     }
 
     /// The name that the file gives a glyph.
@@ -168,7 +157,7 @@ impl Metrics {
         requires { glyph.0 < length self.now.glyphs }
         ensures { result.now ≡ name_at self.now glyph.0 }
     {
-        self.glyphs.name(usize::from(glyph.0))
+        self.given.glyphs.name(usize::from(glyph.0))
     }
 
     /// The variants of a glyph along an axis, in file order; at most 64.
@@ -178,10 +167,7 @@ impl Metrics {
         ensures items { All (IsVariant (length self.now.glyphs)) result.now }
         ensures few { length result.now ≤ 64 }
     {
-        match axis {
-            Axis::Block => self.block_variants.items(glyph.0),
-            Axis::Inline => self.inline_variants.items(glyph.0),
-        }
+        self.given.variants.items(axis, glyph.0)
     }
 
     /// The parts of a glyph's assembly along an axis, in file order; at most 16.
@@ -191,19 +177,16 @@ impl Metrics {
         ensures items { All (IsPart (length self.now.glyphs)) result.now }
         ensures few { length result.now ≤ 16 }
     {
-        match axis {
-            Axis::Block => self.block_parts.items(glyph.0),
-            Axis::Inline => self.inline_parts.items(glyph.0),
-        }
+        self.given.parts.items(axis, glyph.0)
     }
 
     /// A constant as the file gives it.
-    pub(crate) fn given(&self, name: ConstName) -> Option<i64>
+    pub(crate) fn given_value(&self, name: ConstName) -> Option<i64>
         ensures value { result ≡ given_constant self.now name }
         ensures within { IfSome result (IsWithin (2 ^ 16)) }
         ensures range { IfSome result (λ value. IsConstant (place_of_constant name, value)) }
     {
-        let value = self.constants.value(name.place())?;
+        let value = self.given.constants.value(name.place())?;
         Some(i64::from(value))
     }
 
@@ -212,14 +195,14 @@ impl Metrics {
         ensures value { result ≡ unwrap_or (given_constant self.now name) (pos 0) }
         ensures within { IsWithin (2 ^ 16) result }
     {
-        self.given(name).unwrap_or(0)
+        self.given_value(name).unwrap_or(0)
     }
 
     /// The operator lines of the file, in file order.
     pub fn extra(&self) -> &Extra
         ensures { result.now ≡ self.now.operators }
     {
-        &self.operators
+        &self.given.operators
     }
 }
 

@@ -2,7 +2,7 @@ ghost use Rattle.std.specs.Prelude.{◌≡◌, ◌<◌, ◌++◌, All, length, m
 ghost use Rattle.std.specs.List.{range_with_len};
 ghost use Rattle.op_dictionary.specs.Pairs.{IsLineText};
 ghost use Rattle.font_metrics.specs.Metrics.{variants_of, parts_of};
-ghost use Rattle.font_metrics.specs.Print.{constant_words, glyph_words, character_words, variant_words, part_words, growth_lines, operator_words, header_lines, line_text, print_of};
+ghost use Rattle.font_metrics.specs.Print.{constant_words, glyph_words, character_words, variant_keyword, variant_words, part_keyword, part_words, growth_lines, operator_words, header_lines, line_text, print_of};
 ghost use Rattle.font_metrics.specs.Reading.{metrics_of};
 
 use crate::constant_table::ConstantTable;
@@ -10,6 +10,7 @@ use crate::glyph::GlyphId;
 use crate::glyphs::GlyphTable;
 use crate::metrics::Metrics;
 use crate::printed::PrintedLines;
+use crate::texts::{part_keyword, variant_keyword};
 use fixed_units::{List, Memory};
 use op_dictionary::{Axis, Extra};
 use std::alloc::Global;
@@ -23,11 +24,11 @@ impl Metrics {
     {
         let mut lines = PrintedLines::new(alloc);
         self.print_header(&mut lines)?;
-        print_constants(&self.constants, &mut lines)?;
-        print_glyphs(&self.glyphs, &mut lines)?;
+        print_constants(&self.given.constants, &mut lines)?;
+        print_glyphs(&self.given.glyphs, &mut lines)?;
         self.print_characters(&mut lines)?;
         self.print_growth(&mut lines)?;
-        print_operators(&self.operators, &mut lines)?;
+        print_operators(&self.given.operators, &mut lines)?;
         Ok(lines.into_bytes())
     }
 
@@ -36,17 +37,17 @@ impl Metrics {
         ensures { OnOk result (lines.new ≡ lines.old ++ flat_map line_text (header_lines self.now)) }
     {
         lines.add_version()?;
-        lines.add_upem(self.upem)?;
-        lines.add_reach(self.line_ascent, self.line_descent)?;
-        lines.add_x_height(self.x_height)?;
-        lines.add_overlap(self.overlap)
+        lines.add_upem(self.needs.upem)?;
+        lines.add_reach(self.needs.line.0, self.needs.line.1)?;
+        lines.add_x_height(self.needs.x_height)?;
+        lines.add_overlap(self.given.overlap)
     }
 
     fn print_characters(&self, lines: &mut PrintedLines) -> Result<(), Memory>
         ensures { OnOk result (lines.new ≡ lines.old
             ++ flat_map line_text (map (character_words self.now.glyphs) self.now.characters)) }
     {
-        for (letter, place) in self.characters.entries() {
+        for (letter, place) in self.given.characters.entries() {
             lines.add_character(*letter, self.name(GlyphId(*place)))?;
         }
         Ok(())
@@ -59,25 +60,25 @@ impl Metrics {
     {
         for place in 0..self.glyph_count() as u16 {
             let glyph = GlyphId(place);
-            self.print_variants("vvariant", glyph, Axis::Block, lines)?;
-            self.print_variants("hvariant", glyph, Axis::Inline, lines)?;
-            self.print_parts("vassembly", glyph, Axis::Block, lines)?;
-            self.print_parts("hassembly", glyph, Axis::Inline, lines)?;
+            self.print_variants(glyph, Axis::Block, lines)?;
+            self.print_variants(glyph, Axis::Inline, lines)?;
+            self.print_parts(glyph, Axis::Block, lines)?;
+            self.print_parts(glyph, Axis::Inline, lines)?;
         }
         Ok(())
     }
 
     fn print_variants(
         &self,
-        keyword: &str,
         base: GlyphId,
         axis: Axis,
         lines: &mut PrintedLines,
     ) -> Result<(), Memory>
         requires { base.0 < length self.now.glyphs }
         ensures { OnOk result (lines.new ≡ lines.old ++ flat_map line_text
-            (map (variant_words keyword.now self.now.glyphs base.0) (variants_of self.now base.0 axis))) }
+            (map (variant_words (variant_keyword axis) self.now.glyphs base.0) (variants_of self.now base.0 axis))) }
     {
+        let keyword = variant_keyword(axis);
         let name = self.name(base);
         for variant in self.variants(base, axis) {
             lines.add_variant(keyword, name, self.name(variant.glyph), *variant)?;
@@ -85,17 +86,12 @@ impl Metrics {
         Ok(())
     }
 
-    fn print_parts(
-        &self,
-        keyword: &str,
-        base: GlyphId,
-        axis: Axis,
-        lines: &mut PrintedLines,
-    ) -> Result<(), Memory>
+    fn print_parts(&self, base: GlyphId, axis: Axis, lines: &mut PrintedLines) -> Result<(), Memory>
         requires { base.0 < length self.now.glyphs }
         ensures { OnOk result (lines.new ≡ lines.old ++ flat_map line_text
-            (map (part_words keyword.now self.now.glyphs base.0) (parts_of self.now base.0 axis))) }
+            (map (part_words (part_keyword axis) self.now.glyphs base.0) (parts_of self.now base.0 axis))) }
     {
+        let keyword = part_keyword(axis);
         let name = self.name(base);
         for part in self.assembly(base, axis) {
             lines.add_part(keyword, name, self.name(part.glyph), *part)?;

@@ -2,6 +2,7 @@ ghost use Rattle.std.specs.Prelude.{◌≤◌, length};
 ghost use Rattle.font_metrics.specs.Reads.{Reads};
 ghost use Rattle.font_metrics.specs.Reading.{metrics_of};
 
+use crate::given::Given;
 use crate::metrics::Metrics;
 use crate::pieces::first_line;
 use crate::reader::take_first;
@@ -18,20 +19,20 @@ pub fn read_metrics(alloc: Global, bytes: &[u8]) -> Result<Metrics, MetricsRefus
 {
     let (first, mut rest) = first_line(bytes);
     let mut number = 1;
-    let mut reader = match take_first(alloc, first) {
-        Ok(reader) => reader,
-        Err(refusal) => return Err(refusal.at(number)),
-    };
+    if let Err(refusal) = take_first(first) {
+        return Err(refusal.at(number));
+    }
+    let mut given = Given::nothing(alloc);
     while !rest.is_empty() {
         let (line, more) = first_line(rest);
         number += 1;
-        if let Err(refusal) = reader.take(alloc, line) {
+        if let Err(refusal) = given.take(alloc, line) {
             return Err(refusal.at(number));
         }
         rest = more;
     }
-    match reader.finish() {
-        Ok(metrics) => Ok(metrics),
+    match given.needed() {
+        Ok(needs) => Ok(Metrics { needs, given }),
         Err(fault) => Err(LineRefusal::Fault(fault).at(number + 1)),
     }
 }

@@ -1,83 +1,19 @@
 ghost use Rattle.std.specs.Prelude.{◌≡◌, ◌≤◌, length};
 ghost use Rattle.font_metrics.specs.Taken.{most_glyphs};
-ghost use Rattle.font_metrics.specs.Lines.{lent, keyword_of};
-ghost use Rattle.font_metrics.specs.Reading.{Given, nothing, after, after_words, after_fields, after_first, is_version, finished};
+ghost use Rattle.font_metrics.specs.Lines.{lent};
+ghost use Rattle.font_metrics.specs.Reading.{after, after_words, after_fields, after_first, is_version, needed};
 ghost use Rattle.font_metrics.specs.Reads.{Takes, Begins};
-ghost use Rattle.font_metrics.specs.Whole.{IsGiven};
 
-use crate::by_glyph::ByGlyph;
-use crate::characters::CharacterMap;
-use crate::constant_table::ConstantTable;
 use crate::fault::{LineFault, fault_if};
-use crate::glyphs::GlyphTable;
-use crate::growth::{Part, Variant};
+use crate::given::{Given, Needed};
 use crate::keyword::{Keyword, keyword_of};
-use crate::metrics::Metrics;
 use crate::pieces::{is_comment, is_foreign, words};
 use crate::refusal::LineRefusal;
-use op_dictionary::Extra;
+use crate::said::line_says;
+use crate::texts::is_text;
 use std::alloc::Global;
-use std::marker::Model;
 
-/// What the lines of a file have given so far.
-#[derive(Drop)]
-pub struct Reader {
-    pub(crate) upem: Option<u16>,
-    pub(crate) line: Option<(u16, u16)>,
-    pub(crate) x_height: Option<u16>,
-    pub(crate) overlap: Option<u16>,
-    pub(crate) constants: ConstantTable,
-    pub(crate) glyphs: GlyphTable,
-    pub(crate) characters: CharacterMap,
-    pub(crate) block_variants: ByGlyph<Variant>,
-    pub(crate) inline_variants: ByGlyph<Variant>,
-    pub(crate) block_parts: ByGlyph<Part>,
-    pub(crate) inline_parts: ByGlyph<Part>,
-    pub(crate) operators: Extra,
-}
-
-impl Model for Reader {
-    ghost use Rattle.font_metrics.specs.Reading.{Given};
-
-    ghost Value = { Given };
-
-    ghost view = { λ reader. record {
-      upem = reader.upem;
-      line = reader.line;
-      x_height = reader.x_height;
-      overlap = reader.overlap;
-      constants = reader.constants;
-      glyphs = reader.glyphs;
-      characters = reader.characters;
-      block_variants = reader.block_variants;
-      inline_variants = reader.inline_variants;
-      block_parts = reader.block_parts;
-      inline_parts = reader.inline_parts;
-      operators = reader.operators;
-    } };
-}
-
-impl Reader {
-    /// No line yet. It takes no memory.
-    pub fn new(alloc: Global) -> Reader
-        ensures { result ≡ nothing }
-    {
-        Reader {
-            upem: None,
-            line: None,
-            x_height: None,
-            overlap: None,
-            constants: ConstantTable::new(alloc),
-            glyphs: GlyphTable::new(alloc),
-            characters: CharacterMap::new(alloc),
-            block_variants: ByGlyph::new(alloc),
-            inline_variants: ByGlyph::new(alloc),
-            block_parts: ByGlyph::new(alloc),
-            inline_parts: ByGlyph::new(alloc),
-            operators: Extra::make(alloc),
-        }
-    }
-
+impl Given {
     /// Takes a line behind the first, without its line feed.
     #[tactic(auto, unfolding(crate::specs::Reading::after))]
     pub fn take(&mut self, alloc: Global, line: &[u8]) -> Result<(), LineRefusal>
@@ -111,61 +47,38 @@ impl Reader {
         requires { length self.old.glyphs ≤ most_glyphs }
         ensures { Takes (after_fields self.old keyword (lent fields.now)) self.new result }
     {
-        match keyword {
-            Keyword::Upem => self.take_upem(fields),
-            Keyword::Line => self.take_line(fields),
-            Keyword::XHeight => self.take_x_height(fields),
-            Keyword::Overlap => self.take_overlap(fields),
-            Keyword::Constant => self.take_constant(fields),
-            Keyword::Glyph => self.take_glyph(alloc, fields),
-            Keyword::Char => self.take_character(fields),
-            Keyword::BlockVariant => self.take_block_variant(alloc, fields),
-            Keyword::InlineVariant => self.take_inline_variant(alloc, fields),
-            Keyword::BlockPart => self.take_block_part(alloc, fields),
-            Keyword::InlinePart => self.take_inline_part(alloc, fields),
-            Keyword::Operator => self.take_operator(fields),
-            Keyword::Unknown => Err(LineRefusal::Fault(LineFault::UnknownWord)),
-        }
+        let said = line_says(&self.glyphs, keyword, fields)?;
+        self.allow(said)?;
+        self.put(alloc, said)
     }
 
-    /// The metrics, where the lines have given all that these need.
-    #[tactic(auto, unfolding(crate::specs::Reading::finished))]
-    pub fn finish(self) -> Result<Metrics, LineFault>
-        requires { IsGiven self }
-        ensures { result ≡ finished self }
+    /// What metrics need of what is given.
+    pub fn needed(&self) -> Result<Needed, LineFault>
+        requires { length self.now.glyphs ≤ most_glyphs }
+        ensures { result ≡ needed self.now }
     {
         let upem = self.upem.ok_or(LineFault::NoUpem)?;
-        let (line_ascent, line_descent) = self.line.ok_or(LineFault::NoLine)?;
+        let line = self.line.ok_or(LineFault::NoLine)?;
         let x_height = self.x_height.ok_or(LineFault::NoXHeight)?;
         let missing = self.glyphs.place("missing").ok_or(LineFault::NoMissing)?;
-        Ok(Metrics {
+        Ok(Needed {
             upem,
-            line_ascent,
-            line_descent,
+            line,
             x_height,
-            overlap: self.overlap,
-            constants: self.constants,
-            glyphs: self.glyphs,
-            characters: self.characters,
-            block_variants: self.block_variants,
-            inline_variants: self.inline_variants,
-            block_parts: self.block_parts,
-            inline_parts: self.inline_parts,
-            operators: self.operators,
             missing: missing as u16,
         })
     }
 }
 
-/// Takes the first line, which gives nothing.
+/// Whether the first line is the format's.
 #[tactic(auto, unfolding(crate::specs::Reading::after_first))]
-pub fn take_first(alloc: Global, line: &[u8]) -> Result<Reader, LineRefusal>
+pub fn take_first(line: &[u8]) -> Result<(), LineRefusal>
     ensures { Begins (after_first line.now) result }
 {
     fault_if(is_foreign(line), LineFault::ForeignByte)?;
     let words = words(line)?;
     fault_if(!is_version(words.as_slice()), LineFault::WrongFirstLine)?;
-    Ok(Reader::new(alloc))
+    Ok(())
 }
 
 /// Whether the words are `mathlay-metrics` and `1`.
@@ -173,9 +86,7 @@ fn is_version(words: &[&[u8]]) -> bool
     ensures { result ≡ is_version (lent words.now) }
 {
     match words {
-        [name, version] => {
-            (*name == b"mathlay-metrics".as_slice()) & (*version == b"1".as_slice())
-        }
+        [name, version] => is_text(name, "mathlay-metrics") & is_text(version, "1"),
         _ => false,
     }
 }

@@ -1,7 +1,15 @@
 ghost use Rattle.std.specs.Prelude.{◌≡◌};
-ghost use Rattle.font_metrics.specs.Print.{extender_text, form_text, category_text, axis_text};
+ghost use Rattle.std.specs.Str.{bytes_eq};
+ghost use Rattle.font_metrics.specs.Print.{extender_text, form_text, category_text, axis_text, variant_keyword, part_keyword};
 
 use op_dictionary::{Axis, Category, Form};
+
+/// Whether a word is this text, compared exactly.
+pub fn is_text(word: &[u8], text: &str) -> bool
+    ensures { result ≡ bytes_eq word.now text.now }
+{
+    word == text.as_bytes()
+}
 
 /// `FIX`, or `EXT` for an extender.
 pub fn extender_text(extender: bool) -> &'static str
@@ -50,5 +58,25 @@ pub fn axis_text(axis: Axis) -> &'static str
     match axis {
         Axis::Block => "block",
         Axis::Inline => "inline",
+    }
+}
+
+/// The first word of a variant's line.
+pub fn variant_keyword(axis: Axis) -> &'static str
+    ensures { result.now ≡ variant_keyword axis }
+{
+    match axis {
+        Axis::Block => "vvariant",
+        Axis::Inline => "hvariant",
+    }
+}
+
+/// The first word of a part's line.
+pub fn part_keyword(axis: Axis) -> &'static str
+    ensures { result.now ≡ part_keyword axis }
+{
+    match axis {
+        Axis::Block => "vassembly",
+        Axis::Inline => "hassembly",
     }
 }

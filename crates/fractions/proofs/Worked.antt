@@ -24,10 +24,8 @@ sample = record {
       ∷ (35, pos 700) ∷ (36, pos 64) ∷ (37, pos 100) ∷ (38, pos 40) ∷ (39, pos 64) ∷ (40, pos 100) ∷ [];
   glyphs = [];
   characters = [];
-  block_variants = [];
-  inline_variants = [];
-  block_parts = [];
-  inline_parts = [];
+  variants = ([], []);
+  parts = ([], []);
   operators = [];
 }
 

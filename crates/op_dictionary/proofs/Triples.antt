@@ -14,7 +14,7 @@ use Rattle.op_dictionary.specs.BuiltIn.{categories, runs_of, in_run, in_form, is
 use Rattle.op_dictionary.specs.declared.extra.OperatorLine.{OperatorLine}
 use Rattle.op_dictionary.specs.Pairs.{same_text, same_form}
 use Rattle.op_dictionary.specs.Dictionary.{line_of, built_in_category, own_category, IsEntry, same_pair, AreDistinct}
-use Rattle.op_dictionary.proofs.Keys.{same-parts, same-from_parts}
+use Rattle.op_dictionary.proofs.Same.{same-parts, same-from_parts}
 use Rattle.op_dictionary.proofs.Found.{find-distinct, find-Some, any-meet}
 
 -- ---- the built-in table

@@ -102,7 +102,7 @@ pub glyph_in-printed : (g : NamedGlyph) → IsGlyph g
     ≡ Ok g
 glyph_in-printed g h =
     glyph_in-fields g.name g.glyph.advance g.glyph.ink_ascent g.glyph.ink_descent g.glyph.italic g.glyph.accent
-    h.name h.advance h.ink_ascent h.ink_descent h.italic h.accent
+    h.name h.measures.advance h.measures.ink_ascent h.measures.ink_descent h.measures.italic h.measures.accent
 
 pub character_in-printed : (glyphs : List NamedGlyph) (c : ℕ × ℕ) → AreNamed glyphs → is_scalar c.0 ≡ true
     → c.1 < length glyphs

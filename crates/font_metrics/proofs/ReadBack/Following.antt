@@ -9,15 +9,15 @@ use Rattle.std.proofs.lemmas.List.Elements.{recursion_from_All}
 use Rattle.op_dictionary.specs.declared.extra.OperatorLine.{OperatorLine}
 use Rattle.op_dictionary.specs.Dictionary.{is_named, line_of, same_pair, AreDistinct}
 use Rattle.font_metrics.specs.Lines.{Words}
-use Rattle.font_metrics.specs.Metrics.{NamedGlyph, ByGlyph, items_of}
+use Rattle.font_metrics.specs.Metrics.{NamedGlyph, ByGlyph, items_of, with_item}
 use Rattle.font_metrics.specs.Print.{constant_words, glyph_words, character_words, operator_words}
-use Rattle.font_metrics.specs.Reading.{Given, with_item}
+use Rattle.font_metrics.specs.declared.given.Given.{Given}
 use Rattle.font_metrics.specs.Taken.{IsGlyph, IsConstant, IsCharacter, IsOperatorText, names_of, most_glyphs}
 use Rattle.font_metrics.proofs.ReadBack.Feeds.{are_words}
 use Rattle.font_metrics.proofs.ReadBack.Fields.{AreNamed}
 use Rattle.font_metrics.proofs.ReadBack.Joined.{is_word}
 use Rattle.font_metrics.proofs.ReadBack.Names.{at-middle, distinct-before, place_of_name-new}
-use Rattle.font_metrics.proofs.ReadBack.Pairs.{same_pair-flip}
+use Rattle.op_dictionary.proofs.Same.{same_pairs}
 use Rattle.font_metrics.proofs.ReadBack.Tables.{AreBelow, sorted-before, insert-above, lookup-above, with_items, items_of-with_items, with_item-more}
 use Rattle.font_metrics.proofs.ReadBack.Taking.{Takes, takes-to, constant-taken, glyph-taken, character-taken, operator-taken}
 
@@ -141,7 +141,7 @@ not-named : (lines : List OperatorLine) (line : OperatorLine)
     → AllByRecursion (λ other. same_pair other line ≡ false) lines
     → line_of lines line.text line.form ≡ None
 not-named [] line h = refl
-not-named (other ∷ lines) line h = rw (same_pair-flip line other ∙ h.0, not-named lines line h.1) refl
+not-named (other ∷ lines) line h = rw (same_pairs.symm line other ∙ h.0, not-named lines line h.1) refl
 
 operator-new : (lines front : List OperatorLine) (line : OperatorLine) (back : List OperatorLine)
     → front ++ line ∷ back ≡ lines → AreDistinct lines

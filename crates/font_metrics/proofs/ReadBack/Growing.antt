@@ -3,16 +3,18 @@ use Rattle.std.proofs.Common.{◌≡◌, ap, sym, ℕ, ◌≤◌, ◌<◌, ◌+�
 use Rattle.std.specs.List.{AllByRecursion, range_with_len}
 use Rattle.std.proofs.lemmas.Bool.{cases_Bool}
 use Rattle.std.proofs.lemmas.List.Elements.{recursion_from_All, All-nil}
+use Rattle.op_dictionary.specs.declared.operator.Axis.{Axis}
+use Rattle.op_dictionary.specs.declared.operator.Axis.TheVariants.{Block, Inline}
 use Rattle.font_metrics.specs.declared.growth.Variant.{Variant}
 use Rattle.font_metrics.specs.declared.growth.Part.{Part}
-use Rattle.font_metrics.specs.Metrics.{MetricsValue, ByGlyph, items_of}
-use Rattle.font_metrics.specs.Print.{variant_words, part_words, growth_lines}
-use Rattle.font_metrics.specs.Reading.{Given, with_item}
-use Rattle.font_metrics.specs.Taken.{IsVariant, IsPart, IsEntry, IsTable, most_variants, most_parts}
+use Rattle.font_metrics.specs.Metrics.{MetricsValue, ByGlyph, ByAxis, along, with_along, items_of, with_item}
+use Rattle.font_metrics.specs.Print.{variant_words, part_words, variant_lines, part_lines, growth_lines}
+use Rattle.font_metrics.specs.declared.given.Given.{Given}
+use Rattle.font_metrics.specs.Taken.{IsVariant, IsPart, IsEntry, IsTable, AreTables, most_variants, most_parts}
 use Rattle.font_metrics.proofs.ReadBack.Fields.{AreNamed}
 use Rattle.font_metrics.proofs.ReadBack.Following.{Follows, follows-append, follows-to, items-follow}
 use Rattle.font_metrics.proofs.ReadBack.Tables.{AreBelow, with_items, below, below-keys, below-more, below-all}
-use Rattle.font_metrics.proofs.ReadBack.Taking.{Takes, block_variant-taken, inline_variant-taken, block_part-taken, inline_part-taken}
+use Rattle.font_metrics.proofs.ReadBack.Taking.{Takes, variant-taken, part-taken}
 
 -- ---- what a table has at a place
 
@@ -66,96 +68,78 @@ at-place put words count most Is table place h adds =
     (items-follow put words most Is (below place table) place (items_of table place) (below-keys place table) adds
     entries.0 entries.1)
 
--- ---- the four tables
+-- ---- the tables along both axes
 
-pub record AreTables (m : MetricsValue) : Type 0 where
-  pub block_variants : IsTable (length m.glyphs) most_variants (IsVariant (length m.glyphs)) m.block_variants
-  pub inline_variants : IsTable (length m.glyphs) most_variants (IsVariant (length m.glyphs)) m.inline_variants
-  pub block_parts : IsTable (length m.glyphs) most_parts (IsPart (length m.glyphs)) m.block_parts
-  pub inline_parts : IsTable (length m.glyphs) most_parts (IsPart (length m.glyphs)) m.inline_parts
+pub record AreGrown (m : MetricsValue) : Type 0 where
+  pub variants : AreTables (length m.glyphs) most_variants (IsVariant (length m.glyphs)) m.variants
+  pub parts : AreTables (length m.glyphs) most_parts (IsPart (length m.glyphs)) m.parts
 
 -- what is given with the glyphs of the metrics and these tables
-abbrev pub grown : Given → MetricsValue → ByGlyph Variant → ByGlyph Variant → ByGlyph Part → ByGlyph Part → Given
-grown given m block_variants inline_variants block_parts inline_parts = record given {
-  glyphs = m.glyphs;
-  block_variants = block_variants;
-  inline_variants = inline_variants;
-  block_parts = block_parts;
-  inline_parts = inline_parts;
-}
+abbrev pub grown : Given → MetricsValue → ByAxis Variant → ByAxis Part → Given
+grown given m variants parts = record given { glyphs = m.glyphs; variants = variants; parts = parts }
 
 -- what is given once the glyphs below a place have their lines
+abbrev pub both-below : {X : Type 0} → ℕ → ByAxis X → ByAxis X
+both-below place tables = (below place tables.0, below place tables.1)
+
 abbrev pub grown_to : Given → MetricsValue → ℕ → Given
-grown_to given m place =
-    grown given m (below place m.block_variants) (below place m.inline_variants) (below place m.block_parts)
-    (below place m.inline_parts)
+grown_to given m place = grown given m (both-below place m.variants) (both-below place m.parts)
 
-block_variants-grow : (given : Given) (m : MetricsValue) (place : ℕ) (iv : ByGlyph Variant) (bp ip : ByGlyph Part)
-    → AreNamed m.glyphs → AreTables m → place < length m.glyphs
-    → Follows (grown given m (below place m.block_variants) iv bp ip)
-    (map (variant_words (codes "vvariant") m.glyphs place) (items_of m.block_variants place))
-    (grown given m (below (place + 1) m.block_variants) iv bp ip)
-block_variants-grow given m place iv bp ip n h low =
+-- the lines of a place take the table along an axis to the next place
+variants-grow : (given : Given) (m : MetricsValue) (axis : Axis) (place : ℕ) (tables : ByAxis Variant)
+    (parts : ByAxis Part) → AreNamed m.glyphs → AreGrown m → place < length m.glyphs
+    → Follows (grown given m (with_along axis tables (below place (along axis m.variants))) parts)
+    (variant_lines m place axis)
+    (grown given m (with_along axis tables (below (place + 1) (along axis m.variants))) parts)
+variants-grow given m Block place tables parts n h low =
     let count = length m.glyphs in
-    at-place (λ t. grown given m t iv bp ip) (variant_words (codes "vvariant") m.glyphs place) count most_variants
-    (IsVariant count) m.block_variants place h.block_variants
-    (λ had v is room. block_variant-taken (grown given m had iv bp ip) place v n low is room)
+    at-place (λ t. grown given m (t, tables.1) parts) (variant_words (codes "vvariant") m.glyphs place) count
+    most_variants (IsVariant count) m.variants.0 place h.variants.0
+    (λ had v is room. variant-taken (grown given m (had, tables.1) parts) Block place v n low is room)
+variants-grow given m Inline place tables parts n h low =
+    let count = length m.glyphs in
+    at-place (λ t. grown given m (tables.0, t) parts) (variant_words (codes "hvariant") m.glyphs place) count
+    most_variants (IsVariant count) m.variants.1 place h.variants.1
+    (λ had v is room. variant-taken (grown given m (tables.0, had) parts) Inline place v n low is room)
 
-inline_variants-grow : (given : Given) (m : MetricsValue) (place : ℕ) (bv : ByGlyph Variant) (bp ip : ByGlyph Part)
-    → AreNamed m.glyphs → AreTables m → place < length m.glyphs
-    → Follows (grown given m bv (below place m.inline_variants) bp ip)
-    (map (variant_words (codes "hvariant") m.glyphs place) (items_of m.inline_variants place))
-    (grown given m bv (below (place + 1) m.inline_variants) bp ip)
-inline_variants-grow given m place bv bp ip n h low =
+parts-grow : (given : Given) (m : MetricsValue) (axis : Axis) (place : ℕ) (variants : ByAxis Variant)
+    (tables : ByAxis Part) → AreNamed m.glyphs → AreGrown m → place < length m.glyphs
+    → Follows (grown given m variants (with_along axis tables (below place (along axis m.parts))))
+    (part_lines m place axis)
+    (grown given m variants (with_along axis tables (below (place + 1) (along axis m.parts))))
+parts-grow given m Block place variants tables n h low =
     let count = length m.glyphs in
-    at-place (λ t. grown given m bv t bp ip) (variant_words (codes "hvariant") m.glyphs place) count most_variants
-    (IsVariant count) m.inline_variants place h.inline_variants
-    (λ had v is room. inline_variant-taken (grown given m bv had bp ip) place v n low is room)
-
-block_parts-grow : (given : Given) (m : MetricsValue) (place : ℕ) (bv iv : ByGlyph Variant) (ip : ByGlyph Part)
-    → AreNamed m.glyphs → AreTables m → place < length m.glyphs
-    → Follows (grown given m bv iv (below place m.block_parts) ip)
-    (map (part_words (codes "vassembly") m.glyphs place) (items_of m.block_parts place))
-    (grown given m bv iv (below (place + 1) m.block_parts) ip)
-block_parts-grow given m place bv iv ip n h low =
+    at-place (λ t. grown given m variants (t, tables.1)) (part_words (codes "vassembly") m.glyphs place) count
+    most_parts (IsPart count) m.parts.0 place h.parts.0
+    (λ had p is room. part-taken (grown given m variants (had, tables.1)) Block place p n low is room)
+parts-grow given m Inline place variants tables n h low =
     let count = length m.glyphs in
-    at-place (λ t. grown given m bv iv t ip) (part_words (codes "vassembly") m.glyphs place) count most_parts
-    (IsPart count) m.block_parts place h.block_parts
-    (λ had p is room. block_part-taken (grown given m bv iv had ip) place p n low is room)
-
-inline_parts-grow : (given : Given) (m : MetricsValue) (place : ℕ) (bv iv : ByGlyph Variant) (bp : ByGlyph Part)
-    → AreNamed m.glyphs → AreTables m → place < length m.glyphs
-    → Follows (grown given m bv iv bp (below place m.inline_parts))
-    (map (part_words (codes "hassembly") m.glyphs place) (items_of m.inline_parts place))
-    (grown given m bv iv bp (below (place + 1) m.inline_parts))
-inline_parts-grow given m place bv iv bp n h low =
-    let count = length m.glyphs in
-    at-place (λ t. grown given m bv iv bp t) (part_words (codes "hassembly") m.glyphs place) count most_parts
-    (IsPart count) m.inline_parts place h.inline_parts
-    (λ had p is room. inline_part-taken (grown given m bv iv bp had) place p n low is room)
+    at-place (λ t. grown given m variants (tables.0, t)) (part_words (codes "hassembly") m.glyphs place) count
+    most_parts (IsPart count) m.parts.1 place h.parts.1
+    (λ had p is room. part-taken (grown given m variants (tables.0, had)) Inline place p n low is room)
 
 -- the four lists of a place in turn take the tables to the next place
-grows-at : (given : Given) (m : MetricsValue) (place : ℕ) → AreNamed m.glyphs → AreTables m
+grows-at : (given : Given) (m : MetricsValue) (place : ℕ) → AreNamed m.glyphs → AreGrown m
     → place < length m.glyphs
     → Follows (grown_to given m place) (growth_lines m place) (grown_to given m (place + 1))
 grows-at given m place n h low =
-    let bv = below (place + 1) m.block_variants in
-    let iv = below (place + 1) m.inline_variants in
-    let bp = below (place + 1) m.block_parts in
-    let bp' = below place m.block_parts in
-    let ip' = below place m.inline_parts in
-    let none = grown_to given m place in
-    let two = grown given m bv iv bp' ip' in
-    let three = grown given m bv iv bp ip' in
-    follows-append none three (grown_to given m (place + 1)) _ _
+    let v = both-below place m.variants in
+    let v' = both-below (place + 1) m.variants in
+    let p = both-below place m.parts in
+    let p' = both-below (place + 1) m.parts in
+    let none = grown given m v p in
+    let one = grown given m (v'.0, v.1) p in
+    let two = grown given m v' p in
+    let three = grown given m v' (p'.0, p.1) in
+    let four = grown given m v' p' in
+    follows-append none three four _ _
     (follows-append none two three _ _
-    (follows-append none (grown given m bv (below place m.inline_variants) bp' ip') two _ _
-    (block_variants-grow given m place (below place m.inline_variants) bp' ip' n h low)
-    (inline_variants-grow given m place bv bp' ip' n h low))
-    (block_parts-grow given m place bv iv ip' n h low))
-    (inline_parts-grow given m place bv iv bp n h low)
+    (follows-append none one two _ _ (variants-grow given m Block place v p n h low)
+    (variants-grow given m Inline place (v'.0, v.1) p n h low))
+    (parts-grow given m Block place v' p n h low))
+    (parts-grow given m Inline place v' (p'.0, p.1) n h low)
 
-pub grows-from : (given : Given) (m : MetricsValue) (from count : ℕ) → AreNamed m.glyphs → AreTables m
+pub grows-from : (given : Given) (m : MetricsValue) (from count : ℕ) → AreNamed m.glyphs → AreGrown m
     → from + count ≤ length m.glyphs
     → Follows (grown_to given m from) (flat_map (growth_lines m) (range_with_len from count))
     (grown_to given m (from + count))

@@ -6,7 +6,8 @@ use Rattle.std.proofs.lemmas.Bool.Decides.{nat_tests}
 use Rattle.std.proofs.lemmas.List.Elements.{All-from_recursion}
 use Rattle.std.proofs.lemmas.List.Splits.{slice_split_none, slice_split_at}
 use Rattle.font_metrics.specs.Lines.{Words, keyword_of}
-use Rattle.font_metrics.specs.Reading.{Given, is_blank, is_empty, words_of, is_comment, is_plain, is_foreign, after_fields, after}
+use Rattle.font_metrics.specs.declared.given.Given.{Given}
+use Rattle.font_metrics.specs.Reading.{is_blank, is_empty, words_of, is_comment, is_plain, is_foreign, after_fields, after}
 
 -- ---- what printed words are made of
 

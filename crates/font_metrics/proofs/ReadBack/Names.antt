@@ -1,13 +1,13 @@
 -- Glyphs by their names, which are distinct.
-use Rattle.std.proofs.Common.{◌≡◌, refl, sym, ℕ, ◌<◌, zero, suc, Bool, true, false, List, [], ◌∷◌, ◌++◌, length, Some, None, Ok, bytes_eq, arith, le_of_suc-le-suc}
+use Rattle.std.proofs.Common.{◌≡◌, ◌∙◌, refl, ℕ, ◌<◌, zero, suc, Bool, true, false, List, [], ◌∷◌, ◌++◌, length, Some, None, Ok, bytes_eq, arith, le_of_suc-le-suc}
 use Rattle.std.specs.List.{list_all, position_or_len, IsDistinct, AllByRecursion}
-use Rattle.std.proofs.lemmas.Bool.{and_from, and_parts, lt-ltb, le-ltb, false_from_ne_true}
+use Rattle.std.proofs.lemmas.Bool.{and_from, and_parts, lt-ltb, le-ltb}
 use Rattle.std.proofs.lemmas.Bool.Decides.{nat_tests}
-use Rattle.std.proofs.lemmas.Slice.Eq.{bytes_eq-Decides}
 use Rattle.font_metrics.specs.Lines.{named_in}
 use Rattle.font_metrics.specs.Metrics.{NamedGlyph, place_of_name, name_in_list}
 use Rattle.font_metrics.specs.Taken.{names_of}
 use Rattle.font_metrics.specs.Words.{is_name_byte, is_name, name_in}
+use Rattle.font_metrics.proofs.SameNames.{same_bytes}
 use Rattle.font_metrics.proofs.ReadBack.Joined.{is_ink, is_word}
 
 -- ---- a name is a word, and is read as itself
@@ -48,13 +48,8 @@ distinct-before e (x ∷ xs) y ys h = (at-middle _ xs y ys h.0, distinct-before 
 
 -- ---- places of names
 
-bytes_eq-self : (word : List ℕ) → bytes_eq word word ≡ true
-bytes_eq-self word = (bytes_eq-Decides word word).1 refl
-
 bytes_eq-flip : (a b : List ℕ) → bytes_eq a b ≡ false → bytes_eq b a ≡ false
-bytes_eq-flip a b h =
-    false_from_ne_true (bytes_eq b a)
-    (λ same. let back : bytes_eq a b ≡ true = (bytes_eq-Decides a b).1 (sym ((bytes_eq-Decides b a).0 same)) in cc)
+bytes_eq-flip a b h = same_bytes.symm b a ∙ h
 
 -- a name that no glyph has
 past-all : (glyphs : List NamedGlyph) (name : List ℕ)
@@ -82,7 +77,7 @@ up-to-place : (glyphs : List NamedGlyph) (place : ℕ) → IsDistinct bytes_eq (
     → position_or_len (λ g. bytes_eq (name_in_list glyphs place) g.name) glyphs ≡ place
 unfolding IsDistinct
 up-to-place [] place h low = absurd (omega arith)
-up-to-place (g ∷ glyphs) zero h low = rw (bytes_eq-self g.name) refl
+up-to-place (g ∷ glyphs) zero h low = rw (same_bytes.refl g.name) refl
 up-to-place (g ∷ glyphs) (suc place) h low =
     let low' : place < length glyphs = le_of_suc-le-suc low in
     let other = bytes_eq-flip g.name (name_in_list glyphs place)

@@ -6,8 +6,7 @@ use Rattle.std.specs.List.Sorted.{IsStrictlySortedBy}
 use Rattle.std.specs.Map.{lookup, keys_of}
 use Rattle.std.proofs.lemmas.Bool.{lt-ltb, le-ltb, ne_eqb, eq-eqb, cases_order}
 use Rattle.std.proofs.lemmas.Bool.Decides.{nat_tests}
-use Rattle.font_metrics.specs.Metrics.{ByGlyph, items_of}
-use Rattle.font_metrics.specs.Reading.{with_item}
+use Rattle.font_metrics.specs.Metrics.{ByGlyph, items_of, with_item}
 
 -- each key of a list is below this one
 abbrev pub AreBelow : {X : Type 0} → ℕ → List (ℕ × X) → Type 0

@@ -7,13 +7,18 @@ use Rattle.std.specs.Map.{lookup}
 use Rattle.std.proofs.lemmas.Bool.{lt-leb}
 use Rattle.std.proofs.lemmas.Int.{ints}
 use Rattle.op_dictionary.specs.declared.extra.OperatorLine.{OperatorLine}
+use Rattle.op_dictionary.specs.declared.operator.Axis.{Axis}
+use Rattle.op_dictionary.specs.declared.operator.Axis.TheVariants.{Block, Inline}
 use Rattle.op_dictionary.specs.Dictionary.{is_named}
 use Rattle.font_metrics.specs.declared.growth.Variant.{Variant}
 use Rattle.font_metrics.specs.declared.growth.Part.{Part}
-use Rattle.font_metrics.specs.Lines.{Words, keyword_of}
-use Rattle.font_metrics.specs.Metrics.{NamedGlyph, name_in_list, items_of, place_of_name}
-use Rattle.font_metrics.specs.Print.{upem_words, line_words, x_height_words, constant_text, constant_words, accent_words, glyph_words, code_text, character_words, variant_words, extender_text, part_words, operator_text, form_text, category_text, axis_text, operator_words}
-use Rattle.font_metrics.specs.Reading.{Given, with_item, is_comment, after_fields, after}
+use Rattle.font_metrics.specs.declared.given.Given.{Given}
+use Rattle.font_metrics.specs.declared.keyword.Keyword.{Keyword}
+use Rattle.font_metrics.specs.Faults.{◌>>=◌}
+use Rattle.font_metrics.specs.Lines.{Words, Item, SaysUpem, SaysLine, SaysXHeight, SaysOverlap, SaysConstant, SaysGlyph, SaysCharacter, SaysVariant, SaysPart, SaysOperator, keyword_of, item_in}
+use Rattle.font_metrics.specs.Metrics.{NamedGlyph, along, with_item_along, name_in_list, items_of, place_of_name}
+use Rattle.font_metrics.specs.Print.{upem_words, line_words, x_height_words, constant_text, constant_words, accent_words, glyph_words, code_text, character_words, variant_keyword, variant_words, extender_text, part_keyword, part_words, operator_text, form_text, category_text, axis_text, operator_words}
+use Rattle.font_metrics.specs.Reading.{is_comment, allowed, put, after_fields, after}
 use Rattle.font_metrics.specs.Taken.{IsGlyph, IsConstant, IsCharacter, IsVariant, IsPart, IsReach, IsLength, IsOperatorText, most_glyphs, most_variants, most_parts}
 use Rattle.font_metrics.proofs.ReadBack.Choices.{constant-word}
 use Rattle.font_metrics.proofs.ReadBack.Decimal.{natural_in-decimal}
@@ -27,11 +32,19 @@ abbrev pub Takes : Given → Words → Given → Type 0
 Takes given words next =
     (list_all is_word words ≡ true) × (after given (join_with_byte 32 words) ≡ Ok next)
 
-takes : (given : Given) (word : List ℕ) (fields : Words) (next : Given)
+after-item : (given : Given) (keyword : Keyword) (fields : Words) (item : Item)
+    → item_in given.glyphs keyword fields ≡ Ok item → allowed given item ≡ Ok tt
+    → after_fields given keyword fields ≡ Ok (put given item)
+after-item given keyword fields item said free =
+    ap (λ step. step >>= λ item. allowed given item >>= λ free. Ok (put given item)) said
+    ∙ ap (λ step. step >>= λ free. Ok (put given item)) free
+
+takes : (given : Given) (word : List ℕ) (fields : Words) (item : Item)
     → list_all is_word (word ∷ fields) ≡ true → is_comment (join_with_byte 32 (word ∷ fields)) ≡ false
-    → after_fields given (keyword_of word) fields ≡ Ok next
-    → Takes given (word ∷ fields) next
-takes given word fields next h other e = (h, after-joined given word fields h other ∙ e)
+    → item_in given.glyphs (keyword_of word) fields ≡ Ok item → allowed given item ≡ Ok tt
+    → Takes given (word ∷ fields) (put given item)
+takes given word fields item h other said free =
+    (h, after-joined given word fields h other ∙ after-item given (keyword_of word) fields item said free)
 
 pub takes-to : (given : Given) (words : Words) (next other : Given) → next ≡ other → Takes given words next
     → Takes given words other
@@ -44,8 +57,8 @@ pub upem-taken : (given : Given) (units : ℕ) → 16 ≤ units → units ≤ 16
 unfolding keyword_of
 upem-taken given units low high new =
     let small : units < 1000000 = omega arith in
-    takes given (codes "upem") (decimal units ∷ []) (record given { upem = Some units })
-    (rw (decimal-word units small) refl) refl (rw (natural_in-decimal 16 16384 units small low high, new) refl)
+    takes given (codes "upem") (decimal units ∷ []) (SaysUpem units) (rw (decimal-word units small) refl) refl
+    (rw (natural_in-decimal 16 16384 units small low high) refl) (rw new refl)
 
 pub line-taken : (given : Given) (ascent descent : ℕ) → ascent ≤ 65535 → descent ≤ 65535 → given.line ≡ None
     → Takes given (line_words ascent descent) (record given { line = Some (ascent, descent) })
@@ -54,31 +67,28 @@ line-taken given ascent descent up down new =
     let small : ascent < 1000000 = omega arith in
     let small' : descent < 1000000 = omega arith in
     takes given (codes "line") (decimal ascent ∷ decimal descent ∷ [])
-    (record given { line = Some (ascent, descent) })
-    (rw (decimal-word ascent small, decimal-word descent small') refl) refl
+    (SaysLine (ascent, descent)) (rw (decimal-word ascent small, decimal-word descent small') refl) refl
     (rw (
       natural_in-decimal 0 65535 ascent small (omega arith) up,
       natural_in-decimal 0 65535 descent small' (omega arith) down,
-      new,
     ) refl)
+    (rw new refl)
 
 pub x_height-taken : (given : Given) (height : ℕ) → height ≤ 65535 → given.x_height ≡ None
     → Takes given (x_height_words height) (record given { x_height = Some height })
 unfolding keyword_of
 x_height-taken given height high new =
     let small : height < 1000000 = omega arith in
-    takes given (codes "xheight") (decimal height ∷ []) (record given { x_height = Some height })
-    (rw (decimal-word height small) refl) refl
-    (rw (natural_in-decimal 0 65535 height small (omega arith) high, new) refl)
+    takes given (codes "xheight") (decimal height ∷ []) (SaysXHeight height) (rw (decimal-word height small) refl) refl
+    (rw (natural_in-decimal 0 65535 height small (omega arith) high) refl) (rw new refl)
 
 pub overlap-taken : (given : Given) (least : ℕ) → least ≤ 65535 → given.overlap ≡ None
     → Takes given (codes "overlap" ∷ decimal least ∷ []) (record given { overlap = Some least })
 unfolding keyword_of
 overlap-taken given least high new =
     let small : least < 1000000 = omega arith in
-    takes given (codes "overlap") (decimal least ∷ []) (record given { overlap = Some least })
-    (rw (decimal-word least small) refl) refl
-    (rw (natural_in-decimal 0 65535 least small (omega arith) high, new) refl)
+    takes given (codes "overlap") (decimal least ∷ []) (SaysOverlap least) (rw (decimal-word least small) refl) refl
+    (rw (natural_in-decimal 0 65535 least small (omega arith) high) refl) (rw new refl)
 
 -- ---- constants, glyphs, characters
 
@@ -93,8 +103,7 @@ pub constant-taken : (given : Given) (c : ℕ × ℤ) → IsConstant c → looku
 unfolding keyword_of
 constant-taken given c h new =
     takes given (codes "const") (constant_text c.0 ∷ signed_decimal c.1 ∷ [])
-    (record given { constants = insert_entry nat_cmp given.constants c.0 c.1 }) (constant-words c h) refl
-    (rw (constant_in-printed c h, new) refl)
+    (SaysConstant c) (constant-words c h) refl (rw (constant_in-printed c h) refl) (rw new refl)
 
 accent-words : (accent : Option ℤ) → IfSome accent IsReach → list_all is_word (accent_words accent) ≡ true
 accent-words None h = refl
@@ -110,11 +119,11 @@ glyph-words : (g : NamedGlyph) → IsGlyph g → list_all is_word (glyph_words g
 glyph-words g h =
     rw (
       name-word g.name h.name,
-      length-word g.glyph.advance h.advance,
-      reach-word g.glyph.ink_ascent h.ink_ascent,
-      reach-word g.glyph.ink_descent h.ink_descent,
-      reach-word g.glyph.italic h.italic,
-      accent-words g.glyph.accent h.accent,
+      length-word g.glyph.advance h.measures.advance,
+      reach-word g.glyph.ink_ascent h.measures.ink_ascent,
+      reach-word g.glyph.ink_descent h.measures.ink_descent,
+      reach-word g.glyph.italic h.measures.italic,
+      accent-words g.glyph.accent h.measures.accent,
     ) refl
 
 pub glyph-taken : (given : Given) (g : NamedGlyph) → IsGlyph g → place_of_name given.glyphs g.name ≡ None
@@ -126,8 +135,7 @@ glyph-taken given g h new room =
     takes given (codes "glyph")
     (g.name ∷ signed_decimal g.glyph.advance ∷ signed_decimal g.glyph.ink_ascent
     ∷ signed_decimal g.glyph.ink_descent ∷ signed_decimal g.glyph.italic ∷ accent_words g.glyph.accent)
-    (record given { glyphs = given.glyphs ++ g ∷ [] }) (glyph-words g h) refl
-    (rw (glyph_in-printed g h, new, free) refl)
+    (SaysGlyph g) (glyph-words g h) refl (rw (glyph_in-printed g h) refl) (rw (new, free) refl)
 
 place-word : (glyphs : List NamedGlyph) (place : ℕ) → AreNamed glyphs → place < length glyphs
     → is_word (name_in_list glyphs place) ≡ true
@@ -145,9 +153,8 @@ pub character-taken : (given : Given) (c : ℕ × ℕ) → AreNamed given.glyphs
 unfolding keyword_of
 character-taken given c n h new =
     takes given (codes "char") (code_text c.0 ∷ name_in_list given.glyphs c.1 ∷ [])
-    (record given { characters = insert_entry nat_cmp given.characters c.0 c.1 })
-    (character-words given.glyphs c n h) refl
-    (rw (character_in-printed given.glyphs c n h.0 h.1, new) refl)
+    (SaysCharacter c) (character-words given.glyphs c n h) refl
+    (rw (character_in-printed given.glyphs c n h.0 h.1) refl) (rw new refl)
 
 -- ---- variants and parts
 
@@ -159,37 +166,24 @@ variant-fields glyphs place v n low h =
     rw (place-word glyphs place n low, place-word glyphs v.glyph.0 n h.glyph, length-word v.measure h.measure)
     refl
 
-pub block_variant-taken : (given : Given) (place : ℕ) (v : Variant) → AreNamed given.glyphs
+pub variant-taken : (given : Given) (axis : Axis) (place : ℕ) (v : Variant) → AreNamed given.glyphs
     → place < length given.glyphs → IsVariant (length given.glyphs) v
-    → length (items_of given.block_variants place) < most_variants
-    → Takes given (variant_words (codes "vvariant") given.glyphs place v)
-    (record given { block_variants = with_item given.block_variants place v })
+    → length (items_of (along axis given.variants) place) < most_variants
+    → Takes given (variant_words (variant_keyword axis) given.glyphs place v)
+    (record given { variants = with_item_along axis given.variants place v })
 unfolding keyword_of
-block_variant-taken given place v n low h room =
+variant-taken given Block place v n low h room =
     takes given (codes "vvariant")
     (name_in_list given.glyphs place ∷ name_in_list given.glyphs v.glyph.0 ∷ signed_decimal v.measure ∷ [])
-    (record given { block_variants = with_item given.block_variants place v })
-    (variant-fields given.glyphs place v n low h) refl
-    (rw (
-      variant_in-printed given.glyphs place v n low h,
-      lt-leb most_variants (length (items_of given.block_variants place)) room,
-    ) refl)
-
-pub inline_variant-taken : (given : Given) (place : ℕ) (v : Variant) → AreNamed given.glyphs
-    → place < length given.glyphs → IsVariant (length given.glyphs) v
-    → length (items_of given.inline_variants place) < most_variants
-    → Takes given (variant_words (codes "hvariant") given.glyphs place v)
-    (record given { inline_variants = with_item given.inline_variants place v })
-unfolding keyword_of
-inline_variant-taken given place v n low h room =
+    (SaysVariant Block (place, v)) (variant-fields given.glyphs place v n low h) refl
+    (rw (variant_in-printed given.glyphs place v n low h) refl)
+    (rw (lt-leb most_variants (length (items_of given.variants.0 place)) room) refl)
+variant-taken given Inline place v n low h room =
     takes given (codes "hvariant")
     (name_in_list given.glyphs place ∷ name_in_list given.glyphs v.glyph.0 ∷ signed_decimal v.measure ∷ [])
-    (record given { inline_variants = with_item given.inline_variants place v })
-    (variant-fields given.glyphs place v n low h) refl
-    (rw (
-      variant_in-printed given.glyphs place v n low h,
-      lt-leb most_variants (length (items_of given.inline_variants place)) room,
-    ) refl)
+    (SaysVariant Inline (place, v)) (variant-fields given.glyphs place v n low h) refl
+    (rw (variant_in-printed given.glyphs place v n low h) refl)
+    (rw (lt-leb most_variants (length (items_of given.variants.1 place)) room) refl)
 
 part-fields : (glyphs : List NamedGlyph) (place : ℕ) (p : Part) → AreNamed glyphs
     → place < length glyphs → IsPart (length glyphs) p
@@ -206,39 +200,26 @@ part-fields glyphs place p n low h =
       length-word p.full h.full,
     ) refl
 
-pub block_part-taken : (given : Given) (place : ℕ) (p : Part) → AreNamed given.glyphs
+pub part-taken : (given : Given) (axis : Axis) (place : ℕ) (p : Part) → AreNamed given.glyphs
     → place < length given.glyphs → IsPart (length given.glyphs) p
-    → length (items_of given.block_parts place) < most_parts
-    → Takes given (part_words (codes "vassembly") given.glyphs place p)
-    (record given { block_parts = with_item given.block_parts place p })
+    → length (items_of (along axis given.parts) place) < most_parts
+    → Takes given (part_words (part_keyword axis) given.glyphs place p)
+    (record given { parts = with_item_along axis given.parts place p })
 unfolding keyword_of
-block_part-taken given place p n low h room =
+part-taken given Block place p n low h room =
     takes given (codes "vassembly")
     (name_in_list given.glyphs place ∷ name_in_list given.glyphs p.glyph.0 ∷ extender_text p.extender
     ∷ signed_decimal p.start ∷ signed_decimal p.end ∷ signed_decimal p.full ∷ [])
-    (record given { block_parts = with_item given.block_parts place p })
-    (part-fields given.glyphs place p n low h) refl
-    (rw (
-      part_in-printed given.glyphs place p n low h,
-      lt-leb most_parts (length (items_of given.block_parts place)) room,
-    ) refl)
-
-pub inline_part-taken : (given : Given) (place : ℕ) (p : Part) → AreNamed given.glyphs
-    → place < length given.glyphs → IsPart (length given.glyphs) p
-    → length (items_of given.inline_parts place) < most_parts
-    → Takes given (part_words (codes "hassembly") given.glyphs place p)
-    (record given { inline_parts = with_item given.inline_parts place p })
-unfolding keyword_of
-inline_part-taken given place p n low h room =
+    (SaysPart Block (place, p)) (part-fields given.glyphs place p n low h) refl
+    (rw (part_in-printed given.glyphs place p n low h) refl)
+    (rw (lt-leb most_parts (length (items_of given.parts.0 place)) room) refl)
+part-taken given Inline place p n low h room =
     takes given (codes "hassembly")
     (name_in_list given.glyphs place ∷ name_in_list given.glyphs p.glyph.0 ∷ extender_text p.extender
     ∷ signed_decimal p.start ∷ signed_decimal p.end ∷ signed_decimal p.full ∷ [])
-    (record given { inline_parts = with_item given.inline_parts place p })
-    (part-fields given.glyphs place p n low h) refl
-    (rw (
-      part_in-printed given.glyphs place p n low h,
-      lt-leb most_parts (length (items_of given.inline_parts place)) room,
-    ) refl)
+    (SaysPart Inline (place, p)) (part-fields given.glyphs place p n low h) refl
+    (rw (part_in-printed given.glyphs place p n low h) refl)
+    (rw (lt-leb most_parts (length (items_of given.parts.1 place)) room) refl)
 
 -- ---- operators
 
@@ -255,5 +236,4 @@ unfolding keyword_of
 operator-taken given line h new =
     takes given (codes "operator")
     (operator_text line.text ∷ form_text line.form ∷ category_text line.category ∷ axis_text line.axis ∷ [])
-    (record given { operators = given.operators ++ line ∷ [] }) (operator-words line h) refl
-    (rw (operator_in-printed line h, new) refl)
+    (SaysOperator line) (operator-words line h) refl (rw (operator_in-printed line h) refl) (rw new refl)

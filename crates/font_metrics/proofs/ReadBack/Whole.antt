@@ -1,15 +1,18 @@
 -- Reading the print of metrics gives the same metrics.
 use Rattle.std.proofs.Common.{◌≡◌, ◌∙◌, ap, refl, ℕ, ◌≤◌, ◌+◌, true, List, [], ◌∷◌, ◌++◌, length, map, flat_map, codes, Option, Some, None, IfSome, IsSome, Ok, arith, zero-add}
 use Rattle.std.specs.List.{join_with_byte, range_with_len}
+use Rattle.font_metrics.specs.declared.given.Given.{Given}
+use Rattle.font_metrics.specs.Faults.{step_map}
 use Rattle.font_metrics.specs.Lines.{Words}
 use Rattle.font_metrics.specs.Metrics.{MetricsValue, place_of_name}
 use Rattle.font_metrics.specs.Print.{version_words, upem_words, line_words, x_height_words, overlap_lines, constant_words, glyph_words, character_words, growth_lines, operator_words, line_text, print_of, PrintReadsBack}
-use Rattle.font_metrics.specs.Reading.{lines_of, Given, nothing, is_foreign, words_of, after, after_first, kept, given_from, first_fault_behind, whole_of, finished, metrics_or, metrics_of}
+use Rattle.font_metrics.specs.Reading.{lines_of, nothing, is_foreign, words_of, after, after_first, kept, given_from, first_fault_behind, needed_of, metrics_with, finished, metrics_or, metrics_of}
 use Rattle.font_metrics.specs.Taken.{IsTaken, IsVariant, IsPart, most_variants, most_parts}
+use Rattle.font_metrics.proofs.Forward.{given_from-push}
 use Rattle.font_metrics.proofs.ReadBack.Feeds.{are_words, lines-printed}
 use Rattle.font_metrics.proofs.ReadBack.Fields.{AreNamed}
 use Rattle.font_metrics.proofs.ReadBack.Following.{Follows, follows-append, follows-to, follows-words, constants-follow, glyphs-follow, characters-follow, operators-follow}
-use Rattle.font_metrics.proofs.ReadBack.Growing.{AreTables, grown, grown_to, grows-from, table-all}
+use Rattle.font_metrics.proofs.ReadBack.Growing.{AreGrown, grown, grown_to, grows-from, table-all}
 use Rattle.font_metrics.proofs.ReadBack.Tables.{below-zero}
 use Rattle.font_metrics.proofs.ReadBack.Taking.{upem-taken, line-taken, x_height-taken, overlap-taken}
 
@@ -18,11 +21,6 @@ use Rattle.font_metrics.proofs.ReadBack.Taking.{upem-taken, line-taken, x_height
 -- the lines of these words
 abbrev joined : List Words → List (List ℕ)
 joined ws = map (join_with_byte 32) ws
-
-given-push : (given : Given) (before : List (List ℕ)) (line : List ℕ)
-    → given_from given (before ++ line ∷ []) ≡ kept (given_from given before) (after (given_from given before) line)
-given-push given [] line = refl
-given-push given (first ∷ before) line = given-push (kept given (after given first)) before line
 
 follows-given : (given end : Given) (ws : List Words) → Follows given ws end → given_from given (joined ws) ≡ end
 follows-given given end [] h = h
@@ -37,7 +35,7 @@ follows-faultless first before given end (words ∷ ws) e (next, takes, h) =
     let line = join_with_byte 32 words in
     let step : after (given_from nothing before) line ≡ Ok next = ap (λ g. after g line) e ∙ takes.1 in
     let more : given_from nothing (before ++ line ∷ []) ≡ next =
-    given-push nothing before line ∙ ap (kept (given_from nothing before)) step in
+    given_from-push nothing before line ∙ ap (kept (given_from nothing before)) step in
     rw step (follows-faultless first (before ++ line ∷ []) next end ws more h)
 
 read-whole : (first : List ℕ) (ws : List Words) (given : Given) (m : MetricsValue) → after_first first ≡ Ok nothing
@@ -62,10 +60,8 @@ given_for m = record {
   constants = m.constants;
   glyphs = m.glyphs;
   characters = m.characters;
-  block_variants = m.block_variants;
-  inline_variants = m.inline_variants;
-  block_parts = m.block_parts;
-  inline_parts = m.inline_parts;
+  variants = m.variants;
+  parts = m.parts;
   operators = m.operators;
 }
 
@@ -97,42 +93,31 @@ overlap-follows given (Some least) h =
 are-named : (m : MetricsValue) → IsTaken m → AreNamed m.glyphs
 are-named m h = record { distinct = h.names; names = λ place low. (h.glyphs place _ low).name }
 
-are-tables : (m : MetricsValue) → IsTaken m → AreTables m
-are-tables m h = record {
-  block_variants = h.block_variants;
-  inline_variants = h.inline_variants;
-  block_parts = h.block_parts;
-  inline_parts = h.inline_parts;
-}
+are-grown : (m : MetricsValue) → IsTaken m → AreGrown m
+are-grown m h = record { variants = h.variants; parts = h.parts }
 
-growth-none : (given : Given) (m : MetricsValue) → grown given m [] [] [] [] ≡ grown_to given m 0
+growth-none : (given : Given) (m : MetricsValue) → grown given m ([], []) ([], []) ≡ grown_to given m 0
 growth-none given m =
-    rw (
-      below-zero m.block_variants,
-      below-zero m.inline_variants,
-      below-zero m.block_parts,
-      below-zero m.inline_parts,
-    ) refl
+    rw (below-zero m.variants.0, below-zero m.variants.1, below-zero m.parts.0, below-zero m.parts.1) refl
 
 growth-all : (given : Given) (m : MetricsValue) → IsTaken m
-    → grown_to given m (length m.glyphs)
-    ≡ grown given m m.block_variants m.inline_variants m.block_parts m.inline_parts
+    → grown_to given m (length m.glyphs) ≡ grown given m m.variants m.parts
 growth-all given m h =
     let count = length m.glyphs in
     rw (
-      table-all count most_variants (IsVariant count) m.block_variants h.block_variants,
-      table-all count most_variants (IsVariant count) m.inline_variants h.inline_variants,
-      table-all count most_parts (IsPart count) m.block_parts h.block_parts,
-      table-all count most_parts (IsPart count) m.inline_parts h.inline_parts,
+      table-all count most_variants (IsVariant count) m.variants.0 h.variants.0,
+      table-all count most_variants (IsVariant count) m.variants.1 h.variants.1,
+      table-all count most_parts (IsPart count) m.parts.0 h.parts.0,
+      table-all count most_parts (IsPart count) m.parts.1 h.parts.1,
     ) refl
 
 growth-follows : (given : Given) (m : MetricsValue) → IsTaken m
-    → Follows (grown given m [] [] [] [])
+    → Follows (grown given m ([], []) ([], []))
     (flat_map (growth_lines m) (range_with_len 0 (length m.glyphs)))
-    (grown given m m.block_variants m.inline_variants m.block_parts m.inline_parts)
+    (grown given m m.variants m.parts)
 growth-follows given m h =
     let count = length m.glyphs in
-    let grows = grows-from given m 0 count (are-named m h) (are-tables m h) (omega arith) in
+    let grows = grows-from given m 0 count (are-named m h) (are-grown m h) (omega arith) in
     rw (growth-none given m)
     (follows-to (grown_to given m 0) (grown_to given m (0 + count)) _ _
     (ap (grown_to given m) (zero-add count) ∙ growth-all given m h) grows)
@@ -159,7 +144,7 @@ printed-follows m h =
     let constants = record overlap { constants = m.constants } in
     let glyphs = record constants { glyphs = m.glyphs } in
     let characters = record glyphs { characters = m.characters } in
-    let growth = grown characters m m.block_variants m.inline_variants m.block_parts m.inline_parts in
+    let growth = grown characters m m.variants m.parts in
     let glyph_by_glyph = flat_map (growth_lines m) (range_with_len 0 (length m.glyphs)) in
     let first = upem_words m.upem ∷ line_words m.line_ascent m.line_descent ∷ x_height_words m.x_height ∷ [] in
     let front = first ++ overlap_lines m.overlap in
@@ -183,7 +168,9 @@ printed-follows m h =
 -- ---- the theorem
 
 whole-given : (m : MetricsValue) (missing : Option ℕ) → IsSome missing
-    → whole_of (Some m.upem) (Some (m.line_ascent, m.line_descent)) (Some m.x_height) missing (given_for m) ≡ Ok m
+    → step_map (λ needs. metrics_with needs (given_for m))
+    (needed_of (Some m.upem) (Some (m.line_ascent, m.line_descent)) (Some m.x_height) missing)
+    ≡ Ok m
 whole-given m None h = cc
 whole-given m (Some place) h = refl
 

@@ -1,10 +1,11 @@
 use Rattle.std.proofs.Common.{◌≡◌, ◌≢◌, ◌∙◌, ◌+◌, ap, sym, subst, [], Err, rules, arith, true}
 use Rattle.std.specs.Str.Lines.{lines}
-use Rattle.font_metrics.specs.Reading.{after, after_first, finished, numbered, metrics_of}
+use Rattle.font_metrics.specs.Reading.{nothing, after, after_first, finished, numbered, metrics_of}
 use Rattle.font_metrics.specs.Reads.{Reads}
 use Rattle.font_metrics.specs.Whole.{IsGiven}
-use Rattle.font_metrics.proofs.Forward.{continued, from_line, from_first, stopped, stopped_first, more, ended, none_left, lacks}
-use Rattle.font_metrics.proofs.Ranges.{after_keeps, nothing_given, first_gives}
+use Rattle.font_metrics.proofs.Finish.{ends_with, ends_without}
+use Rattle.font_metrics.proofs.Forward.{continued, from_line, from_first, stopped, more, ended, none_left, lacks}
+use Rattle.font_metrics.proofs.Ranges.{after_keeps, nothing_given}
 use Rattle.font_metrics.proofs.read.read_metrics.Goals as goal
 
 pub returns-in-Err : goal.returns-in-Err
@@ -13,7 +14,7 @@ returns-in-Err c =
     record {
       reads =
           subst (λ r. Reads (metrics_of c.args.bytes.now) (Err r)) (sym c.at.ensures)
-          (stopped_first _ 1 (after_first first) _ c.in-Err.refusal
+          (stopped _ 1 (after_first first) nothing _ c.in-Err.refusal
           (from_first c.args.bytes.now first (lines c.first_line.result.1.now) c.first_line.ensures.line) c.in-Err.ensures);
     }
 
@@ -24,8 +25,9 @@ loop-rest-init c =
     record {
       says =
           from_first c.args.bytes.now first rest c.first_line.ensures.line
-          ∙ ap (λ s. continued 1 s (λ next. from_line 1 next rest)) c.in-Ok.ensures;
-      given = subst IsGiven (sym (first_gives first c.in-Ok.reader c.in-Ok.ensures)) nothing_given;
+          ∙ ap (λ s. continued 1 s (λ next. from_line 1 next rest)) c.in_default.ensures
+          ∙ ap (λ g. from_line 1 g rest) (sym c.nothing-given.ensures);
+      given = subst IsGiven (sym c.nothing-given.ensures) nothing_given;
       small = let bound = c.first_line.ensures.bound in omega (arith, bound, c.requires);
     }
 
@@ -38,9 +40,9 @@ loop-rest-preserved c =
     record {
       says =
           c.loop-rest.invariant.says
-          ∙ more c.loop-rest.rest.now line left n c.loop-rest.reader some c.first_line-in-loop-rest.ensures.line
-          ∙ ap (λ s. continued (n + 1) s (λ next. from_line (n + 1) next (lines left))) c.in_default.ensures;
-      given = after_keeps c.loop-rest.reader line c.take.new.self c.loop-rest.invariant.given c.in_default.ensures;
+          ∙ more c.loop-rest.rest.now line left n c.loop-rest.given some c.first_line-in-loop-rest.ensures.line
+          ∙ ap (λ s. continued (n + 1) s (λ next. from_line (n + 1) next (lines left))) c.in_default-take.ensures;
+      given = after_keeps c.loop-rest.given line c.take.new.self c.loop-rest.invariant.given c.in_default-take.ensures;
       small =
           let shorter = c.first_line-in-loop-rest.ensures.rest some in
           let small = c.loop-rest.invariant.small in
@@ -55,31 +57,33 @@ returns-in-Err-take c =
     record {
       reads =
           subst (λ r. Reads (metrics_of c.args.bytes.now) (Err r)) (sym c.at-in-Err-take.ensures)
-          (stopped _ (c.loop-rest.number + 1) (after c.loop-rest.reader line) c.take.new.self _ c.in-Err-take.refusal
+          (stopped _ (c.loop-rest.number + 1) (after c.loop-rest.given line) c.take.new.self _ c.in-Err-take.refusal
           (c.loop-rest.invariant.says
-          ∙ more c.loop-rest.rest.now line left c.loop-rest.number c.loop-rest.reader some c.first_line-in-loop-rest.ensures.line)
+          ∙ more c.loop-rest.rest.now line left c.loop-rest.number c.loop-rest.given some c.first_line-in-loop-rest.ensures.line)
           c.in-Err-take.ensures);
     }
 
-pub returns-in-Ok-finish : goal.returns-in-Ok-finish
-returns-in-Ok-finish c =
+pub returns-in-Ok : goal.returns-in-Ok
+returns-in-Ok c =
     let n = c.loop-rest.number in
+    let g = c.loop-rest.given in
     let at_end : c.is_empty.result ≡ true = search rules in
     let none = none_left c.loop-rest.rest.now c.is_empty.result c.is_empty.ensures at_end in
     record {
       reads =
-          c.loop-rest.invariant.says ∙ ended c.loop-rest.rest.now n c.loop-rest.reader none
-          ∙ ap (numbered (n + 1)) (sym c.in-Ok-finish.ensures);
+          c.loop-rest.invariant.says ∙ ended c.loop-rest.rest.now n g none
+          ∙ ap (numbered (n + 1)) (sym (ends_with g c.in-Ok.needs c.in-Ok.ensures));
     }
 
-pub returns-in-Err-finish : goal.returns-in-Err-finish
-returns-in-Err-finish c =
+pub returns-in-Err-needed : goal.returns-in-Err-needed
+returns-in-Err-needed c =
     let n = c.loop-rest.number in
+    let g = c.loop-rest.given in
     let at_end : c.is_empty.result ≡ true = search rules in
     let none = none_left c.loop-rest.rest.now c.is_empty.result c.is_empty.ensures at_end in
     record {
       reads =
-          subst (λ r. Reads (metrics_of c.args.bytes.now) (Err r)) (sym c.at-in-Err-finish.ensures)
-          (lacks _ (n + 1) c.in-Err-finish.fault (finished c.loop-rest.reader)
-          (c.loop-rest.invariant.says ∙ ended c.loop-rest.rest.now n c.loop-rest.reader none) c.in-Err-finish.ensures);
+          subst (λ r. Reads (metrics_of c.args.bytes.now) (Err r)) (sym c.at-in-Err-needed.ensures)
+          (lacks _ (n + 1) c.in-Err-needed.fault (finished g) (c.loop-rest.invariant.says ∙ ended c.loop-rest.rest.now n g none)
+          (ends_without g c.in-Err-needed.fault c.in-Err-needed.ensures));
     }

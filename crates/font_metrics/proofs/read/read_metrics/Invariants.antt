@@ -8,8 +8,8 @@ use Rattle.font_metrics.proofs.read.read_metrics.Given as goal
 -- what is given and the lines that are left make what all lines say
 abbrev pub invariant-loop-rest : goal.invariant-loop-rest
 invariant-loop-rest l = record {
-  says : metrics_of l.bytes ≡ from_line l.number l.reader (lines l.rest);
-  given : IsGiven l.reader;
+  says : metrics_of l.bytes ≡ from_line l.number l.given (lines l.rest);
+  given : IsGiven l.given;
   small : l.number + length l.rest ≤ 8388609;
 }
 

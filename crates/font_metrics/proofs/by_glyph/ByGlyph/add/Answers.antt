@@ -3,7 +3,7 @@ use Rattle.std.specs.BTreeMap.{insert_entry}
 use Rattle.std.specs.Option.{option_copied_mut}
 use Rattle.std.specs.Ordering.{nat_cmp}
 use Rattle.font_metrics.specs.Kept.{lists_of_entries}
-use Rattle.font_metrics.specs.Reading.{with_item}
+use Rattle.font_metrics.specs.Metrics.{with_item}
 use Rattle.font_metrics.proofs.Listed.{added, begun}
 use Rattle.font_metrics.proofs.by_glyph.ByGlyph.add.Goals as goal
 use Rattle.font_metrics.proofs.by_glyph.ByGlyph.add.Goals.{in-Some-1, in-None-1}

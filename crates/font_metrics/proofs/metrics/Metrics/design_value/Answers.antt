@@ -9,8 +9,8 @@ pub returns : goal.returns
 returns c =
     let is = c.unwrap_or.ensures in
     let near : IsWithin (2 ^ 16) c.unwrap_or.result =
-    subst (IsWithin (2 ^ 16)) (sym is) (or_within 0 c.given.result (omega arith) c.given.ensures.within) in
+    subst (IsWithin (2 ^ 16)) (sym is) (or_within 0 c.given_value.result (omega arith) c.given_value.ensures.within) in
     record {
-      value = back64 near (lit< tt) ∙ is ∙ ap (λ (o : Option ℤ). unwrap_or o (pos 0)) c.given.ensures.value;
+      value = back64 near (lit< tt) ∙ is ∙ ap (λ (o : Option ℤ). unwrap_or o (pos 0)) c.given_value.ensures.value;
       within = within64 near (lit< tt);
     }

@@ -2,6 +2,7 @@ use Rattle.std.proofs.Common.{◌≡◌, ◌∙◌, ap}
 use Rattle.font_metrics.specs.Print.{print_of}
 use Rattle.font_metrics.specs.Reading.{metrics_of}
 use Rattle.font_metrics.specs.Whole.{value_of}
+use Rattle.font_metrics.proofs.Finish.{whole_taken}
 use Rattle.font_metrics.proofs.Printing.{whole-print}
 use Rattle.font_metrics.proofs.ReadBack.Whole.{print_reads_back}
 use Rattle.font_metrics.proofs.metrics.Metrics.print.Goals as goal
@@ -21,4 +22,4 @@ returns-clause-print c = printed c
 
 pub returns-clause-reads_back : goal.returns-clause-reads_back
 returns-clause-reads_back c =
-    ap metrics_of (printed c) ∙ print_reads_back c.args.self.now (rw (← c.self.view_is) c.self.invariant.taken)
+    ap metrics_of (printed c) ∙ print_reads_back c.args.self.now (rw (← c.self.view_is) (whole_taken c.self.inside c.self.invariant))

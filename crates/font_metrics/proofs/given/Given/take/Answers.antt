@@ -3,7 +3,7 @@ use Rattle.font_metrics.specs.Lines.{lent}
 use Rattle.font_metrics.specs.Reading.{after_words, words_of}
 use Rattle.font_metrics.specs.Reads.{Takes}
 use Rattle.font_metrics.proofs.Cuts.{after_words-take, behind}
-use Rattle.font_metrics.proofs.reader.Reader.take.Goals as goal
+use Rattle.font_metrics.proofs.given.Given.take.Goals as goal
 
 pub returns : goal.returns
 returns c =

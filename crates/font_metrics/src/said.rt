@@ -1,0 +1,60 @@
+ghost use Rattle.std.specs.Prelude.{◌≡◌, ◌≤◌, length, IfOk};
+ghost use Rattle.font_metrics.specs.Faults.{step_map};
+ghost use Rattle.font_metrics.specs.Lines.{lent, item_in};
+ghost use Rattle.font_metrics.specs.Said.{item_of, HasLineText};
+
+use crate::fault::LineFault;
+use crate::glyph::Measures;
+use crate::glyphs::GlyphTable;
+use crate::growth::{Part, Variant};
+use crate::keyword::Keyword;
+use crate::lines::{constant_line, glyph_line, length_line, operator_line, reach_line, upem_line};
+use crate::named_lines::{character_line, part_line, variant_line};
+use op_dictionary::{Axis, OperatorLine};
+
+/// What a line behind the first says. A glyph is given by its place.
+#[derive(Clone, Copy)]
+pub enum Said<'a> {
+    /// The design units of an em.
+    Upem(u16),
+    /// The ascent and the descent of a line of text.
+    Line((u16, u16)),
+    XHeight(u16),
+    Overlap(u16),
+    /// A constant's place, and its value.
+    Constant((u8, i32)),
+    /// A glyph's name, and its measures.
+    Glyph((&'a str, Measures)),
+    /// A character, and its glyph.
+    Character((char, u16)),
+    /// A glyph, and its variant along an axis.
+    Variant(Axis, (u16, Variant)),
+    /// A glyph, and a part of its assembly along an axis.
+    Part(Axis, (u16, Part)),
+    Operator(OperatorLine),
+}
+
+/// What a line says, by its first word and its fields.
+pub fn line_says<'a>(
+    glyphs: &GlyphTable,
+    keyword: Keyword,
+    fields: &[&'a [u8]],
+) -> Result<Said<'a>, LineFault>
+    requires { length glyphs.now ≤ 65535 }
+    ensures value { step_map item_of result ≡ item_in glyphs.now keyword (lent fields.now) }
+    ensures text { IfOk result HasLineText }
+{
+    match keyword {
+        Keyword::Upem => Ok(Said::Upem(upem_line(fields)?)),
+        Keyword::Line => Ok(Said::Line(reach_line(fields)?)),
+        Keyword::XHeight => Ok(Said::XHeight(length_line(fields)?)),
+        Keyword::Overlap => Ok(Said::Overlap(length_line(fields)?)),
+        Keyword::Constant => Ok(Said::Constant(constant_line(fields)?)),
+        Keyword::Glyph => Ok(Said::Glyph(glyph_line(fields)?)),
+        Keyword::Char => Ok(Said::Character(character_line(glyphs, fields)?)),
+        Keyword::Variant(axis) => Ok(Said::Variant(axis, variant_line(glyphs, fields)?)),
+        Keyword::Part(axis) => Ok(Said::Part(axis, part_line(glyphs, fields)?)),
+        Keyword::Operator => Ok(Said::Operator(operator_line(fields)?)),
+        Keyword::Unknown => Err(LineFault::UnknownWord),
+    }
+}
