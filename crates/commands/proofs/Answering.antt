@@ -2,7 +2,7 @@
 use Rattle.std.proofs.Common.{◌≡◌, ◌⊎◌, inl, inr, ℕ, List, refl, ap, sym, ◌∙◌, subst, arith, Option, Some, None, IfSome, ◌≤◌}
 use Rattle.std.specs.Prelude.{Result, Ok, Err, IsErrOf, IsSomeAnd, IsNone, IsOk}
 use Rattle.std.specs.Option.{option_map}
-use Rattle.doc_io.specs.Causes.{Files}
+use Rattle.doc_io.specs.Causes.{Files, InputsTold}
 use Rattle.font_metrics.specs.Metrics.{MetricsValue}
 use Rattle.math_tree.specs.Trees.{TreeValue}
 use Rattle.commands.specs.Command.{Asked}
@@ -13,7 +13,7 @@ use Rattle.commands.specs.declared.command.Task.TheVariants.{Layout, Check}
 use Rattle.commands.specs.Placed.{place}
 use Rattle.commands.specs.Lines.{text_of}
 use Rattle.commands.specs.Answer.{content, metrics_in, tree_in, ◌>>=◌, done, answer_in, answer_to}
-use Rattle.commands.specs.Ends.{Seen, LacksFileOf, HasReadCause, IsCut, GivesOr, Answers}
+use Rattle.commands.specs.Ends.{LacksFileOf, HasReadCause, IsCut, GivesOr, Answers}
 use Rattle.commands.specs.declared.refusal.Refusal.{Refusal}
 use Rattle.commands.specs.declared.refusal.Refusal.TheVariants.{ReadFault, TreeLater}
 
@@ -30,7 +30,7 @@ ok_is_not_cut a (inl fault) = cc
 ok_is_not_cut a (inr memory) = cc
 
 -- a cause of a part is one of the whole
-cause_of_more : (lacks lacks' : Files → Type 0) (before mid after : Seen) → mid.files ≡ before.files
+cause_of_more : (lacks lacks' : Files → Type 0) (before mid after : InputsTold) → mid.files ≡ before.files
     → before.faults ≤ mid.faults → before.missing ≤ mid.missing
     → ((f : Files) → before.files ≡ Some f → lacks f → lacks' f) → HasReadCause lacks mid after → HasReadCause lacks' before after
 cause_of_more lacks lacks' before mid after same f m more (inl rose) = inl (omega arith)
@@ -61,20 +61,20 @@ answered task m t metrics tree h k =
 
 -- ---- the metrics file
 
-abbrev MetricsAnswer : Asked → Seen → Seen → Result MetricsValue Refusal → Type 0
+abbrev MetricsAnswer : Asked → InputsTold → InputsTold → Result MetricsValue Refusal → Type 0
 MetricsAnswer asked before after result =
     Answers (option_map (λ f. metrics_in (content f asked.metrics)) before.files) (λ f. f asked.metrics ≡ None) before after result
 
-abbrev TreeAnswer : Asked → Seen → Seen → Result TreeValue Refusal → Type 0
+abbrev TreeAnswer : Asked → InputsTold → InputsTold → Result TreeValue Refusal → Type 0
 TreeAnswer asked before after result =
     Answers (option_map (λ f. tree_in (content f asked.tree)) before.files) (λ f. f asked.tree ≡ None) before after result
 
-abbrev WholeAnswer : Asked → Seen → Seen → Result (List ℕ) Refusal → Type 0
+abbrev WholeAnswer : Asked → InputsTold → InputsTold → Result (List ℕ) Refusal → Type 0
 WholeAnswer asked before after result =
     Answers (option_map (answer_to (Some asked)) before.files) (LacksFileOf (Some asked)) before after result
 
 -- without metrics there is no answer, and the tree file isn't reached
-pub without_metrics : (asked : Asked) (before after : Seen) (r : Refusal)
+pub without_metrics : (asked : Asked) (before after : InputsTold) (r : Refusal)
     → MetricsAnswer asked before after (Err r) → WholeAnswer asked before after (Err r)
 without_metrics asked before after r a = record {
   answer = answer before.files a.answer;
@@ -118,7 +118,7 @@ done_no_fault Layout metrics tree h = by (is_built tree.root) h
     by false h = cc
 done_no_fault Check metrics tree h = cc
 
-module _ (asked : Asked) (before mid after : Seen) (metrics : MetricsValue)
+module _ (asked : Asked) (before mid after : InputsTold) (metrics : MetricsValue)
     (m : MetricsAnswer asked before mid (Ok metrics)) where
   -- the metrics file was there and gave the metrics
   given : (f : Files) → before.files ≡ Some f → metrics_in (content f asked.metrics) ≡ Ok metrics

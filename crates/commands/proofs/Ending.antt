@@ -3,12 +3,12 @@ use Rattle.std.proofs.Common.{◌≡◌, ◌⊎◌, inl, inr, ℕ, List, take, r
 use Rattle.std.specs.Prelude.{Result, Ok, Err, IsErrOf, IsSomeAnd, IsNone}
 use Rattle.std.specs.Option.{option_map}
 use Rattle.std.specs.Io.KnownBytes.{Appends, Keeps}
-use Rattle.doc_io.specs.Causes.{Files, Rose}
+use Rattle.doc_io.specs.Causes.{Files, InputsTold, Rose, SinkTold}
 use Rattle.doc_io.proofs.Known.{appends_kept}
 use Rattle.commands.specs.Command.{asked_by}
 use Rattle.commands.specs.Refusals.{status_of}
 use Rattle.commands.specs.Answer.{answer, Output, output_of, output}
-use Rattle.commands.specs.Ends.{Seen, Told, LacksFile, HasReadCause, IsCut, IsCutShort, Answers, Delivers, Ends, KnowsWords}
+use Rattle.commands.specs.Ends.{LacksFile, HasReadCause, IsCut, IsCutShort, Answers, Delivers, Ends, KnowsWords}
 use Rattle.commands.specs.declared.status.Status.{Status}
 use Rattle.commands.specs.declared.status.Status.TheVariants as status
 use Rattle.commands.specs.declared.refusal.Refusal.{Refusal}
@@ -61,40 +61,40 @@ not_write_fault ReadFault e = cc
 not_write_fault Memory e = cc
 
 -- an answer as it is delivered
-abbrev DeliversAnswer : Result (List ℕ) Refusal → Told → Told → Status → Type 0
+abbrev DeliversAnswer : Result (List ℕ) Refusal → SinkTold → SinkTold → Status → Type 0
 DeliversAnswer result old new s = Delivers (output_of result).bytes (output_of result).status old new s
 
 -- a run that was cut short wrote nothing, and its status says why
-cut_ends : (result : Result (List ℕ) Refusal) (old new : Told) (s : Status) → IsCut result → DeliversAnswer result old new s
+cut_ends : (result : Result (List ℕ) Refusal) (old new : SinkTold) (s : Status) → IsCut result → DeliversAnswer result old new s
     → ((s ≡ status.ReadFault) ⊎ (s ≡ status.Memory)) × Keeps old.written new.written
 cut_ends result old new s (inl fault) d =
     let end = (subst (λ r. DeliversAnswer r old new s) fault d).silent refl in (inl end.0, end.1)
 cut_ends result old new s (inr memory) d =
     let end = (subst (λ r. DeliversAnswer r old new s) memory d).silent refl in (inr end.0, end.1)
 
-told_fault : (result : Result (List ℕ) Refusal) (old new : Told) (s : Status) → DeliversAnswer result old new s
+told_fault : (result : Result (List ℕ) Refusal) (old new : SinkTold) (s : Status) → DeliversAnswer result old new s
     → s ≡ status.ReadFault → IsErrOf result ReadFault
 told_fault (Ok text) old new s d is = elim d.whole [ inl w ↦ absurd cc | inr e ↦ let f = e.0 in absurd cc ]
 told_fault (Err r) old new s d is = elim d.whole [ inl w ↦ absurd cc | inr e ↦ ap Err (is_read_fault r (sym e.0 ∙ is)) ]
 
-told_usage : (result : Result (List ℕ) Refusal) (old new : Told) (s : Status) → DeliversAnswer result old new s
+told_usage : (result : Result (List ℕ) Refusal) (old new : SinkTold) (s : Status) → DeliversAnswer result old new s
     → s ≡ status.Usage → IsErrOf result Usage
 told_usage (Ok text) old new s d is = elim d.whole [ inl w ↦ absurd cc | inr e ↦ let f = e.0 in absurd cc ]
 told_usage (Err r) old new s d is = elim d.whole [ inl w ↦ absurd cc | inr e ↦ ap Err (is_usage r (sym e.0 ∙ is)) ]
 
-told_memory : (result : Result (List ℕ) Refusal) (old new : Told) (s : Status) → DeliversAnswer result old new s
+told_memory : (result : Result (List ℕ) Refusal) (old new : SinkTold) (s : Status) → DeliversAnswer result old new s
     → s ≡ status.Memory → IsErrOf result Memory
 told_memory (Ok text) old new s d is = elim d.whole [ inl w ↦ absurd cc | inr e ↦ let f = e.0 in absurd cc ]
 told_memory (Err r) old new s d is = elim d.whole [ inl w ↦ absurd cc | inr e ↦ ap Err (is_memory r (sym e.0 ∙ is)) ]
 
 -- the bytes and the status are those of an output, or the run was cut short
-abbrev IsOutput : Output → Told → Told → Status → Type 0
+abbrev IsOutput : Output → SinkTold → SinkTold → Status → Type 0
 IsOutput o old new s = IsCutShort s ⊎ ((s ≡ o.status) × Appends old.written new.written o.bytes)
 
-abbrev HasFront : Output → Told → Told → Type 0
+abbrev HasFront : Output → SinkTold → SinkTold → Type 0
 HasFront o old new = (n : ℕ) × Appends old.written new.written (take n o.bytes)
 
-told_output : (result wanted : Result (List ℕ) Refusal) (old new : Told) (s : Status) → DeliversAnswer result old new s
+told_output : (result wanted : Result (List ℕ) Refusal) (old new : SinkTold) (s : Status) → DeliversAnswer result old new s
     → IsCut result ⊎ (result ≡ wanted) → IsOutput (output_of wanted) old new s × HasFront (output_of wanted) old new
 told_output result wanted old new s d (inl cut) =
     let end = cut_ends result old new s cut d in
@@ -112,14 +112,14 @@ IfSome-second None P Q h = tt
 IfSome-second (Some x) P Q h = h.1
 
 -- told files of which none that is needed lacks, and no count risen: no read had a cause to fail
-no_cause : (lacks : Files → Type 0) (before after : Seen) (files : Files) → before.files ≡ Some files
+no_cause : (lacks : Files → Type 0) (before after : InputsTold) (files : Files) → before.files ≡ Some files
     → ¬ lacks files → ¬ Rose before.faults after.faults → HasReadCause lacks before after → ⊥
 no_cause lacks before after files is none still (inl rose) = still rose
 no_cause lacks before after files is none still (inr (inl lack)) = none (subst (λ o. IsSomeAnd o lacks) is lack)
 no_cause lacks before after files is none still (inr (inr untold)) = let e = subst IsNone is untold.0 in cc
 
 -- the whole ending
-module _ (words : List (List ℕ)) (before after : Seen) (old new : Told) (s : Status) (result : Result (List ℕ) Refusal)
+module _ (words : List (List ℕ)) (before after : InputsTold) (old new : SinkTold) (s : Status) (result : Result (List ℕ) Refusal)
     (a : Answers (option_map (answer words) before.files) (LacksFile words) before after result)
     (k : KnowsWords words result)
     (d : DeliversAnswer result old new s) where
@@ -168,7 +168,7 @@ module _ (words : List (List ℕ)) (before after : Seen) (old new : Told) (s : S
   }
 
 -- the same, where the words, the text and the status were handed on
-pub run_ends : (words shown : List (List ℕ)) (before after : Seen) (old new : Told) (s : Status) (result : Result (List ℕ) Refusal)
+pub run_ends : (words shown : List (List ℕ)) (before after : InputsTold) (old new : SinkTold) (s : Status) (result : Result (List ℕ) Refusal)
     (text : List ℕ) (wanted : Status)
     → shown ≡ words → text ≡ (output_of result).bytes → wanted ≡ (output_of result).status
     → Answers (option_map (answer shown) before.files) (LacksFile shown) before after result → KnowsWords shown result

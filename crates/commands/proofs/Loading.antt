@@ -3,7 +3,7 @@ use Rattle.std.proofs.Common.{◌≡◌, ◌⊎◌, inl, inr, ℕ, ◌<◌, ◌�
 use Rattle.std.specs.Prelude.{Result, Ok, Err, IsErrOf, IsSomeAnd, IsNone}
 use Rattle.std.specs.Option.{option_map}
 use Rattle.std.proofs.lemmas.Bool.{le-ltb, lt-ltb}
-use Rattle.doc_io.specs.Causes.{Files, Rose}
+use Rattle.doc_io.specs.Causes.{Files, InputsTold, Rose}
 use Rattle.doc_io.specs.Whole.{ReadsAll}
 use Rattle.doc_io.specs.declared.whole.ReadRefusal.{ReadRefusal}
 use Rattle.doc_io.specs.declared.whole.ReadRefusal.TheVariants as reading
@@ -18,7 +18,7 @@ use Rattle.std.specs.Str.{IsUtf8, is_utf8}
 use Rattle.std.proofs.lemmas.Str.{IsUtf8-from_is_utf8, is_utf8-from_IsUtf8}
 use Rattle.commands.specs.Refusals.{of_reading}
 use Rattle.commands.specs.Answer.{content, of_metrics_file, metrics_in, json_in, of_tree_file, tree_of_json, tree_in}
-use Rattle.commands.specs.Ends.{Seen, IsCut, GivesOr, Answers}
+use Rattle.commands.specs.Ends.{IsCut, GivesOr, Answers}
 use Rattle.commands.specs.declared.refusal.Refusal.{Refusal}
 use Rattle.commands.specs.declared.refusal.Refusal.TheVariants.{MetricsLong, TreeLong, TreeJson, ReadFault, Memory}
 
@@ -33,20 +33,19 @@ gone : (files : Option Files) (name bytes : List ℕ) → IfSome files (λ f. f 
 gone None name bytes there away = away
 gone (Some f) name bytes there away = let e = sym there ∙ away in absurd cc
 
-module _ {V : Type 0} (in_bytes : List ℕ → Result V Refusal) (limit : ℕ) (name : List ℕ) (before after : Seen)
-    (same : after.files ≡ before.files) where
+module _ {V : Type 0} (in_bytes : List ℕ → Result V Refusal) (limit : ℕ) (name : List ℕ) (before after : InputsTold) where
   -- the file was read: its bytes decide
   pub read_whole : (bytes : List ℕ) (result : Result V Refusal)
-      → ReadsAll before.files before.faults after.faults before.missing after.missing name limit (Ok bytes)
+      → ReadsAll before after name limit (Ok bytes)
       → GivesOr (in_bytes bytes) result → ¬ (in_bytes bytes ≡ Err ReadFault)
       → Answers (option_map (λ f. in_bytes (content f name)) before.files) (λ f. f name ≡ None) before after result
   read_whole bytes result reads gives own = record {
     answer = by before.files reads.whole;
     fault = λ is. elim gives [ inl m ↦ absurd (let e = sym is ∙ m in cc) | inr g ↦ absurd (own (sym g ∙ is)) ];
     lacking = λ away. absurd (gone before.files name bytes reads.whole away);
-    files = same;
-    faults = reads.later;
-    missing = reads.later_missing;
+    files = reads.files;
+    faults = reads.faults;
+    missing = reads.missing;
   }
     where
       by : (files : Option Files) → IfSome files (λ f. f name ≡ Some bytes)
@@ -58,16 +57,16 @@ module _ {V : Type 0} (in_bytes : List ℕ → Result V Refusal) (limit : ℕ) (
       ]
 
   unread : (refused : ReadRefusal) (long : Refusal)
-      → ReadsAll before.files before.faults after.faults before.missing after.missing name limit (Err refused)
+      → ReadsAll before after name limit (Err refused)
       → ((bytes : List ℕ) → limit < length bytes → in_bytes bytes ≡ Err long) → ¬ (long ≡ ReadFault)
       → Answers {V = V} (option_map (λ f. in_bytes (content f name)) before.files) (λ f. f name ≡ None) before after (Err (of_reading refused long))
   unread reading.ReadFault long reads too_long own = record {
     answer = by before.files;
     fault = λ is. cause before.files (reads.fault refl);
     lacking = λ away. inl refl;
-    files = same;
-    faults = reads.later;
-    missing = reads.later_missing;
+    files = reads.files;
+    faults = reads.faults;
+    missing = reads.missing;
   }
     where
       by : (files : Option Files) → IfSome (option_map (λ f. in_bytes (content f name)) files) (λ w. IsCut {V = V} (Err ReadFault) ⊎ (Err ReadFault ≡ w))
@@ -83,9 +82,9 @@ module _ {V : Type 0} (in_bytes : List ℕ → Result V Refusal) (limit : ℕ) (
     answer = by before.files (reads.long refl);
     fault = λ is. absurd (own (err_same long ReadFault is));
     lacking = λ away. absurd (there before.files (reads.long refl) away);
-    files = same;
-    faults = reads.later;
-    missing = reads.later_missing;
+    files = reads.files;
+    faults = reads.faults;
+    missing = reads.missing;
   }
     where
       by : (files : Option Files) → IfSome files (λ f. (bytes : List ℕ) × (f name ≡ Some bytes) × (limit < length bytes))
@@ -101,9 +100,9 @@ module _ {V : Type 0} (in_bytes : List ℕ → Result V Refusal) (limit : ℕ) (
     answer = by before.files;
     fault = λ is. absurd cc;
     lacking = λ away. inr refl;
-    files = same;
-    faults = reads.later;
-    missing = reads.later_missing;
+    files = reads.files;
+    faults = reads.faults;
+    missing = reads.missing;
   }
     where
       by : (files : Option Files) → IfSome (option_map (λ f. in_bytes (content f name)) files) (λ w. IsCut {V = V} (Err Memory) ⊎ (Err Memory ≡ w))
@@ -112,7 +111,7 @@ module _ {V : Type 0} (in_bytes : List ℕ → Result V Refusal) (limit : ℕ) (
 
   -- it wasn't: the inputs failed, the file is too long, or memory was refused
   pub not_read : (refused : ReadRefusal) (long why : Refusal) → why ≡ of_reading refused long
-      → ReadsAll before.files before.faults after.faults before.missing after.missing name limit (Err refused)
+      → ReadsAll before after name limit (Err refused)
       → ((bytes : List ℕ) → limit < length bytes → in_bytes bytes ≡ Err long) → ¬ (long ≡ ReadFault)
       → Answers {V = V} (option_map (λ f. in_bytes (content f name)) before.files) (λ f. f name ≡ None) before after (Err why)
   not_read refused long why is reads too_long own =
@@ -134,14 +133,14 @@ unfolding metrics_in
 metrics_long bytes long = let yes : nat_lt 8388608 (length bytes) ≡ true = lt-ltb 8388608 (length bytes) long in rw yes refl
 
 -- the bytes that were read, as they were handed on
-pub metrics_read : (name bytes shown : List ℕ) (before after : Seen) (result : Result MetricsValue Refusal) → after.files ≡ before.files
-    → ReadsAll before.files before.faults after.faults before.missing after.missing name 8388608 (Ok bytes)
+pub metrics_read : (name bytes shown : List ℕ) (before after : InputsTold) (result : Result MetricsValue Refusal)
+    → ReadsAll before after name 8388608 (Ok bytes)
     → shown ≡ bytes → GivesOr (of_metrics_file (metrics_of shown)) result
     → Answers (option_map (λ f. metrics_in (content f name)) before.files) (λ f. f name ≡ None) before after result
-metrics_read name bytes shown before after result same reads is gives =
+metrics_read name bytes shown before after result reads is gives =
     let whole : metrics_in bytes ≡ of_metrics_file (metrics_of shown) =
     metrics_short bytes reads.short ∙ ap (λ b. of_metrics_file (metrics_of b)) (sym is) in
-    read_whole metrics_in 8388608 name before after same bytes result reads
+    read_whole metrics_in 8388608 name before after bytes result reads
     (subst (λ w. GivesOr w result) (sym whole) gives)
     (λ fault. metrics_no_fault (metrics_of shown) (sym whole ∙ fault))
 
@@ -163,14 +162,14 @@ json_no_fault : (json : Option Data) → tree_of_json json ≡ Err ReadFault →
 json_no_fault None h = let e = err_same TreeJson ReadFault h in cc
 json_no_fault (Some value) h = tree_no_fault (tree_of value) h
 
-pub tree_read : (name bytes shown : List ℕ) (before after : Seen) (result : Result TreeValue Refusal) → after.files ≡ before.files
-    → ReadsAll before.files before.faults after.faults before.missing after.missing name 4194304 (Ok bytes)
+pub tree_read : (name bytes shown : List ℕ) (before after : InputsTold) (result : Result TreeValue Refusal)
+    → ReadsAll before after name 4194304 (Ok bytes)
     → shown ≡ bytes → GivesOr (tree_of_json (json_in shown)) result
     → Answers (option_map (λ f. tree_in (content f name)) before.files) (λ f. f name ≡ None) before after result
-tree_read name bytes shown before after result same reads is gives =
+tree_read name bytes shown before after result reads is gives =
     let whole : tree_in bytes ≡ tree_of_json (json_in shown) =
     tree_short bytes reads.short ∙ ap (λ b. tree_of_json (json_in b)) (sym is) in
-    read_whole tree_in 4194304 name before after same bytes result reads
+    read_whole tree_in 4194304 name before after bytes result reads
     (subst (λ w. GivesOr w result) (sym whole) gives)
     (λ fault. json_no_fault (json_in shown) (sym whole ∙ fault))
 

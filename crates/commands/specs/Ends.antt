@@ -1,31 +1,13 @@
 -- How a run ends, and why.
 use Rattle.std.specs.Prelude.{◌≡◌, ◌⊎◌, ℕ, ◌≤◌, List, [], take, Option, Some, None, IsNone, IfSome, IsSomeAnd, Result, IsOk, IsErrOf}
 use Rattle.std.specs.Io.KnownBytes.{Appends, Keeps}
-use Rattle.doc_io.specs.Causes.{Files, Rose}
+use Rattle.doc_io.specs.Causes.{Files, InputsTold, Rose, SinkTold}
 use Rattle.commands.specs.Command.{Asked, asked_by}
 use Rattle.commands.specs.Answer.{content, metrics_in, output}
 use Rattle.commands.specs.declared.status.Status.{Status}
 use Rattle.commands.specs.declared.status.Status.TheVariants.{Usage, ReadFault, WriteFault, Memory}
 use Rattle.commands.specs.declared.refusal.Refusal.{Refusal}
 use Rattle.commands.specs.declared.refusal.Refusal.TheVariants as refusal
-
--- what inputs tell at a moment
-pub record Seen : Type 0 where
-  pub files : Option Files
-  pub faults : ℕ
-  pub missing : ℕ
-
-abbrev pub seen : {X : Type 0} → (X → Option Files) → (X → ℕ) → (X → ℕ) → X → Seen
-seen files faults missing inputs =
-    record { files = files inputs; faults = faults inputs; missing = missing inputs }
-
--- what a sink tells at a moment
-pub record Told : Type 0 where
-  pub written : Option (List ℕ)
-  pub faults : ℕ
-
-abbrev pub told : {X : Type 0} → (X → Option (List ℕ)) → (X → ℕ) → X → Told
-told written faults out = record { written = written out; faults = faults out }
 
 -- ---- which files are reached
 
@@ -47,7 +29,7 @@ LacksFile words files = LacksFileOf (asked_by words) files
 
 -- a count of faults rose; or a file that is needed isn't there; or the inputs don't tell their
 -- files and the count of missing ones rose
-abbrev pub HasReadCause : (Files → Type 0) → Seen → Seen → Type 0
+abbrev pub HasReadCause : (Files → Type 0) → InputsTold → InputsTold → Type 0
 HasReadCause lacks before after =
     Rose before.faults after.faults
     ⊎ (IsSomeAnd before.files lacks ⊎ (IsNone before.files × Rose before.missing after.missing))
@@ -64,7 +46,7 @@ GivesOr wanted result = IsErrOf result refusal.Memory ⊎ (result ≡ wanted)
 
 -- the wanted answer, or the reason why it was cut short
 pub record Answers {V : Type 0} (wanted : Option (Result V Refusal)) (lacks : Files → Type 0)
-    (before after : Seen) (result : Result V Refusal) : Type 0 where
+    (before after : InputsTold) (result : Result V Refusal) : Type 0 where
   pub answer : IfSome wanted (λ answer. IsCut result ⊎ (result ≡ answer))
   pub fault : IsErrOf result refusal.ReadFault → HasReadCause lacks before after
   pub lacking : IsSomeAnd before.files lacks → IsCut result
@@ -79,7 +61,7 @@ pub record KnowsWords {V : Type 0} (words : List (List ℕ))
   pub unknown : asked_by words ≡ None → IsErrOf result refusal.Usage
 
 -- the text was written and the status is the wanted one, or a write failed
-pub record Delivers (text : List ℕ) (wanted : Status) (old new : Told)
+pub record Delivers (text : List ℕ) (wanted : Status) (old new : SinkTold)
     (status : Status) : Type 0 where
   pub whole : (status ≡ WriteFault) ⊎ ((status ≡ wanted) × Appends old.written new.written text)
   pub front : (n : ℕ) × Appends old.written new.written (take n text)
@@ -91,7 +73,7 @@ pub record Delivers (text : List ℕ) (wanted : Status) (old new : Told)
 abbrev pub IsCutShort : Status → Type 0
 IsCutShort status = (status ≡ ReadFault) ⊎ ((status ≡ WriteFault) ⊎ (status ≡ Memory))
 
-pub record Ends (words : List (List ℕ)) (before after : Seen) (old new : Told)
+pub record Ends (words : List (List ℕ)) (before after : InputsTold) (old new : SinkTold)
     (status : Status) : Type 0 where
   -- the output's status with its bytes written, or one of the three endings that cut a run short
   pub outcome : IfSome before.files (λ files.

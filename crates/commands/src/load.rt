@@ -1,7 +1,7 @@
 ghost use Rattle.std.specs.Prelude.{◌≡◌, ◌≤◌, None, IsErrOf, length};
 ghost use Rattle.std.specs.Option.{option_map};
 ghost use Rattle.commands.specs.Answer.{content, metrics_in, tree_in, tree_of_json, json_in, of_metrics_file, of_tree_file};
-ghost use Rattle.commands.specs.Ends.{Answers, GivesOr, seen};
+ghost use Rattle.commands.specs.Ends.{Answers, GivesOr};
 ghost use Rattle.font_metrics.specs.Reading.{metrics_of};
 ghost use Rattle.math_tree.specs.Reading.{tree_of};
 ghost use Rattle.serde_json.specs.View.{view};
@@ -26,10 +26,9 @@ pub fn load_metrics<I: Inputs>(
     inputs: &mut I,
 ) -> Result<Metrics, Refusal>
     ensures answers { Answers
-        (option_map (λ files. metrics_in (content files name.now)) (I.files inputs.old))
+        (option_map (λ files. metrics_in (content files name.now)) (I.told inputs.old).files)
         (λ files. files name.now ≡ None)
-        (seen I.files I.faults I.missing inputs.old)
-        (seen I.files I.faults I.missing inputs.new) result }
+        (I.told inputs.old) (I.told inputs.new) result }
     ensures known { ¬ IsErrOf result Refusal.Usage }
 {
     match read_all(alloc, inputs, name, METRICS_LIMIT) {
@@ -50,10 +49,9 @@ fn metrics_of(alloc: Global, bytes: &[u8]) -> Result<Metrics, Refusal>
 /// Reads the tree of a file.
 pub fn load_tree<I: Inputs>(alloc: Global, name: &str, inputs: &mut I) -> Result<Tree, Refusal>
     ensures answers { Answers
-        (option_map (λ files. tree_in (content files name.now)) (I.files inputs.old))
+        (option_map (λ files. tree_in (content files name.now)) (I.told inputs.old).files)
         (λ files. files name.now ≡ None)
-        (seen I.files I.faults I.missing inputs.old)
-        (seen I.files I.faults I.missing inputs.new) result }
+        (I.told inputs.old) (I.told inputs.new) result }
     ensures known { ¬ IsErrOf result Refusal.Usage }
 {
     match read_all(alloc, inputs, name, TREE_LIMIT) {

@@ -2,7 +2,7 @@ ghost use Rattle.std.specs.Prelude.{◌≡◌, ◌≢◌, Some, Ok, IsErrOf, IfO
 ghost use Rattle.std.specs.Option.{option_map};
 ghost use Rattle.commands.specs.Command.{asked_of};
 ghost use Rattle.commands.specs.Answer.{answer, answer_to, done, laid_out, checked};
-ghost use Rattle.commands.specs.Ends.{Answers, Delivers, Ends, GivesOr, KnowsWords, LacksFile, LacksFileOf, seen, told};
+ghost use Rattle.commands.specs.Ends.{Answers, Delivers, Ends, GivesOr, KnowsWords, LacksFile, LacksFileOf};
 
 use crate::command::{Request, Task};
 use crate::lines::Lines;
@@ -27,9 +27,8 @@ pub fn run<I: Inputs, O: Sink, L: Ledger>(
     steps: &mut Steps<L>,
 ) -> Status
     ensures ends { Ends (map string_bytes words.now)
-        (seen I.files I.faults I.missing inputs.old)
-        (seen I.files I.faults I.missing inputs.new)
-        (told O.written O.faults out.old) (told O.written O.faults out.new) result }
+        (I.told inputs.old) (I.told inputs.new)
+        (O.told out.old) (O.told out.new) result }
     ensures steps { steps.new ≡ steps.old }
 {
     match answer(alloc, words, inputs) {
@@ -41,8 +40,7 @@ pub fn run<I: Inputs, O: Sink, L: Ledger>(
 /// Writes a text and answers the status, unless a write fails.
 fn deliver<O: Sink>(out: &mut O, text: &[u8], status: Status) -> Status
     requires { status ≢ Status.WriteFault }
-    ensures { Delivers text.now status
-        (told O.written O.faults out.old) (told O.written O.faults out.new) result }
+    ensures { Delivers text.now status (O.told out.old) (O.told out.new) result }
 {
     // Nothing to write: no write can fail.
     if text.is_empty() {
@@ -57,10 +55,9 @@ fn deliver<O: Sink>(out: &mut O, text: &[u8], status: Status) -> Status
 /// The text that the words ask for, or why there is none.
 fn answer<I: Inputs>(alloc: Global, words: &[String], inputs: &mut I) -> Result<List<u8>, Refusal>
     ensures answers { Answers
-        (option_map (answer (map string_bytes words.now)) (I.files inputs.old))
+        (option_map (answer (map string_bytes words.now)) (I.told inputs.old).files)
         (LacksFile (map string_bytes words.now))
-        (seen I.files I.faults I.missing inputs.old)
-        (seen I.files I.faults I.missing inputs.new) result }
+        (I.told inputs.old) (I.told inputs.new) result }
     ensures knows { KnowsWords (map string_bytes words.now) result }
 {
     match Request::from_words(words) {
@@ -76,10 +73,9 @@ fn carry_out<I: Inputs>(
     inputs: &mut I,
 ) -> Result<List<u8>, Refusal>
     ensures answers { Answers
-        (option_map (answer_to (Some (asked_of request.entry))) (I.files inputs.old))
+        (option_map (answer_to (Some (asked_of request.entry))) (I.told inputs.old).files)
         (LacksFileOf (Some (asked_of request.entry)))
-        (seen I.files I.faults I.missing inputs.old)
-        (seen I.files I.faults I.missing inputs.new) result }
+        (I.told inputs.old) (I.told inputs.new) result }
     ensures known { ¬ IsErrOf result Refusal.Usage }
 {
     let metrics = load_metrics(alloc, request.metrics, inputs)?;

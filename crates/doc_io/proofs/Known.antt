@@ -10,6 +10,12 @@ appends_kept None b h = tt
 appends_kept (Some a) None h = absurd h
 appends_kept (Some a) (Some b) h = h ∙ sym (append-nil a)
 
+-- nothing that is appended keeps them
+pub kept_of_nothing : (a b : Option (List ℕ)) → Appends a b [] → Keeps a b
+kept_of_nothing None b h = tt
+kept_of_nothing (Some a) None h = absurd h
+kept_of_nothing (Some a) (Some b) h = h ∙ append-nil a
+
 -- two pieces one after another
 pub appends_both : (a b c : Option (List ℕ)) (xs ys : List ℕ) → Appends a b xs → Appends b c ys →
     Appends a c (xs ++ ys)

@@ -5,3 +5,4 @@ pub mod MemoryFiles
 pub mod MemoryCalls
 pub mod Worked
 pub mod SystemFiles
+pub mod SystemWrites

@@ -29,13 +29,15 @@ selects_found old name file there some spared = record {
 }
 
 -- so the file is selected as the trait asks, and no count moves
-pub selects_told : {E : Type 0} (files : Files) (faults missing : ℕ) (name : List ℕ) (file : Option (List ℕ)) →
+pub selects_told : {E : Type 0} (files : Files) (faults missing : ℕ) (before : Option (List ℕ)) (name : List ℕ) (file : Option (List ℕ)) →
     files name ≡ file → IsSome file →
-    Selects {E = E} (Some files) (Some (unwrap_or file [])) faults faults missing missing name (Ok tt)
-selects_told files faults missing name None there some = absurd (cc)
-selects_told files faults missing name (Some bytes) there some = record {
-  later = omega arith;
-  later_missing = omega arith;
+    Selects {E = E} (record { files = Some files; rest = before; faults = faults; missing = missing })
+    (record { files = Some files; rest = Some (unwrap_or file []); faults = faults; missing = missing }) name (Ok tt)
+selects_told files faults missing before name None there some = absurd (cc)
+selects_told files faults missing before name (Some bytes) there some = record {
+  files = refl;
+  faults = omega arith;
+  missing = omega arith;
   found = (ap is_some there, sym there);
   unselected = tt;
   told = λ _. refl;

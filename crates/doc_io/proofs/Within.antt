@@ -2,7 +2,7 @@
 use Rattle.std.proofs.Common.{◌≡◌, ℕ, ◌+◌, ◌≤◌, List, ◌++◌, length, drop, ap, refl, sym, ◌∙◌, arith, length-append, Result, Option, Some, None, IfSome, IsSome, inl}
 use Rattle.std.proofs.Math.Seq.{drop-append_seam}
 use Rattle.std.specs.Io.KnownBytes.{Consumes}
-use Rattle.doc_io.specs.Causes.{Files}
+use Rattle.doc_io.specs.Causes.{Files, InputsTold}
 use Rattle.doc_io.specs.Whole.{ConsumesAtMost, IsWithoutFront, ReadsWithin}
 use Rattle.doc_io.specs.declared.whole.ReadRefusal.{ReadRefusal}
 use Rattle.doc_io.proofs.Known.{consumes_both}
@@ -28,8 +28,12 @@ of_file None rest rest' most s e c = absurd (cc)
 of_file (Some bytes) rest rest' most s e c = (bytes, refl, without_front bytes rest rest' most e c)
 
 -- a reader of a selected file takes a front of it
-pub reads_within : (files : Option Files) (rest rest' : Option (List ℕ)) (name : List ℕ) (most : ℕ) (result : Result (List ℕ) ReadRefusal) →
-    IfSome files (λ f. IsSome (f name) × (rest ≡ f name)) → ConsumesAtMost most rest rest' →
-    ReadsWithin most files rest' name result
-reads_within None rest rest' name most result h c = tt
-reads_within (Some f) rest rest' name most result h c = inl (of_file (f name) rest rest' most h.0 h.1 c)
+pub reads_within : (before mid after : InputsTold) (name : List ℕ) (most : ℕ) (result : Result (List ℕ) ReadRefusal) →
+    IfSome before.files (λ f. IsSome (f name) × (mid.rest ≡ f name)) → ConsumesAtMost most mid.rest after.rest →
+    ReadsWithin most before after name result
+reads_within before mid after name most result h c = by before.files h
+  where
+    by : (files : Option Files) → IfSome files (λ f. IsSome (f name) × (mid.rest ≡ f name)) →
+        ReadsWithin most (record before { files = files }) after name result
+    by None h = tt
+    by (Some f) h = inl (of_file (f name) mid.rest after.rest most h.0 h.1 c)

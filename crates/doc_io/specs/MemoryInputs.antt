@@ -8,7 +8,7 @@ use Rattle.std.specs.Cmp.Lexicographic.{slice_cmp}
 use Rattle.std.specs.List.{AllByRecursion}
 use Rattle.std.specs.Result.{IsOkAnd}
 use Rattle.std.specs.FinMap.{FinMap, code, get, insert}
-use Rattle.doc_io.specs.Causes.{raised}
+use Rattle.doc_io.specs.Causes.{InputsTold, raised}
 use Rattle.doc_io.specs.FailingCalls.{fails_next}
 use Rattle.doc_io.specs.declared.memory_inputs.Named.{Named}
 
@@ -81,6 +81,15 @@ bytes_at files at =
 -- what is left of the selected file; nothing, where none is selected
 abbrev pub left_in : FilesInMemory → List ℕ
 left_in m = drop m.place (unwrap_or m.selected [])
+
+-- what it tells: all of its files, and what is left of the selected one
+abbrev pub told_in : FilesInMemory → InputsTold
+told_in m = record {
+  files = Some (get m.files);
+  rest = Some (left_in m);
+  faults = m.faults;
+  missing = m.missing;
+}
 
 -- after one call more
 abbrev pub called : FilesInMemory → FilesInMemory

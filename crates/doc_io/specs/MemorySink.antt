@@ -1,6 +1,6 @@
 -- A sink in memory: what it holds, and what a write does to it.
-use Rattle.std.specs.Prelude.{◌≡◌, ℕ, ◌-◌, ◌||◌, min, nat_le, Bool, true, false, List, ◌++◌, length, take, Result, Ok, IsErr}
-use Rattle.doc_io.specs.Causes.{raised}
+use Rattle.std.specs.Prelude.{◌≡◌, ℕ, ◌-◌, ◌||◌, min, nat_le, Bool, true, false, List, ◌++◌, length, take, Result, Ok, Some, IsErr}
+use Rattle.doc_io.specs.Causes.{SinkTold, raised}
 use Rattle.doc_io.specs.FailingCalls.{fails_next}
 
 -- what a test sees of a sink in memory
@@ -13,6 +13,10 @@ pub record BytesInMemory : Type 0 where
   pub calls : ℕ
   -- the count
   pub faults : ℕ
+
+-- what it tells: all of its bytes
+abbrev pub told_in : BytesInMemory → SinkTold
+told_in s = record { written = Some s.bytes; faults = s.faults }
 
 -- whether the next call fails: by its number, or since no room is left
 abbrev pub write_fails : BytesInMemory → Bool

@@ -1,11 +1,9 @@
-ghost use Rattle.std.specs.Prelude.{◌≡◌, ◌≢◌, ◌<◌, ◌≤◌, [], false, length, IfOk, IsErr, None, Ok, OnErr, Some, MatchResult};
-ghost use Rattle.std.specs.Io.{ReadsAtMost};
-ghost use Rattle.std.specs.Io.KnownBytes.{ReadConsumes, WriteAppends};
-ghost use Rattle.doc_io.specs.Causes.{HasCause, Selects, raised};
-ghost use Rattle.doc_io.specs.Edge.{RaisesOne, ReadsFile, SelectsFile};
+ghost use Rattle.std.specs.Prelude.{◌≡◌, ◌<◌, ◌≤◌, [], false, length, IfOk, IsErr, Ok, OnErr, Some, MatchResult};
+ghost use Rattle.doc_io.specs.Causes.{Reads, Rose, Selects, Writes, raised};
+ghost use Rattle.doc_io.specs.Edge.{Opens, ReadsFile, SelectsFile, told_of};
 
 use crate::{Failed, Inputs, Sink};
-use std::io::{ErrorKind, Read};
+use std::io::{ErrorKind, Read, Write};
 use std::marker::Model;
 use std::rt::Files;
 use std::{fs, io};
@@ -49,61 +47,59 @@ impl<'a, R: Files> FileInputs<'a, R> {
             missing: 0,
         }
     }
-}
 
-impl<'a, R: Files> FileInputs<'a, R> {
-    /// Counts an error of the system: a file that isn't found is missing, and all else is a fault.
-    fn count(&mut self, kind: ErrorKind)
-        ensures missing { kind ≡ ErrorKind.NotFound →
-            self.new ≡ record self.old { missing = raised self.old.missing } }
-        ensures fault { kind ≢ ErrorKind.NotFound →
-            self.new ≡ record self.old { faults = raised self.old.faults } }
-        ensures one { RaisesOne self.old self.new }
-        ensures later { self.old.faults ≤ self.new.faults }
-        ensures later_missing { self.old.missing ≤ self.new.missing }
-        ensures left { self.new.left ≡ self.old.left }
-        ensures selected { self.new.selected ≡ self.old.selected }
+    /// How often a call failed by a fault.
+    pub fn faults(&self) -> u64
+        ensures { result ≡ self.now.faults }
     {
-        match kind {
-            ErrorKind::NotFound => self.missing = self.missing.saturating_add(1),
-            _ => self.faults = self.faults.saturating_add(1),
-        }
+        self.faults
+    }
+
+    /// How often a name was selected that the system didn't find.
+    pub fn missing(&self) -> u64
+        ensures { result ≡ self.now.missing }
+    {
+        self.missing
     }
 }
 
-impl<'a, R: Files> Inputs for FileInputs<'a, R> {
-    ghost files = { λ _. None };
-
-    ghost rest = { λ inputs. inputs.left };
-
-    ghost faults = { λ inputs. inputs.faults };
-
-    ghost missing = { λ inputs. inputs.missing };
-
-    fn select(&mut self, name: &str) -> Result<(), Failed>
-        ensures selects { Selects None self.new.left self.old.faults self.new.faults
-            self.old.missing self.new.missing name.now result }
-        ensures counts { SelectsFile self.old self.new result }
+impl<'a, R: Files> FileInputs<'a, R> {
+    /// What the system answered to an opening: a file, which is selected, or an error, which is
+    /// counted. Where the file isn't found it is missing, and every other error is a fault.
+    fn opened(&mut self, answer: io::Result<R::File>) -> Result<(), Failed>
+        ensures { Opens R.File.remaining self.old self.new answer result }
     {
-        self.file = None;
-        match fs::open(self.rt, name) {
+        match answer {
             Ok(file) => {
                 self.file = Some(file);
                 Ok(())
             }
             Err(error) => {
-                self.count(error.kind());
+                self.file = None;
+                match error.kind() {
+                    ErrorKind::NotFound => self.missing = self.missing.saturating_add(1),
+                    _ => self.faults = self.faults.saturating_add(1),
+                }
                 Err(Failed)
             }
         }
     }
+}
+
+impl<'a, R: Files> Inputs for FileInputs<'a, R> {
+    ghost told = { told_of };
+
+    fn select(&mut self, name: &str) -> Result<(), Failed>
+        ensures selects { Selects (told_of self.old) (told_of self.new) name.now result }
+        ensures counts { SelectsFile self.old self.new result }
+    {
+        let answer = fs::open(self.rt, name);
+        self.opened(answer)
+    }
 
     fn read(&mut self, into: &mut [u8]) -> Result<usize, Failed>
         requires { 0 < length into.old }
-        ensures missing { self.new.missing ≡ self.old.missing }
-        ensures bound { ReadsAtMost result into.new }
-        ensures bytes { ReadConsumes self.old.left self.new.left result into.new }
-        ensures cause { HasCause self.old.faults self.new.faults result }
+        ensures reads { Reads (told_of self.old) (told_of self.new) into.new result }
         ensures counts { ReadsFile self.old self.new result }
     {
         let Some(file) = &mut self.file else {
@@ -118,41 +114,44 @@ impl<'a, R: Files> Inputs for FileInputs<'a, R> {
     }
 }
 
-/// Standard output. What stands there is not told.
+/// A writer of the system, as standard output, of whose content nothing is told but what the writer
+/// itself tells, and standard output tells nothing.
 ///
 /// Each error of the system raises the count by one, and so does a write that took no byte.
 #[derive(Drop)]
-pub struct StdSink<'a, R: Print> {
-    rt: &'a R,
+pub struct StdSink<W: Write + Drop> {
+    out: W,
     faults: u64,
 }
 
-impl<'a, R: Print> Model for StdSink<'a, R> {
-    ghost use Rattle.std.specs.Prelude.{ℕ};
+impl<W: Write + Drop> Model for StdSink<W> {
+    ghost use Rattle.doc_io.specs.Causes.{SinkTold};
 
-    ghost Value = { ℕ };
+    ghost Value = { SinkTold };
 
-    ghost view = { λ sink. sink.faults };
+    ghost view = { λ sink. record { written = W.contents sink.out; faults = sink.faults } };
 }
 
-impl<'a, R: Print> StdSink<'a, R> {
-    /// Standard output, without a fault so far.
-    pub fn make(rt: &'a R) -> StdSink<'a, R>
-        ensures { result ≡ 0 }
+impl<W: Write + Drop> StdSink<W> {
+    /// A writer, without a fault so far.
+    pub fn make(out: W) -> StdSink<W>
+        ensures { result ≡ record { written = W.contents out; faults = 0 } }
     {
-        StdSink { rt, faults: 0 }
+        StdSink { out, faults: 0 }
     }
 }
 
-impl<'a, R: Print> StdSink<'a, R> {
+impl<W: Write + Drop> StdSink<W> {
     /// What the system answered to a write: bytes that it took, or else a fault that is counted.
     fn counted(&mut self, answer: io::Result<usize>) -> Result<usize, Failed>
+        ensures written { self.new.written ≡ self.old.written }
+        ensures faults { self.old.faults ≤ self.new.faults }
         ensures taken { IfOk answer (λ n. 0 < n → result ≡ Ok n) }
         ensures none { IfOk answer (λ n. n ≡ 0 → IsErr result) }
         ensures failed { OnErr answer (IsErr result) }
-        ensures cause { HasCause self.old self.new result }
         ensures counts { MatchResult result
-            (λ _. self.new ≡ self.old) (λ _. self.new ≡ raised self.old) }
+            (λ n. (0 < n) × (answer ≡ Ok n) × (self.new.faults ≡ self.old.faults))
+            (λ _. self.new.faults ≡ raised self.old.faults) }
     {
         if let Ok(count) = answer
             && count > 0
@@ -164,21 +163,16 @@ impl<'a, R: Print> StdSink<'a, R> {
     }
 }
 
-impl<'a, R: Print> Sink for StdSink<'a, R> {
-    ghost written = { λ _. None };
-
-    ghost faults = { λ sink. sink };
+impl<W: Write + Drop> Sink for StdSink<W> {
+    ghost told = { λ sink. sink };
 
     fn write(&mut self, from: &[u8]) -> Result<usize, Failed>
         requires { 0 < length from.now }
-        ensures bound { IfOk result (λ n. n ≤ length from.now) }
-        ensures progress { IfOk result (λ n. 0 < n) }
-        ensures bytes { WriteAppends None None result from.now }
-        ensures cause { HasCause self.old self.new result }
+        ensures writes { Writes self.old self.new from.now result }
         ensures counts { MatchResult result
-            (λ _. self.new ≡ self.old) (λ _. self.new ≡ raised self.old) }
+            (λ _. self.new.faults ≡ self.old.faults) (λ _. self.new.faults ≡ raised self.old.faults) }
     {
-        let answer = self.rt.write_some(from);
+        let answer = self.out.write(from);
         self.counted(answer)
     }
 }

@@ -1,10 +1,8 @@
-ghost use Rattle.std.specs.Prelude.{◌≡◌, ◌+◌, ◌<◌, ◌≤◌, ◌^◌, ◌∷◌, ◌++◌, [], length, drop, min, None, OnErr, OnOk, Some, take, unwrap_or};
+ghost use Rattle.std.specs.Prelude.{◌≡◌, ◌+◌, ◌<◌, ◌≤◌, ◌^◌, ◌∷◌, ◌++◌, [], length, drop, min, None, OnErr, OnOk, take, unwrap_or};
 ghost use Rattle.std.specs.Option.{ForSome};
-ghost use Rattle.std.specs.Io.{ReadsAtMost};
-ghost use Rattle.std.specs.Io.KnownBytes.{ReadConsumes};
 ghost use Rattle.std.specs.FinMap as map;
-ghost use Rattle.doc_io.specs.Causes.{HasCause, Selects};
-ghost use Rattle.doc_io.specs.MemoryInputs.{IsGreatest, IsUncut, ReadsInMemory, SelectsInMemory, bytes_at, left_in, put_in};
+ghost use Rattle.doc_io.specs.Causes.{Reads, Selects};
+ghost use Rattle.doc_io.specs.MemoryInputs.{IsGreatest, IsUncut, ReadsInMemory, SelectsInMemory, bytes_at, put_in, told_in};
 
 use crate::{Failed, Inputs};
 use fixed_units::{List, Memory, Txt};
@@ -121,18 +119,10 @@ impl MemoryInputs {
 }
 
 impl Inputs for MemoryInputs {
-    ghost files = { λ inputs. Some (map.get inputs.files) };
-
-    ghost rest = { λ inputs. Some (left_in inputs) };
-
-    ghost faults = { λ inputs. inputs.faults };
-
-    ghost missing = { λ inputs. inputs.missing };
+    ghost told = { told_in };
 
     fn select(&mut self, name: &str) -> Result<(), Failed>
-        ensures files { map.get self.new.files ≡ map.get self.old.files }
-        ensures selects { Selects (Some (map.get self.old.files)) (Some (left_in self.new))
-            self.old.faults self.new.faults self.old.missing self.new.missing name.now result }
+        ensures selects { Selects (told_in self.old) (told_in self.new) name.now result }
         ensures exactly { SelectsInMemory self.old self.new name.now result }
         ensures spared { self.old.failing ≡ [] → self.new.faults ≡ self.old.faults }
     {
@@ -153,12 +143,7 @@ impl Inputs for MemoryInputs {
 
     fn read(&mut self, into: &mut [u8]) -> Result<usize, Failed>
         requires { 0 < length into.old }
-        ensures files { map.get self.new.files ≡ map.get self.old.files }
-        ensures missing { self.new.missing ≡ self.old.missing }
-        ensures bound { ReadsAtMost result into.new }
-        ensures bytes { ReadConsumes (Some (left_in self.old)) (Some (left_in self.new))
-            result into.new }
-        ensures cause { HasCause self.old.faults self.new.faults result }
+        ensures reads { Reads (told_in self.old) (told_in self.new) into.new result }
         ensures exactly { ReadsInMemory self.old self.new into.old into.new result }
         ensures spared { self.old.failing ≡ [] → self.new.faults ≡ self.old.faults }
     {

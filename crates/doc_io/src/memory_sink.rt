@@ -1,7 +1,6 @@
-ghost use Rattle.std.specs.Prelude.{◌≡◌, ◌<◌, ◌≤◌, ◌∷◌, ◌++◌, [], length, IfOk, OnErr, OnOk, Some};
-ghost use Rattle.std.specs.Io.KnownBytes.{WriteAppends};
-ghost use Rattle.doc_io.specs.Causes.{HasCause};
-ghost use Rattle.doc_io.specs.MemorySink.{WritesInMemory};
+ghost use Rattle.std.specs.Prelude.{◌≡◌, ◌<◌, ◌≤◌, ◌∷◌, ◌++◌, [], length, IfOk, OnErr, OnOk};
+ghost use Rattle.doc_io.specs.Causes.{Writes};
+ghost use Rattle.doc_io.specs.MemorySink.{WritesInMemory, told_in};
 
 use crate::{Failed, Sink};
 use fixed_units::{List, Memory};
@@ -72,16 +71,11 @@ impl MemorySink {
 }
 
 impl Sink for MemorySink {
-    ghost written = { λ sink. Some sink.bytes };
-
-    ghost faults = { λ sink. sink.faults };
+    ghost told = { told_in };
 
     fn write(&mut self, from: &[u8]) -> Result<usize, Failed>
         requires { 0 < length from.now }
-        ensures bound { IfOk result (λ n. n ≤ length from.now) }
-        ensures progress { IfOk result (λ n. 0 < n) }
-        ensures bytes { WriteAppends (Some self.old.bytes) (Some self.new.bytes) result from.now }
-        ensures cause { HasCause self.old.faults self.new.faults result }
+        ensures writes { Writes (told_in self.old) (told_in self.new) from.now result }
         ensures exactly { WritesInMemory self.old self.new from.now result }
         ensures spared { self.old.failing ≡ [] → length self.old.bytes < self.old.room →
             self.new.faults ≡ self.old.faults }

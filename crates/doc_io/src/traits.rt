@@ -1,7 +1,5 @@
-ghost use Rattle.std.specs.Prelude.{◌≡◌, ℕ, ◌<◌, ◌≤◌, List, length, Option, IfOk};
-ghost use Rattle.std.specs.Io.{ReadsAtMost};
-ghost use Rattle.std.specs.Io.KnownBytes.{ReadConsumes, WriteAppends};
-ghost use Rattle.doc_io.specs.Causes.{Files, HasCause, Selects};
+ghost use Rattle.std.specs.Prelude.{◌<◌, length};
+ghost use Rattle.doc_io.specs.Causes.{InputsTold, Reads, Selects, SinkTold, Writes};
 
 use thiserror::Error;
 
@@ -12,53 +10,33 @@ pub struct Failed;
 
 /// Named files, of which one at a time is selected and read from its front.
 ///
-/// An implementation tells the files, or it tells nothing of content. It counts its failures: a
-/// caller that meets `Failed` knows which count rose. A count stops at 2^64 - 1, and there it
-/// passes for risen.
+/// An implementation tells the files, or it tells nothing of content. It counts its failures: after
+/// a `Failed` a count rose. A count never falls; it stops at 2^64 - 1, and there it passes for
+/// risen.
 pub trait Inputs {
-    /// The files by name, where they are told. No call changes them.
-    ghost files: { Self → Option Files };
-
-    /// What is left of the selected file, where it is told. With no file selected nothing is left.
-    ghost rest: { Self → Option (List ℕ) };
-
-    /// How often a call failed by a fault.
-    ghost faults: { Self → ℕ };
-
-    /// How often a name was selected that no file has.
-    ghost missing: { Self → ℕ };
+    /// The files by name, what is left of the selected one, and the counts. No call changes the
+    /// files, and with no file selected nothing is left.
+    ghost told: { Self → InputsTold };
 
     /// Selects the file of a name, from its front. After `Failed` no file is selected.
     fn select(&mut self, name: &str) -> Result<(), Failed>
-        ensures files { files self.new ≡ files self.old }
-        ensures selects { Selects (files self.old) (rest self.new) (faults self.old) (faults self.new)
-            (missing self.old) (missing self.new) name.now result };
+        ensures { Selects (told self.old) (told self.new) name.now result };
 
     /// Moves some bytes of the selected file to the front of `into`, and says how many: at least
     /// one, or 0 at the end of the file. `Failed` moves none.
     fn read(&mut self, into: &mut [u8]) -> Result<usize, Failed>
         requires { 0 < length into.old }
-        ensures files { files self.new ≡ files self.old }
-        ensures missing { missing self.new ≡ missing self.old }
-        ensures bound { ReadsAtMost result into.new }
-        ensures bytes { ReadConsumes (rest self.old) (rest self.new) result into.new }
-        ensures cause { HasCause (faults self.old) (faults self.new) result };
+        ensures { Reads (told self.old) (told self.new) into.new result };
 }
 
-/// What takes the bytes that the program writes.
+/// What takes the bytes that the program writes. Its count of failures never falls.
 pub trait Sink {
-    /// The bytes written so far, where they are told.
-    ghost written: { Self → Option (List ℕ) };
-
-    /// How often a call failed.
-    ghost faults: { Self → ℕ };
+    /// The bytes written so far, and how often a call failed.
+    ghost told: { Self → SinkTold };
 
     /// Appends some bytes from the front of a piece, and says how many: at least one. `Failed`
     /// appends none, and is the answer also where no byte could be taken.
     fn write(&mut self, from: &[u8]) -> Result<usize, Failed>
         requires { 0 < length from.now }
-        ensures bound { IfOk result (λ n. n ≤ length from.now) }
-        ensures progress { IfOk result (λ n. 0 < n) }
-        ensures bytes { WriteAppends (written self.old) (written self.new) result from.now }
-        ensures cause { HasCause (faults self.old) (faults self.new) result };
+        ensures { Writes (told self.old) (told self.new) from.now result };
 }

@@ -55,10 +55,8 @@ pub fn read_all<I: Inputs>(
     name: &str,
     limit: usize,
 ) -> Result<List<u8>, ReadRefusal>
-    ensures files { I.files inputs.new ≡ I.files inputs.old }
-    ensures reads { ReadsAll (I.files inputs.old) (I.faults inputs.old) (I.faults inputs.new)
-        (I.missing inputs.old) (I.missing inputs.new) name.now limit result }
-    ensures within { ReadsWithin (limit + 1) (I.files inputs.old) (I.rest inputs.new)
+    ensures reads { ReadsAll (I.told inputs.old) (I.told inputs.new) name.now limit result }
+    ensures within { ReadsWithin (limit + 1) (I.told inputs.old) (I.told inputs.new)
         name.now result }
 {
     match inputs.select(name) {
@@ -69,8 +67,7 @@ pub fn read_all<I: Inputs>(
 
 /// Appends a whole piece to what was written. After a fault a front of it was written.
 pub fn write_all<O: Sink>(out: &mut O, bytes: &[u8]) -> Result<(), WriteFault>
-    ensures writes { WritesAll (O.written out.old) (O.written out.new)
-        (O.faults out.old) (O.faults out.new) bytes.now result }
+    ensures { WritesAll (O.told out.old) (O.told out.new) bytes.now result }
 {
     let mut at = 0;
     while at < bytes.len() {
@@ -88,11 +85,8 @@ fn read_rest<I: Inputs>(
     inputs: &mut I,
     limit: usize,
 ) -> Result<List<u8>, ReadRefusal>
-    ensures files { I.files inputs.new ≡ I.files inputs.old }
-    ensures missing { I.missing inputs.new ≡ I.missing inputs.old }
-    ensures reads { ReadsRest (I.rest inputs.old) (I.faults inputs.old) (I.faults inputs.new)
-        limit result }
-    ensures within { ConsumesAtMost (limit + 1) (I.rest inputs.old) (I.rest inputs.new) }
+    ensures reads { ReadsRest (I.told inputs.old) (I.told inputs.new) limit result }
+    ensures within { ConsumesAtMost (limit + 1) (I.told inputs.old).rest (I.told inputs.new).rest }
 {
     let mut bytes = List::make(alloc);
     let mut block = [0u8; BLOCK];

@@ -41,7 +41,7 @@ fn run_counted<L: Ledger>(rt: &(impl Env + Files + Print + AllocGlobal), blank: 
         rt.alloc(),
         words.as_slice(),
         &mut FileInputs::make(rt),
-        &mut StdSink::make(rt),
+        &mut StdSink::make(io::writer(rt)),
         &mut Steps::<L>::new(blank),
     )
 }

@@ -6,9 +6,9 @@ use Rattle.commands.proofs.load.load_metrics.Goals as goal
 
 pub returns-in-Ok-clause-answers : goal.returns-in-Ok-clause-answers
 returns-in-Ok-clause-answers g c =
-    metrics_read _ _ _ _ _ _ c.in-Ok.ensures.files c.in-Ok.ensures.reads c.as_slice.ensures c.metrics_of.ensures.gives
+    metrics_read _ _ _ _ _ _ c.in-Ok.ensures.reads c.as_slice.ensures c.metrics_of.ensures.gives
 
 pub returns-in-Err-clause-answers : goal.returns-in-Err-clause-answers
 returns-in-Err-clause-answers g c =
     let own : ¬ (MetricsLong ≡ ReadFault) = λ e. cc in
-    not_read metrics_in 8388608 _ _ _ c.in-Err.ensures.files _ MetricsLong _ c.of_reading.ensures c.in-Err.ensures.reads metrics_long own
+    not_read metrics_in 8388608 _ _ _ _ MetricsLong _ c.of_reading.ensures c.in-Err.ensures.reads metrics_long own

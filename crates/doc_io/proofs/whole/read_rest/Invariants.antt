@@ -3,13 +3,16 @@ use Rattle.std.specs.Io.KnownBytes.{Consumes}
 use Rattle.doc_io.proofs.whole.read_rest.Given as goal
 
 abbrev pub invariant-loop-block : goal.invariant-loop-block
-invariant-loop-block g l = record {
-  short : length l.bytes ≤ l.limit;
-  taken : Consumes (g.I.Inputs.rest l.fn.inputs) (g.I.Inputs.rest l.inputs) l.bytes;
-  later : g.I.Inputs.faults l.fn.inputs ≤ g.I.Inputs.faults l.inputs;
-  files : g.I.Inputs.files l.inputs ≡ g.I.Inputs.files l.fn.inputs;
-  missing : g.I.Inputs.missing l.inputs ≡ g.I.Inputs.missing l.fn.inputs;
-}
+invariant-loop-block g l =
+    let before = g.I.Inputs.told l.fn.inputs in
+    let now = g.I.Inputs.told l.inputs in
+    record {
+      short : length l.bytes ≤ l.limit;
+      taken : Consumes before.rest now.rest l.bytes;
+      faults : before.faults ≤ now.faults;
+      files : now.files ≡ before.files;
+      missing : now.missing ≡ before.missing;
+    }
 
 abbrev pub decreases-loop-block : goal.decreases-loop-block
 decreases-loop-block g l = l.limit - length l.bytes

@@ -18,7 +18,7 @@ pub returns-clause-selects : goal.returns-clause-selects
 returns-clause-selects c =
     let there : get (put_in empty c.self.inside.files) c.args.name.now ≡ bytes_at c.self.inside.files (Some c.in-Some.index) = cc c.in-Some.ensures.bytes in
     let some = bytes_within c.self.inside.files c.in-Some.index (search rules) in
-    rw (← c.self.view_is) (selects_told _ _ _ _ _ there some)
+    rw (← c.self.view_is) (selects_told _ _ _ _ _ _ there some)
 
 pub returns-clause-exactly : goal.returns-clause-exactly
 returns-clause-exactly c =
