@@ -2,7 +2,7 @@
 pub mod Nodes
 -- for the crates above: the elements and the bytes in a node, from those in its children
 pub mod Counts
-mod OnLiterals
+pub mod OnLiterals
 mod Worked
 mod Known
 mod Members
