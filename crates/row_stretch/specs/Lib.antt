@@ -1,0 +1,3 @@
+pub mod Equation
+pub mod Laws
+pub mod Questions
