@@ -1,4 +1,5 @@
 pub mod Digits
+pub mod Parts
 pub mod Products
 pub mod Rounding
 pub mod Signed

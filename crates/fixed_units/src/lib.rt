@@ -5,13 +5,14 @@
 //!   those that MathML Core 3.1.1 gives a box ("Box Model"); rounding and the form of a length text
 //!   are this project's own.
 //! - Proved: `round` and `half` give the one number that their relation allows
-//!   (`specs/Numbers.antt`, `laws`); `read_length` and `resolve` are exact (`specs/Lengths.antt`),
-//!   and so are `fits`, `raise`, `join` and `join_all` (`specs/Boxes.antt`); `List` and `Txt` are
-//!   lists, and a refused call leaves its list as it was; `tick` alone raises a count of steps, by
-//!   one.
+//!   (`specs/Numbers.antt`, `laws`); `read_length` and `resolve` are exact (`specs/Lengths.antt`,
+//!   and as a grammar `specs/Grammar.antt`), and so are `fits`, `raise`, `join` and `join_all`
+//!   (`specs/Boxes.antt`); `List` and `Txt` are lists, and a refused call leaves its list as it
+//!   was; `tick` alone raises a count of steps, by one.
 //! - Knows nothing of: fonts, trees, files.
 //! - Change a number's rule: `specs/Numbers.antt`, then `src/numbers.rt`, then `rt check`.
-//!   Change the form of lengths: `specs/Lengths.antt`, then `src/reading.rt`.
+//!   Change the form of lengths: `specs/Lengths.antt` and `specs/Grammar.antt`, then
+//!   `src/reading.rt`.
 #![tactic(auto)]
 
 mod boxes;
