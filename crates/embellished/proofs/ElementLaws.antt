@@ -20,7 +20,7 @@ use Rattle.embellished.proofs.Nodes.{facts_out, kinds_mapped}
 
 -- ---- how many children a valid element has
 
-abbrev but_annotations : List Kind → List Kind
+abbrev pub but_annotations : List Kind → List Kind
 but_annotations kids = filter (λ kid. not (is_annotation kid)) kids
 
 abbrev is_row : Kind → Bool
@@ -33,7 +33,7 @@ valid_at kind laid kids true v e r = subst (λ k. is_valid k kids ≡ true) e v
 valid_at kind laid kids false v e r = absurd (true≢false (ap is_row e ∙ r))
 
 -- what isn't laid out as a row is valid
-laid_is_valid : (kind laid : Kind) (kids : List Kind) → laid_as kind kids ≡ laid → is_row laid ≡ false
+pub laid_is_valid : (kind laid : Kind) (kids : List Kind) → laid_as kind kids ≡ laid → is_row laid ≡ false
     → is_valid laid (but_annotations kids) ≡ true
 unfolding laid_as
 laid_is_valid kind laid kids e r = valid_at kind laid (but_annotations kids) (is_valid kind (but_annotations kids)) refl e r
@@ -65,12 +65,18 @@ module _ (kind : Kind) (kids : List Kid) where
   of_count Munderover e = as_many kids ∙ eqb-true _ 3 (laid_is_valid kind Munderover (map laid_kid kids) e refl)
   of_count other e = tt
 
+-- an element of a tree is laid out by how its children are
+pub laid_of : (node : Node) → laid_as (out-Node node).head.kind (map laid_kid (map kid_of (out-Node node).children)) ≡ (facts node).laid
+unfolding facts_over
+laid_of node =
+    let element = out-Node node in
+    ap (laid_as element.head.kind) (kinds_mapped element.children) ∙ sym (ap (λ f. f.laid) (facts_out node))
+
 pub children_counted : (node : Node) → IfSome (children_of (facts node).laid) (λ n. length (seen_of node).kids ≡ n)
-unfolding seen_of facts_over
+unfolding seen_of
 children_counted node =
     let element = out-Node node in
-    of_count element.head.kind (map kid_of element.children) (facts node).laid
-    (ap (laid_as element.head.kind) (kinds_mapped element.children) ∙ sym (ap (λ f. f.laid) (facts_out node)))
+    of_count element.head.kind (map kid_of element.children) (facts node).laid (laid_of node)
 
 -- ---- nothing is space-like and embellished
 
@@ -106,14 +112,14 @@ judged_apart other e = absurd (true≢false (sym e))
 
 module _ (head : Head) (laid : Kind) (flow : List Facts) where
   -- the core, by what the kind tells
-  chosen : Bool → Bool → Bool → Option Core
+  abbrev pub chosen : Bool → Bool → Bool → Option Core
   chosen operator led judged =
       cond operator (Some (core_of_operator head))
       (cond led (first_core flow) (cond judged (only_core (but_space_like flow)) None))
 
-  core_is : (operator led judged : Bool) → is_operator laid ≡ operator → is_led_by_its_base laid ≡ led → is_judged_by_all laid ≡ judged
+  pub core_is : (operator led judged : Bool) → is_operator laid ≡ operator → is_led_by_its_base laid ≡ led → is_judged_by_all laid ≡ judged
       → core_of head laid flow ≡ chosen operator led judged
-  unfolding core_below chosen
+  unfolding core_below
   core_is operator led judged o l j =
       ap (λ b. cond b (Some (core_of_operator head)) (cond (is_led_by_its_base laid) (first_core flow) (cond (is_judged_by_all laid) (only_core (but_space_like flow)) None))) o
       ∙ ap (λ b. cond operator (Some (core_of_operator head)) (cond b (first_core flow) (cond (is_judged_by_all laid) (only_core (but_space_like flow)) None))) l
@@ -121,7 +127,6 @@ module _ (head : Head) (laid : Kind) (flow : List Facts) where
 
   no_core : (blank : Bool) → is_blank laid ≡ blank → (blank || (is_judged_by_all laid && list_all (λ kid. kid.space_like) flow)) ≡ true
       → core_of head laid flow ≡ None
-  unfolding chosen
   no_core true b e = let apart = blank_apart laid b in core_is false false false apart.0 apart.1 apart.2
   no_core false b e =
       let parts = and_parts (is_judged_by_all laid) (list_all (λ kid. kid.space_like) flow) e in

@@ -1,6 +1,12 @@
-pub mod ElementLaws
-pub mod Letters
 pub mod Nodes
-pub mod Pieces
-pub mod Places
-pub mod Worked
+pub mod InFlow
+pub mod KnownFacts
+pub mod FencePlaces
+mod Scripts
+pub mod ElementLaws
+pub mod FlowLaws
+pub mod CoreLaws
+pub mod Stretching
+mod Letters
+mod Pieces
+mod Worked

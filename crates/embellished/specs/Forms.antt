@@ -1,10 +1,11 @@
 -- The form of an operator by its place, and its properties (MathML Core 3.2.4.2 and 3.2.4.3).
-use Rattle.std.specs.Prelude.{ℕ, ◌+◌, Bool, not, ◌&&◌, nat_eq, nat_lt, if◌then◌else◌, List, take, drop, is_some, unwrap_or, slice_get}
+use Rattle.std.specs.Prelude.{◌≡◌, ℕ, ◌+◌, Bool, true, not, ◌&&◌, nat_eq, nat_lt, if◌then◌else◌, List, take, drop, Option, Some, None, is_some, unwrap_or, slice_get}
 use Rattle.std.specs.List.{list_all}
-use Rattle.std.specs.Option.{option_map_or}
+use Rattle.std.specs.Option.{option_and_then, option_map_or}
 use Rattle.op_dictionary.specs.BuiltIn.{properties_of}
-use Rattle.op_dictionary.specs.Dictionary.{category_of}
+use Rattle.op_dictionary.specs.Dictionary.{axis_of, category_of}
 use Rattle.op_dictionary.specs.declared.extra.OperatorLine.{OperatorLine}
+use Rattle.op_dictionary.specs.declared.operator.Axis.{Axis}
 use Rattle.op_dictionary.specs.declared.operator.Form.{Form}
 use Rattle.op_dictionary.specs.declared.operator.Form.TheVariants.{Prefix, Infix, Postfix}
 use Rattle.op_dictionary.specs.declared.operator.Properties.{Properties}
@@ -68,3 +69,22 @@ properties_at core form lines =
       largeop = unwrap_or core.largeop listed.largeop;
       movablelimits = unwrap_or core.movablelimits listed.movablelimits;
     }
+
+-- ---- stretching
+
+-- the axis along which an operator with this core stretches, where it does
+abbrev pub core_axis : Form → List OperatorLine → Core → Option Axis
+core_axis form lines core =
+    if (properties_at core form lines).stretchy then Some (axis_of core.text lines) else None
+
+-- the axis along which an element with these facts stretches in a form
+unfoldable pub stretch_axis : Facts → Form → List OperatorLine → Option Axis
+stretch_axis facts form lines = option_and_then (core_axis form lines) facts.core
+
+-- an element stretches along an axis: it is embellished, its core's `stretchy` is true in its form,
+-- and the axis is that of its core's text
+pub record StretchesAlong (facts : Facts) (form : Form) (lines : List OperatorLine) (axis : Axis) : Type 0 where
+  pub core : Core
+  pub embellished : facts.core ≡ Some core
+  pub stretchy : (properties_at core form lines).stretchy ≡ true
+  pub along : axis_of core.text lines ≡ axis

@@ -1,7 +1,9 @@
 pub mod Facts
+pub mod Fences
 pub mod Flow
 pub mod Forms
 pub mod Kinds
+pub mod Known
 pub mod Laws
 pub mod Seen
 pub mod Texts

@@ -1,5 +1,5 @@
 -- What a view shows of an element: all that its layout knows of it besides its children's answers.
-use Rattle.std.specs.Prelude.{◌≡◌, ℕ, not, Some, slice_get, if◌then◌else◌, List, length, map, filter}
+use Rattle.std.specs.Prelude.{◌≡◌, ℕ, ◌+◌, not, Some, slice_get, if◌then◌else◌, List, [], ◌∷◌, length, map, filter}
 use Rattle.std.specs.List.{position_or_len}
 use Rattle.math_tree.specs.declared.kind.Kind.{Kind}
 use Rattle.math_tree.specs.declared.node.Head.{Head}
@@ -57,15 +57,53 @@ pub record HasKid (seen : Seen) (index : ℕ) (P : Kid → Type 0) : Type 0 wher
   pub at : slice_get seen.kids index ≡ Some kid
   pub holds : P kid
 
+-- ---- which of all children are in flow
+
+-- a child, and its place among all children of its parent, counted from 0
+pub record Child : Type 0 where
+  pub place : ℕ
+  pub node : Node
+
+-- children whose places rise by one from this on
+abbrev pub children_from : ℕ → List Node → List Child
+children_from place [] = []
+children_from place (node ∷ nodes) =
+    record { place = place; node = node } ∷ children_from (place + 1) nodes
+
+abbrev pub laid_child : Child → Kind
+laid_child child = (facts child.node).laid
+
+-- the children in flow of an element of a tree
+unfoldable pub flow_children : Node → List Child
+flow_children node = flow_by laid_child (facts node).laid (children_from 0 (out-Node node).children)
+
+-- their nodes
+abbrev pub flow_nodes : Node → List Node
+flow_nodes node = map (λ child. child.node) (flow_children node)
+
+-- the child in flow at an index: it is the one at its place among all children, a view shows it, and
+-- what holds of it
+pub record HasChild (node : Node) (index : ℕ) (P : Child → Type 0) : Type 0 where
+  pub child : Child
+  pub in_flow : slice_get (flow_children node) index ≡ Some child
+  pub among : slice_get (out-Node node).children child.place ≡ Some child.node
+  pub shown : slice_get (seen_of node).kids index ≡ Some (kid_of child.node)
+  pub holds : P child
+
 -- ---- the code's parts of it
 
-abbrev pub shown_kid : ShownKid → Kid
-shown_kid kid = record { head = kid.head.now; facts = kid.facts }
+-- a child with what is known of it
+pub record KnownChild : Type 0 where
+  pub child : Child
+  pub facts : Facts
 
-abbrev pub laid_shown : ShownKid → Kind
-laid_shown kid = kid.facts.laid
+abbrev pub known_child : Child → KnownChild
+known_child child = record { child = child; facts = facts child.node }
 
-pub record IsShown (node : Node) (facts : Facts) (kids : List Kid) (prescripts : ℕ) : Type 0 where
+abbrev pub shown_child : ShownKid → KnownChild
+shown_child kid = record { child = record { place = kid.place; node = kid.node.now }; facts = kid.facts }
+
+pub record IsShown (node : Node) (facts : Facts) (children : List KnownChild) (prescripts : ℕ) : Type 0 where
   pub facts_are : (seen_of node).facts ≡ facts
-  pub kids_are : (seen_of node).kids ≡ kids
+  pub children_are : map known_child (flow_children node) ≡ children
   pub prescripts_are : (seen_of node).prescripts ≡ prescripts

@@ -2,7 +2,7 @@ ghost use Rattle.std.specs.Prelude.{◌≡◌, IfOk};
 ghost use Rattle.std.specs.List.{list_all};
 ghost use Rattle.embellished.specs.Facts.{is_space_like, core_below, core_of, but_space_like, first_core, only_core, facts_over};
 
-use crate::flow::flow;
+use crate::flow::{LaidOut, flow};
 use crate::kinds::{is_blank, is_judged_by_all, is_led_by_its_base};
 use crate::operator::core_of_operator;
 use crate::validity::laid_as;
@@ -20,6 +20,14 @@ pub struct Facts {
     pub core: Option<Core>,
     /// The kind as which it is laid out: its own, or `Mrow` where it is invalid.
     pub laid: Kind,
+}
+
+impl LaidOut for Facts {
+    ghost kind = { λ facts. facts.laid };
+
+    fn laid(&self) -> Kind {
+        self.laid
+    }
 }
 
 /// The operator `mo` at the core of an embellished operator: its text and what its attributes say.

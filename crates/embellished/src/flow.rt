@@ -1,17 +1,25 @@
 ghost use Rattle.std.specs.Prelude.{◌≡◌, IfOk};
-ghost use Rattle.embellished.specs.Facts.{laid_kind};
+ghost use Rattle.math_tree.specs.declared.kind.Kind.{Kind};
 ghost use Rattle.embellished.specs.Flow.{may_show, shown_by, flow_by};
 
-use crate::facts::Facts;
 use crate::kinds::{is_annotation, is_prescripts_mark, shows_its_first, shows_none};
 use fixed_units::Memory;
 use math_tree::Kind;
 use std::alloc::Global;
 
+/// A child of which it is known as which kind it is laid out.
+pub trait LaidOut: Copy {
+    /// The kind as which it is laid out.
+    ghost kind: { Self → Kind };
+
+    fn laid(&self) -> Kind
+        ensures { result ≡ kind self.now };
+}
+
 /// The children in flow of an element that is laid out as this kind.
 #[tactic(auto, unfolding(crate::specs::Flow::flow_by))]
-pub fn flow(alloc: Global, laid: Kind, kids: &[Facts]) -> Result<Vec<Facts>, Memory>
-    ensures { IfOk result (λ flow. flow.items ≡ flow_by laid_kind laid kids.now) }
+pub fn flow<T: LaidOut>(alloc: Global, laid: Kind, kids: &[T]) -> Result<Vec<T>, Memory>
+    ensures { IfOk result (λ flow. flow.items ≡ flow_by T.kind laid kids.now) }
 {
     if shows_none(laid) {
         return Ok(Vec::new(alloc));
@@ -23,14 +31,15 @@ pub fn flow(alloc: Global, laid: Kind, kids: &[Facts]) -> Result<Vec<Facts>, Mem
 }
 
 /// Those of the children that may be in flow.
-fn shown(alloc: Global, laid: Kind, kids: &[Facts]) -> Result<Vec<Facts>, Memory>
-    ensures { IfOk result (λ flow. flow.items ≡ shown_by laid_kind laid kids.now) }
+fn shown<T: LaidOut>(alloc: Global, laid: Kind, kids: &[T]) -> Result<Vec<T>, Memory>
+    ensures { IfOk result (λ flow. flow.items ≡ shown_by T.kind laid kids.now) }
 {
-    let flow = kids
-        .iter()
-        .copied()
-        .filter(|kid| may_show(laid, kid.laid))
-        .collect(alloc)?;
+    let mut flow = Vec::new(alloc);
+    for kid in kids {
+        if may_show(laid, kid.laid()) {
+            flow.push(*kid)?;
+        }
+    }
     Ok(flow)
 }
 

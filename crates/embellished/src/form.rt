@@ -1,8 +1,10 @@
-ghost use Rattle.std.specs.Prelude.{◌≡◌, ◌+◌, ◌≤◌, ◌<◌, length, take, drop};
-ghost use Rattle.embellished.specs.Forms.{are_space_like, leads, fence_form, form_by_place, form_at};
+ghost use Rattle.std.specs.Prelude.{◌≡◌, ◌<◌, length};
+ghost use Rattle.embellished.specs.Fences.{fences_in};
+ghost use Rattle.embellished.specs.Forms.{leads, fence_form, form_by_place, form_at};
 ghost use Rattle.embellished.specs.Seen.{seen_of};
 
 use crate::facts::Facts;
+use crate::fences::{Fences, fences_of};
 use crate::kinds::{has_fences, is_led_by_its_base, is_scripted};
 use crate::view::View;
 use math_tree::Kind;
@@ -12,9 +14,20 @@ use op_dictionary::Form;
 ///
 /// An attribute of its core gives it. Else a child that leads to the core of its parent has the
 /// parent's form, and any other the form of its place. A child that is no operator is infix.
-#[tactic(auto, unfolding(crate::specs::Forms::form_at))]
+///
+/// It looks at all children; for the forms of many of them take `form_within`.
 pub fn form_of<V: View>(parent: &V, index: usize, own: Form) -> Form
     requires { index < length (seen_of (V.element parent.now)).kids }
+    ensures { result ≡ form_at (seen_of (V.element parent.now)) index own }
+{
+    form_within(parent, fences_of(parent), index, own)
+}
+
+/// The same, where the parent's fences are known. It looks at this child alone.
+#[tactic(auto, unfolding(crate::specs::Forms::form_at))]
+pub fn form_within<V: View>(parent: &V, fences: Fences, index: usize, own: Form) -> Form
+    requires known { fences ≡ fences_in (seen_of (V.element parent.now)).kids }
+    requires within { index < length (seen_of (V.element parent.now)).kids }
     ensures { result ≡ form_at (seen_of (V.element parent.now)) index own }
 {
     let kid = parent.kid_facts(index);
@@ -28,7 +41,7 @@ pub fn form_of<V: View>(parent: &V, index: usize, own: Form) -> Form
     if facts.core.is_some() && leads(facts.laid, kid, index) {
         own
     } else {
-        form_by_place(parent, facts.laid, index)
+        form_by_place(parent, facts.laid, fences, index)
     }
 }
 
@@ -45,12 +58,13 @@ fn leads(laid: Kind, kid: Facts, index: usize) -> bool
 
 /// The form that the place of a child gives it.
 #[tactic(auto, unfolding(crate::specs::Forms::form_by_place))]
-fn form_by_place<V: View>(parent: &V, laid: Kind, index: usize) -> Form
-    requires { index < length (seen_of (V.element parent.now)).kids }
+fn form_by_place<V: View>(parent: &V, laid: Kind, fences: Fences, index: usize) -> Form
+    requires known { fences ≡ fences_in (seen_of (V.element parent.now)).kids }
+    requires within { index < length (seen_of (V.element parent.now)).kids }
     ensures { result ≡ form_by_place laid (seen_of (V.element parent.now)).kids index }
 {
     if has_fences(laid) {
-        fence_form(parent, index)
+        fence_form(parent, fences, index)
     } else if is_scripted(laid) && 0 < index {
         Form::Postfix
     } else {
@@ -60,31 +74,17 @@ fn form_by_place<V: View>(parent: &V, laid: Kind, index: usize) -> Form
 
 /// Prefix for the first child that isn't space-like and postfix for the last, where there is more
 /// than one of them.
-#[tactic(auto, unfolding(crate::specs::Forms::fence_form))]
-fn fence_form<V: View>(parent: &V, index: usize) -> Form
-    requires { index < length (seen_of (V.element parent.now)).kids }
+#[tactic(auto, using(crate::proofs::FencePlaces::fence_is))]
+fn fence_form<V: View>(parent: &V, fences: Fences, index: usize) -> Form
+    requires known { fences ≡ fences_in (seen_of (V.element parent.now)).kids }
+    requires within { index < length (seen_of (V.element parent.now)).kids }
     ensures { result ≡ fence_form (seen_of (V.element parent.now)).kids index }
 {
-    let end = parent.kids();
-    let first = are_space_like(parent, 0, index);
-    let last = are_space_like(parent, index + 1, end);
-    match (first, last) {
+    // The view's count bounds the index.
+    let _count = parent.kids();
+    match (index <= fences.first, fences.end <= index + 1) {
         (true, false) => Form::Prefix,
         (false, true) => Form::Postfix,
         _ => Form::Infix,
     }
-}
-
-/// Whether the children in flow from `start` up to `end` are space-like.
-fn are_space_like<V: View>(parent: &V, start: usize, end: usize) -> bool
-    requires order { start ≤ end }
-    requires within { end ≤ length (seen_of (V.element parent.now)).kids }
-    ensures { result ≡ are_space_like (drop start (take end (seen_of (V.element parent.now)).kids)) }
-{
-    for index in start..end {
-        if !parent.kid_facts(index).space_like {
-            return false;
-        }
-    }
-    true
 }

@@ -1,130 +1,113 @@
-ghost use Rattle.std.specs.Prelude.{◌≡◌, ◌≤◌, length, map, IfOk};
+ghost use Rattle.std.specs.Prelude.{◌≡◌, ◌<◌, ◌≤◌, length, map, IfOk};
 ghost use Rattle.std.specs.List.{position_or_len};
 ghost use Rattle.math_tree.specs.declared.node.Node.TheViews.{out-Node};
 ghost use Rattle.embellished.specs.Facts.{facts};
-ghost use Rattle.embellished.specs.Flow.{flow_by, shown_by};
 ghost use Rattle.embellished.specs.Kinds as kinds;
-ghost use Rattle.embellished.specs.Seen.{IsShown, kid_of, laid_shown, prescripts_in, shown_kid};
+ghost use Rattle.embellished.specs.Seen.{HasChild, IsShown, children_from, known_child, prescripts_in, seen_of, shown_child};
 
-use crate::facts::{Facts, facts_of};
-use crate::flow::may_show;
-use crate::kinds::{is_prescripts_mark, shows_its_first, shows_none};
+use crate::facts::Facts;
+use crate::flow::{LaidOut, flow};
+use crate::kinds::is_prescripts_mark;
 use crate::validity::but_annotations;
 use crate::view::View;
 use fixed_units::{List, Memory};
 use math_tree::{Head, Kind, Node};
 use std::alloc::Global;
 
-/// A view of an element of a tree.
+/// A view of an element of a tree, which lends the nodes of its children too.
 #[derive(Debug, Drop)]
 pub struct NodeView<'a> {
     node: &'a Node,
     facts: Facts,
     kids: Vec<ShownKid<'a>>,
     prescripts: usize,
-    ghost shows: { IsShown node.now facts (map shown_kid kids.items) prescripts },
+    ghost shows: { IsShown node.now facts (map shown_child kids.items) prescripts },
     ghost few: { length kids.items ≤ 65535 },
 }
 
-/// A child in flow.
+/// A child, its place among all children, and what it is.
 #[derive(Clone, Copy, Debug)]
 struct ShownKid<'a> {
-    head: &'a Head,
+    node: &'a Node,
+    place: usize,
     facts: Facts,
 }
 
-/// What an element of a tree is among operators. It goes over all elements below it.
-#[cycle(facts)]
-#[tactic(auto, using(crate::proofs::Nodes::facts_out))]
-pub fn facts_of_node(alloc: Global, node: &Node) -> Result<Facts, Memory>
-    ensures { IfOk result (λ made. made ≡ facts node.now) }
-{
-    let kids = facts_of_kids(alloc, node)?;
-    facts_of(alloc, &node.head, &kids)
-}
+impl<'a> LaidOut for ShownKid<'a> {
+    ghost kind = { λ kid. kid.facts.laid };
 
-/// What the children of an element are, in order.
-#[cycle(facts)]
-pub fn facts_of_kids(alloc: Global, node: &Node) -> Result<List<Facts>, Memory>
-    ensures { IfOk result (λ made. made ≡ map facts (out-Node node.now).children) }
-{
-    let mut made = List::make(alloc);
-    for kid in node.children.as_slice() {
-        made.push(facts_of_node(alloc, kid)?)?;
+    fn laid(&self) -> Kind {
+        self.facts.laid
     }
-    Ok(made)
 }
 
 impl<'a> NodeView<'a> {
-    /// A view of a node, where it is known what its children are.
-    pub fn make(alloc: Global, node: &'a Node, kids: &List<Facts>) -> Result<NodeView<'a>, Memory>
+    /// A view of a node, where it is known what the element is and what its children are.
+    pub fn make(
+        alloc: Global,
+        node: &'a Node,
+        own: Facts,
+        kids: &List<Facts>,
+    ) -> Result<NodeView<'a>, Memory>
+        requires own { own ≡ facts node.now }
         requires known { kids.now ≡ map facts (out-Node node.now).children }
         requires few { length (out-Node node.now).children ≤ 65535 }
         ensures { IfOk result (λ view. view.node.now ≡ node.now) }
     {
-        let facts = facts_of(alloc, &node.head, kids)?;
-        let all = kids_of(alloc, node, kids.as_slice())?;
-        let shown = flow_of(alloc, facts.laid, all.as_slice())?;
-        let prescripts = prescripts_of(alloc, facts.laid, kids.as_slice(), shown.as_slice().len())?;
+        let kids = kids.as_slice();
+        let all = children_of(alloc, node, kids)?;
+        let shown = flow(alloc, own.laid, all.as_slice())?;
+        let prescripts = prescripts_of(alloc, own.laid, kids, shown.as_slice().len())?;
         Ok(NodeView {
             node,
-            facts,
+            facts: own,
             kids: shown,
             prescripts,
         })
     }
+
+    /// The element that is shown.
+    pub fn node(&self) -> &'a Node
+        ensures { result.now ≡ self.now.node.now }
+    {
+        self.node
+    }
+
+    /// The place of a child in flow among all children of the element, counted from 0.
+    pub fn place(&self, index: usize) -> usize
+        requires { index < length (seen_of self.now.node.now).kids }
+        ensures { HasChild self.now.node.now index (λ child. child.place ≡ result) }
+    {
+        self.kids[index].place
+    }
+
+    /// The node of a child in flow.
+    pub fn node_at(&self, index: usize) -> &'a Node
+        requires { index < length (seen_of self.now.node.now).kids }
+        ensures { HasChild self.now.node.now index (λ child. child.node ≡ result.now) }
+    {
+        self.kids[index].node
+    }
 }
 
-/// The children of an element, where it is known what each of them is.
-fn kids_of<'a>(alloc: Global, node: &'a Node, kids: &[Facts]) -> Result<Vec<ShownKid<'a>>, Memory>
+/// The children of an element with their places, where it is known what each of them is.
+fn children_of<'a>(
+    alloc: Global,
+    node: &'a Node,
+    kids: &[Facts],
+) -> Result<Vec<ShownKid<'a>>, Memory>
     requires known { kids.now ≡ map facts (out-Node node.now).children }
     ensures { IfOk result (λ made.
-        map shown_kid made.items ≡ map kid_of (out-Node node.now).children) }
+        map shown_child made.items ≡ map known_child (children_from 0 (out-Node node.now).children)) }
 {
     let nodes = node.children.as_slice();
     let mut made = Vec::new(alloc);
-    for index in 0..nodes.len() {
-        let kid = &nodes[index];
-        let known = &kids[index];
+    for place in 0..nodes.len() {
         made.push(ShownKid {
-            head: &kid.head,
-            facts: *known,
+            node: &nodes[place],
+            place,
+            facts: kids[place],
         })?;
-    }
-    Ok(made)
-}
-
-/// The children in flow of an element that is laid out as this kind.
-#[tactic(auto, unfolding(crate::specs::Flow::flow_by))]
-fn flow_of<'a>(
-    alloc: Global,
-    laid: Kind,
-    kids: &[ShownKid<'a>],
-) -> Result<Vec<ShownKid<'a>>, Memory>
-    ensures { IfOk result (λ made. made.items ≡ flow_by laid_shown laid kids.now) }
-{
-    if shows_none(laid) {
-        return Ok(Vec::new(alloc));
-    }
-    if shows_its_first(laid) {
-        return shown_among(alloc, laid, &kids[..kids.len().min(1)]);
-    }
-    shown_among(alloc, laid, kids)
-}
-
-/// Those of the children that may be in flow.
-fn shown_among<'a>(
-    alloc: Global,
-    laid: Kind,
-    kids: &[ShownKid<'a>],
-) -> Result<Vec<ShownKid<'a>>, Memory>
-    ensures { IfOk result (λ made. made.items ≡ shown_by laid_shown laid kids.now) }
-{
-    let mut made = Vec::new(alloc);
-    for kid in kids {
-        if may_show(laid, kid.facts.laid) {
-            made.push(*kid)?;
-        }
     }
     Ok(made)
 }
@@ -165,8 +148,8 @@ impl<'a> View for NodeView<'a> {
     }
 
     fn kid(&self, index: usize) -> &Head {
-        let kid = &self.kids[index];
-        kid.head
+        let node = self.kids[index].node;
+        &node.head
     }
 
     fn kid_facts(&self, index: usize) -> Facts {

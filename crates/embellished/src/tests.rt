@@ -100,8 +100,8 @@ Mrow ink 2207 ----- p 1 | {"name":"mrow","children":[{"name":"mfrac","children":
 fn described(alloc: Global, node: &Node) -> Result<String, Fail>
     requires few { length (out-Node node.now).children ≤ 65535 }
 {
-    let kids = facts_of_kids(alloc, node)?;
-    let view = NodeView::make(alloc, node, &kids)?;
+    let known = known_of(alloc, node)?;
+    let view = NodeView::make(alloc, node, known.facts, &known.kids)?;
     let facts = view.facts();
     let mut text = String::new(alloc);
     let blank = if facts.space_like { "space" } else { "ink" };

@@ -1,16 +1,16 @@
-use Rattle.std.proofs.Common.{◌<◌, length, refl, ap, arith}
-use Rattle.std.proofs.lemmas.List.{length-map}
-use Rattle.embellished.specs.Seen.{shown_kid, seen_of}
-use Rattle.embellished.proofs.Nodes.{shown_at}
+use Rattle.std.proofs.Common.{◌≡◌, ◌<◌, length, refl, arith}
+use Rattle.embellished.proofs.Nodes.{kid_at, kept_count}
 use Rattle.embellished.proofs.node_view.NodeViewView.kid_facts.Goals as goal
+
+pub index-requires : goal.index-requires
+index-requires c =
+    let view = c.args.self.now in
+    omega (arith, c.requires, kept_count view.node.now view.facts view.kids.items view.prescripts view.shows)
 
 pub returns : goal.returns
 returns c =
     let view = c.args.self.now in
-    let are = view.shows.kids_are in
-    let within : c.args.index < length view.kids.items = omega (arith, c.requires, ap length are, length-map view.kids.items shown_kid) in
-    record {
-      kid = shown_kid c.index.result.now;
-      at = shown_at (seen_of view.node.now) view.kids.items c.args.index c.index.result.now are within c.index.ensures;
-      holds = refl;
-    }
+    let within : c.args.index < length view.kids.items =
+    omega (arith, c.requires, kept_count view.node.now view.facts view.kids.items view.prescripts view.shows) in
+    kid_at view.node.now view.facts view.kids.items view.prescripts c.args.index c.index.result.now view.shows within c.index.ensures
+    (λ kid. kid.facts ≡ c.index.result.now.facts) refl
