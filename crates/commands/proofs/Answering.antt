@@ -1,4 +1,4 @@
--- How the answers of the two files make the answer of the words.
+-- How the answers of two parts, one after the other, make the answer of both; and the two files.
 use Rattle.std.proofs.Common.{◌≡◌, ◌⊎◌, inl, inr, ℕ, List, refl, ap, sym, ◌∙◌, subst, arith, Option, Some, None, IfSome, ◌≤◌}
 use Rattle.std.specs.Prelude.{Result, Ok, Err, IsErrOf, IsSomeAnd, IsNone, IsOk}
 use Rattle.std.specs.Option.{option_map}
@@ -12,8 +12,8 @@ use Rattle.commands.specs.declared.command.Task.{Task}
 use Rattle.commands.specs.declared.command.Task.TheVariants.{Layout, Check}
 use Rattle.commands.specs.Placed.{place}
 use Rattle.commands.specs.Lines.{text_of}
-use Rattle.commands.specs.Answer.{content, metrics_in, tree_in, ◌>>=◌, done, answer_in, answer_to}
-use Rattle.commands.specs.Ends.{LacksFileOf, HasReadCause, IsCut, GivesOr, Answers}
+use Rattle.commands.specs.Answer.{content, metrics_in, tree_in, ◌>>=◌, done, answer_over, answer_in, answer}
+use Rattle.commands.specs.Ends.{LacksFile, HasReadCause, IsCut, GivesOr, Answers}
 use Rattle.commands.specs.declared.refusal.Refusal.{Refusal}
 use Rattle.commands.specs.declared.refusal.Refusal.TheVariants.{ReadFault, TreeLater}
 
@@ -41,72 +41,103 @@ cause_of_more lacks lacks' before mid after same f m more (inr (inl lack)) = inr
     by (Some g) is h = more g is h
 cause_of_more lacks lacks' before mid after same f m more (inr (inr untold)) = inr (inr (subst IsNone same untold.0, omega (arith, untold.1)))
 
--- ---- the definition, by what the two files give
+-- ---- two parts, one after the other
 
-pub refused_by_metrics : (task : Task) (m t : List ℕ) (r : Refusal) → metrics_in m ≡ Err r → answer_in task m t ≡ Err r
-unfolding answer_in
-refused_by_metrics task m t r h = ap (λ x. x >>= λ metrics. tree_in t >>= λ tree. done task metrics tree) h
+-- what the first part gives, and then the next
+abbrev both : {A B : Type 0} → (Files → Result A Refusal) → (A → Files → Result B Refusal) → Files → Result B Refusal
+both first next files = first files >>= λ value. next value files
 
-pub refused_by_tree : (task : Task) (m t : List ℕ) (metrics : MetricsValue) (r : Refusal) → metrics_in m ≡ Ok metrics → tree_in t ≡ Err r
-    → answer_in task m t ≡ Err r
-unfolding answer_in
-refused_by_tree task m t metrics r h k =
-    ap (λ x. x >>= λ metrics. tree_in t >>= λ tree. done task metrics tree) h ∙ ap (λ x. x >>= λ tree. done task metrics tree) k
+module _ {A B : Type 0} (first : Files → Result A Refusal) (next : A → Files → Result B Refusal)
+    (lacks lacks_next lacks_both : Files → Type 0)
+    (which : (f : Files) → lacks_both f → lacks f ⊎ (lacks_next f × IsOk (first f)))
+    (before : InputsTold) where
+  -- the first part was refused: there is no answer, and the next part isn't reached
+  pub refused : (after : InputsTold) (r : Refusal) → ((f : Files) → lacks f → lacks_both f)
+      → Answers (option_map first before.files) lacks before after (Err r)
+      → Answers (option_map (both first next) before.files) lacks_both before after (Err r)
+  refused after r more a = record {
+    answer = answer before.files a.answer;
+    fault = λ is. cause_of_more lacks lacks_both before before after refl (omega arith) (omega arith)
+        (λ f there lack. more f lack) (a.fault (err_again r ReadFault is));
+    lacking = lacking before.files refl a.answer;
+    files = a.files;
+    faults = a.faults;
+    missing = a.missing;
+  }
+    where
+      answer : (files : Option Files) → IfSome (option_map first files) (λ w. IsCut {V = A} (Err r) ⊎ (Err r ≡ w))
+          → IfSome (option_map (both first next) files) (λ w. IsCut {V = B} (Err r) ⊎ (Err r ≡ w))
+      answer None h = tt
+      answer (Some f) (inl cut) = inl (cut_again r cut)
+      answer (Some f) (inr same) = inr (ap (λ x. x >>= λ value. next value f) same)
 
-pub answered : (task : Task) (m t : List ℕ) (metrics : MetricsValue) (tree : TreeValue) → metrics_in m ≡ Ok metrics → tree_in t ≡ Ok tree
-    → answer_in task m t ≡ done task metrics tree
-unfolding answer_in
-answered task m t metrics tree h k =
-    ap (λ x. x >>= λ metrics. tree_in t >>= λ tree. done task metrics tree) h ∙ ap (λ x. x >>= λ tree. done task metrics tree) k
+      lacking : (files : Option Files) → before.files ≡ files
+          → IfSome (option_map first files) (λ w. IsCut {V = A} (Err r) ⊎ (Err r ≡ w))
+          → IsSomeAnd files lacks_both → IsCut {V = B} (Err r)
+      lacking None is h lack = absurd lack
+      lacking (Some f) is h lack = elim (which f lack) [
+        | inl none ↦ cut_again r (a.lacking (subst (λ o. IsSomeAnd o lacks) (sym is) none))
+        | inr later ↦ elim h [ inl cut ↦ cut_again r cut | inr same ↦ absurd (let e = subst IsOk (sym same) later.1 in cc) ]
+      ]
 
--- ---- the metrics file
+  -- the first part gave a value: the next part decides
+  pub continued : (mid after : InputsTold) (value : A) (result : Result B Refusal)
+      → ((f : Files) → first f ≡ Ok value → lacks_next f → lacks_both f)
+      → Answers (option_map first before.files) lacks before mid (Ok value)
+      → Answers (option_map (next value) mid.files) lacks_next mid after result
+      → Answers (option_map (both first next) before.files) lacks_both before after result
+  continued mid after value result more a b = record {
+    answer = answer before.files refl;
+    fault = λ is. cause_of_more lacks_next lacks_both before mid after a.files a.faults a.missing
+        (λ f there lack. more f (given f there) lack) (b.fault is);
+    lacking = lacking before.files refl;
+    files = b.files ∙ a.files;
+    faults = omega (arith, a.faults, b.faults);
+    missing = omega (arith, a.missing, b.missing);
+  }
+    where
+      given : (f : Files) → before.files ≡ Some f → first f ≡ Ok value
+      given f is = elim (subst (λ o. IfSome (option_map first o) (λ w. IsCut (Ok value) ⊎ (Ok value ≡ w))) is a.answer) [
+        | inl cut ↦ absurd (ok_is_not_cut value cut)
+        | inr same ↦ sym same
+      ]
 
-abbrev MetricsAnswer : Asked → InputsTold → InputsTold → Result MetricsValue Refusal → Type 0
-MetricsAnswer asked before after result =
-    Answers (option_map (λ f. metrics_in (content f asked.metrics)) before.files) (λ f. f asked.metrics ≡ None) before after result
+      answer : (files : Option Files) → before.files ≡ files → IfSome (option_map (both first next) files) (λ w. IsCut result ⊎ (result ≡ w))
+      answer None is = tt
+      answer (Some f) is =
+          elim (subst (λ o. IfSome (option_map (next value) o) (λ w. IsCut result ⊎ (result ≡ w))) (a.files ∙ is) b.answer) [
+            | inl cut ↦ inl cut
+            | inr same ↦ inr (same ∙ sym (ap (λ x. x >>= λ value. next value f) (given f is)))
+          ]
 
-abbrev TreeAnswer : Asked → InputsTold → InputsTold → Result TreeValue Refusal → Type 0
-TreeAnswer asked before after result =
-    Answers (option_map (λ f. tree_in (content f asked.tree)) before.files) (λ f. f asked.tree ≡ None) before after result
+      lacking : (files : Option Files) → before.files ≡ files → IsSomeAnd files lacks_both → IsCut result
+      lacking None is lack = absurd lack
+      lacking (Some f) is lack = elim (which f lack) [
+        | inl none ↦ absurd (ok_is_not_cut value (a.lacking (subst (λ o. IsSomeAnd o lacks) (sym is) none)))
+        | inr later ↦ b.lacking (subst (λ o. IsSomeAnd o lacks_next) (sym (a.files ∙ is)) later.0)
+      ]
 
-abbrev WholeAnswer : Asked → InputsTold → InputsTold → Result (List ℕ) Refusal → Type 0
-WholeAnswer asked before after result =
-    Answers (option_map (answer_to (Some asked)) before.files) (LacksFileOf (Some asked)) before after result
-
--- without metrics there is no answer, and the tree file isn't reached
-pub without_metrics : (asked : Asked) (before after : InputsTold) (r : Refusal)
-    → MetricsAnswer asked before after (Err r) → WholeAnswer asked before after (Err r)
-without_metrics asked before after r a = record {
-  answer = answer before.files a.answer;
-  fault = λ is. cause_of_more (λ f. f asked.metrics ≡ None) (LacksFileOf (Some asked)) before before after refl (omega arith) (omega arith)
-      (λ f there lack. (asked.metrics, inl refl, lack)) (a.fault (err_again r ReadFault is));
-  lacking = lacking before.files refl a.answer;
-  files = a.files;
-  faults = a.faults;
-  missing = a.missing;
+-- what needs no file
+pub without_files : {V : Type 0} (wanted result : Result V Refusal) (seen : InputsTold) → ¬ (wanted ≡ Err ReadFault) → GivesOr wanted result
+    → Answers (option_map (λ f. wanted) seen.files) (λ f. ⊥) seen seen result
+without_files wanted result seen own gives = record {
+  answer = answer seen.files;
+  fault = λ is. elim gives [ inl memory ↦ absurd (let e = sym is ∙ memory in cc) | inr same ↦ absurd (own (sym same ∙ is)) ];
+  lacking = λ lack. absurd (none seen.files lack);
+  files = refl;
+  faults = omega arith;
+  missing = omega arith;
 }
   where
-    answer : (files : Option Files) → IfSome (option_map (λ f. metrics_in (content f asked.metrics)) files) (λ w. IsCut {V = MetricsValue} (Err r) ⊎ (Err r ≡ w))
-        → IfSome (option_map (answer_to (Some asked)) files) (λ w. IsCut {V = List ℕ} (Err r) ⊎ (Err r ≡ w))
-    answer None h = tt
-    answer (Some f) (inl cut) = inl (cut_again r cut)
-    answer (Some f) (inr same) = inr (sym (refused_by_metrics asked.task (content f asked.metrics) (content f asked.tree) r (sym same)))
+    answer : (files : Option Files) → IfSome (option_map (λ f. wanted) files) (λ w. IsCut result ⊎ (result ≡ w))
+    answer None = tt
+    answer (Some f) = elim gives [ inl memory ↦ inl (inr memory) | inr same ↦ inr same ]
 
-    lacking : (files : Option Files) → before.files ≡ files
-        → IfSome (option_map (λ f. metrics_in (content f asked.metrics)) files) (λ w. IsCut {V = MetricsValue} (Err r) ⊎ (Err r ≡ w))
-        → IsSomeAnd files (LacksFileOf (Some asked)) → IsCut {V = List ℕ} (Err r)
-    lacking None is h lack = absurd lack
-    lacking (Some f) is h (name, inl named, away) =
-        cut_again r (a.lacking (subst (λ o. IsSomeAnd o (λ f. f asked.metrics ≡ None)) (sym is) (subst (λ n. f n ≡ None) named away)))
-    lacking (Some f) is (inl cut) (name, inr reached, away) = cut_again r cut
-    lacking (Some f) is (inr same) (name, inr reached, away) = absurd (let e = subst IsOk (sym same) reached.1 in cc)
+    none : (files : Option Files) → IsSomeAnd files (λ f. ⊥) → ⊥
+    none None lack = lack
+    none (Some f) lack = lack
 
--- ---- the tree file, behind the metrics
-
--- what the answer of the tree file makes of the whole one
-abbrev pub Continues : Task → MetricsValue → Result TreeValue Refusal → Result (List ℕ) Refusal → Type 0
-Continues task metrics (Err r) result = result ≡ Err r
-Continues task metrics (Ok tree) result = GivesOr (done task metrics tree) result
+-- ---- the tree file, over metrics
 
 -- a task fails for no read
 done_no_fault : (task : Task) (metrics : MetricsValue) (tree : TreeValue) → done task metrics tree ≡ Err ReadFault → ⊥
@@ -118,60 +149,69 @@ done_no_fault Layout metrics tree h = by (is_built tree.root) h
     by false h = cc
 done_no_fault Check metrics tree h = cc
 
-module _ (asked : Asked) (before mid after : InputsTold) (metrics : MetricsValue)
-    (m : MetricsAnswer asked before mid (Ok metrics)) where
-  -- the metrics file was there and gave the metrics
-  given : (f : Files) → before.files ≡ Some f → metrics_in (content f asked.metrics) ≡ Ok metrics
-  given f is = elim (subst (λ o. IfSome (option_map (λ f. metrics_in (content f asked.metrics)) o) (λ w. IsCut (Ok metrics) ⊎ (Ok metrics ≡ w))) is m.answer) [
-    | inl cut ↦ absurd (ok_is_not_cut metrics cut)
-    | inr same ↦ sym same
-  ]
+abbrev TreeAnswer : List ℕ → InputsTold → InputsTold → Result TreeValue Refusal → Type 0
+TreeAnswer name before after result =
+    Answers (option_map (λ f. tree_in (content f name)) before.files) (λ f. f name ≡ None) before after result
 
-  tree_told : (tree : Result TreeValue Refusal) → TreeAnswer asked mid after tree → (f : Files) → before.files ≡ Some f
-      → IsCut tree ⊎ (tree ≡ tree_in (content f asked.tree))
-  tree_told tree t f is = subst (λ o. IfSome (option_map (λ f. tree_in (content f asked.tree)) o) (λ w. IsCut tree ⊎ (tree ≡ w))) (m.files ∙ is) t.answer
+abbrev OverAnswer : Task → MetricsValue → List ℕ → InputsTold → InputsTold → Result (List ℕ) Refusal → Type 0
+OverAnswer task metrics name before after result =
+    Answers (option_map (λ f. answer_over task metrics (content f name)) before.files) (λ f. f name ≡ None) before after result
 
-  -- a lacking file can only be the tree's
-  tree_lacks : (tree : Result TreeValue Refusal) → TreeAnswer asked mid after tree
-      → (files : Option Files) → before.files ≡ files → IsSomeAnd files (LacksFileOf (Some asked)) → IsCut tree
-  tree_lacks tree t None is lack = absurd lack
-  tree_lacks tree t (Some f) is (name, inl named, away) =
-      absurd (ok_is_not_cut metrics (m.lacking (subst (λ o. IsSomeAnd o (λ f. f asked.metrics ≡ None)) (sym is) (subst (λ n. f n ≡ None) named away))))
-  tree_lacks tree t (Some f) is (name, inr reached, away) =
-      t.lacking (subst (λ o. IsSomeAnd o (λ f. f asked.tree ≡ None)) (sym (m.files ∙ is)) (subst (λ n. f n ≡ None) reached.0 away))
+module _ (task : Task) (metrics : MetricsValue) (name : List ℕ) (before after : InputsTold) where
+  pub without_tree : (r : Refusal) → TreeAnswer name before after (Err r) → OverAnswer task metrics name before after (Err r)
+  unfolding answer_over
+  without_tree r a =
+      refused (λ f. tree_in (content f name)) (λ tree f. done task metrics tree) (λ f. f name ≡ None) (λ f. ⊥) (λ f. f name ≡ None)
+      (λ f lack. inl lack) before after r (λ f lack. lack) a
 
-  whole_answer : (tree : Result TreeValue Refusal) (result : Result (List ℕ) Refusal) → TreeAnswer asked mid after tree → Continues asked.task metrics tree result
-      → (files : Option Files) → before.files ≡ files → IfSome (option_map (answer_to (Some asked)) files) (λ w. IsCut result ⊎ (result ≡ w))
-  whole_answer tree result t k None is = tt
-  whole_answer (Err r) result t k (Some f) is = elim (tree_told (Err r) t f is) [
-    | inl cut ↦ inl (subst IsCut (sym k) (cut_again r cut))
-    | inr same ↦ inr (k ∙ sym (refused_by_tree asked.task (content f asked.metrics) (content f asked.tree) metrics r (given f is) (sym same)))
-  ]
-  whole_answer (Ok tree) result t k (Some f) is = elim k [
-    | inl memory ↦ inl (inr memory)
-    | inr text ↦ elim (tree_told (Ok tree) t f is) [
-      | inl cut ↦ absurd (ok_is_not_cut tree cut)
-      | inr same ↦ inr (text ∙ sym (answered asked.task (content f asked.metrics) (content f asked.tree) metrics tree (given f is) (sym same)))
-    ]
-  ]
+  pub with_tree : (tree : TreeValue) (result : Result (List ℕ) Refusal) → TreeAnswer name before after (Ok tree)
+      → GivesOr (done task metrics tree) result → OverAnswer task metrics name before after result
+  unfolding answer_over
+  with_tree tree result a gives =
+      continued (λ f. tree_in (content f name)) (λ tree f. done task metrics tree) (λ f. f name ≡ None) (λ f. ⊥) (λ f. f name ≡ None)
+      (λ f lack. inl lack) before after after tree result (λ f is lack. absurd lack) a
+      (without_files (done task metrics tree) result after (done_no_fault task metrics tree) gives)
 
-  fault_of_tree : (tree : Result TreeValue Refusal) (result : Result (List ℕ) Refusal) → Continues asked.task metrics tree result
-      → IsErrOf result ReadFault → IsErrOf tree ReadFault
-  fault_of_tree (Err r) result k is = err_again r ReadFault (sym k ∙ is)
-  fault_of_tree (Ok tree) result k is = elim k [ inl memory ↦ absurd (let e = sym is ∙ memory in cc) | inr text ↦ absurd (done_no_fault asked.task metrics tree (sym text ∙ is)) ]
+-- ---- the metrics file, then the tree file
 
-  cut_of_tree : (tree : Result TreeValue Refusal) (result : Result (List ℕ) Refusal) → Continues asked.task metrics tree result → IsCut tree → IsCut result
-  cut_of_tree (Err r) result k cut = subst IsCut (sym k) (cut_again r cut)
-  cut_of_tree (Ok tree) result k cut = absurd (ok_is_not_cut tree cut)
+abbrev MetricsAnswer : Asked → InputsTold → InputsTold → Result MetricsValue Refusal → Type 0
+MetricsAnswer asked before after result =
+    Answers (option_map (λ f. metrics_in (content f asked.metrics)) before.files) (λ f. f asked.metrics ≡ None) before after result
 
-  pub with_tree : (tree : Result TreeValue Refusal) (result : Result (List ℕ) Refusal)
-      → TreeAnswer asked mid after tree → Continues asked.task metrics tree result → WholeAnswer asked before after result
-  with_tree tree result t k = record {
-    answer = whole_answer tree result t k before.files refl;
-    fault = λ is. cause_of_more (λ f. f asked.tree ≡ None) (LacksFileOf (Some asked)) before mid after m.files m.faults m.missing
-        (λ f there lack. (asked.tree, inr (refl, subst IsOk (sym (given f there)) refl), lack)) (t.fault (fault_of_tree tree result k is));
-    lacking = λ lack. cut_of_tree tree result k (tree_lacks tree t before.files refl lack);
-    files = t.files ∙ m.files;
-    faults = omega (arith, m.faults, t.faults);
-    missing = omega (arith, m.missing, t.missing);
-  }
+abbrev WholeAnswer : Asked → InputsTold → InputsTold → Result (List ℕ) Refusal → Type 0
+WholeAnswer asked before after result =
+    Answers (option_map (answer asked) before.files) (LacksFile (Some asked)) before after result
+
+-- which of the two isn't there
+which_file : (asked : Asked) (f : Files) → LacksFile (Some asked) f
+    → (f asked.metrics ≡ None) ⊎ ((f asked.tree ≡ None) × IsOk (metrics_in (content f asked.metrics)))
+which_file asked f (name, inl named, away) = inl (subst (λ n. f n ≡ None) named away)
+which_file asked f (name, inr reached, away) = inr (subst (λ n. f n ≡ None) reached.0 away, reached.1)
+
+module _ (asked : Asked) (before mid : InputsTold) where
+  pub without_metrics : (r : Refusal) → MetricsAnswer asked before mid (Err r) → WholeAnswer asked before mid (Err r)
+  unfolding answer_in
+  without_metrics r a =
+      refused (λ f. metrics_in (content f asked.metrics)) (λ metrics f. answer_over asked.task metrics (content f asked.tree))
+      (λ f. f asked.metrics ≡ None) (λ f. f asked.tree ≡ None) (LacksFile (Some asked)) (which_file asked) before mid r
+      (λ f lack. (asked.metrics, inl refl, lack)) a
+
+  pub with_metrics : (after : InputsTold) (metrics : MetricsValue) (result : Result (List ℕ) Refusal) → MetricsAnswer asked before mid (Ok metrics)
+      → OverAnswer asked.task metrics asked.tree mid after result → WholeAnswer asked before after result
+  unfolding answer_in
+  with_metrics after metrics result a b =
+      continued (λ f. metrics_in (content f asked.metrics)) (λ metrics f. answer_over asked.task metrics (content f asked.tree))
+      (λ f. f asked.metrics ≡ None) (λ f. f asked.tree ≡ None) (LacksFile (Some asked)) (which_file asked) before mid after metrics result
+      (λ f is lack. (asked.tree, inr (refl, subst IsOk (sym is) refl), lack)) a b
+
+-- ---- the definition, by what the two files give
+
+pub refused_by_metrics : (task : Task) (m t : List ℕ) (r : Refusal) → metrics_in m ≡ Err r → answer_in task m t ≡ Err r
+unfolding answer_in
+refused_by_metrics task m t r h = ap (λ x. x >>= λ metrics. answer_over task metrics t) h
+
+pub answered : (task : Task) (m t : List ℕ) (metrics : MetricsValue) (tree : TreeValue) → metrics_in m ≡ Ok metrics → tree_in t ≡ Ok tree
+    → answer_in task m t ≡ done task metrics tree
+unfolding answer_in answer_over
+answered task m t metrics tree h k =
+    ap (λ x. x >>= λ metrics. answer_over task metrics t) h ∙ ap (λ x. x >>= λ tree. done task metrics tree) k

@@ -1,22 +1,21 @@
 -- How the answer and its delivery make the ending of a run.
-use Rattle.std.proofs.Common.{◌≡◌, ◌⊎◌, inl, inr, ℕ, List, take, refl, ap, sym, ◌∙◌, subst, Option, Some, None, IfSome}
+use Rattle.std.proofs.Common.{◌≡◌, ◌⊎◌, inl, inr, ℕ, List, take, refl, ap, sym, ◌∙◌, subst, Option, Some, None, IfSome, arith}
 use Rattle.std.specs.Prelude.{Result, Ok, Err, IsErrOf, IsSomeAnd, IsNone}
 use Rattle.std.specs.Option.{option_map}
 use Rattle.std.specs.Io.KnownBytes.{Appends, Keeps}
 use Rattle.doc_io.specs.Causes.{Files, InputsTold, Rose, SinkTold}
 use Rattle.doc_io.proofs.Known.{appends_kept}
-use Rattle.commands.specs.Command.{asked_by}
+use Rattle.commands.specs.Command.{Asked, usage_line}
 use Rattle.commands.specs.Refusals.{status_of}
 use Rattle.commands.specs.Answer.{answer, Output, output_of, output}
-use Rattle.commands.specs.Ends.{LacksFile, HasReadCause, IsCut, IsCutShort, Answers, Delivers, Ends, KnowsWords}
+use Rattle.commands.specs.Ends.{LacksFile, HasReadCause, IsCut, IsCutShort, Answers, Delivers, Ends}
 use Rattle.commands.specs.declared.status.Status.{Status}
 use Rattle.commands.specs.declared.status.Status.TheVariants as status
 use Rattle.commands.specs.declared.refusal.Refusal.{Refusal}
-use Rattle.commands.specs.declared.refusal.Refusal.TheVariants.{Usage, MetricsLong, Metrics, TreeLong, TreeJson, Tree, TreeLater, ReadFault, Memory}
+use Rattle.commands.specs.declared.refusal.Refusal.TheVariants.{MetricsLong, Metrics, TreeLong, TreeJson, Tree, TreeLater, ReadFault, Memory}
 
--- the status tells a failed read, want of memory, and words that are no command
+-- the status tells a failed read and want of memory
 is_read_fault : (refusal : Refusal) → status_of refusal ≡ status.ReadFault → refusal ≡ ReadFault
-is_read_fault Usage e = cc
 is_read_fault MetricsLong e = cc
 is_read_fault (Metrics fault) e = cc
 is_read_fault TreeLong e = cc
@@ -27,7 +26,6 @@ is_read_fault ReadFault e = refl
 is_read_fault Memory e = cc
 
 is_memory : (refusal : Refusal) → status_of refusal ≡ status.Memory → refusal ≡ Memory
-is_memory Usage e = cc
 is_memory MetricsLong e = cc
 is_memory (Metrics fault) e = cc
 is_memory TreeLong e = cc
@@ -37,20 +35,19 @@ is_memory TreeLater e = cc
 is_memory ReadFault e = cc
 is_memory Memory e = refl
 
-is_usage : (refusal : Refusal) → status_of refusal ≡ status.Usage → refusal ≡ Usage
-is_usage Usage e = refl
-is_usage MetricsLong e = cc
-is_usage (Metrics fault) e = cc
-is_usage TreeLong e = cc
-is_usage TreeJson e = cc
-is_usage (Tree fault) e = cc
-is_usage TreeLater e = cc
-is_usage ReadFault e = cc
-is_usage Memory e = cc
+-- no refusal's status is that of words which are no command
+not_usage : (refusal : Refusal) → status_of refusal ≡ status.Usage → ⊥
+not_usage MetricsLong e = cc
+not_usage (Metrics fault) e = cc
+not_usage TreeLong e = cc
+not_usage TreeJson e = cc
+not_usage (Tree fault) e = cc
+not_usage TreeLater e = cc
+not_usage ReadFault e = cc
+not_usage Memory e = cc
 
 -- no refusal's own status is that of a failed write
 pub not_write_fault : (refusal : Refusal) → status_of refusal ≡ status.WriteFault → ⊥
-not_write_fault Usage e = cc
 not_write_fault MetricsLong e = cc
 not_write_fault (Metrics fault) e = cc
 not_write_fault TreeLong e = cc
@@ -77,10 +74,10 @@ told_fault : (result : Result (List ℕ) Refusal) (old new : SinkTold) (s : Stat
 told_fault (Ok text) old new s d is = elim d.whole [ inl w ↦ absurd cc | inr e ↦ let f = e.0 in absurd cc ]
 told_fault (Err r) old new s d is = elim d.whole [ inl w ↦ absurd cc | inr e ↦ ap Err (is_read_fault r (sym e.0 ∙ is)) ]
 
-told_usage : (result : Result (List ℕ) Refusal) (old new : SinkTold) (s : Status) → DeliversAnswer result old new s
-    → s ≡ status.Usage → IsErrOf result Usage
-told_usage (Ok text) old new s d is = elim d.whole [ inl w ↦ absurd cc | inr e ↦ let f = e.0 in absurd cc ]
-told_usage (Err r) old new s d is = elim d.whole [ inl w ↦ absurd cc | inr e ↦ ap Err (is_usage r (sym e.0 ∙ is)) ]
+never_usage : (result : Result (List ℕ) Refusal) (old new : SinkTold) (s : Status) → DeliversAnswer result old new s
+    → s ≡ status.Usage → ⊥
+never_usage (Ok text) old new s d is = elim d.whole [ inl w ↦ absurd cc | inr e ↦ let f = e.0 in absurd cc ]
+never_usage (Err r) old new s d is = elim d.whole [ inl w ↦ absurd cc | inr e ↦ not_usage r (sym e.0 ∙ is) ]
 
 told_memory : (result : Result (List ℕ) Refusal) (old new : SinkTold) (s : Status) → DeliversAnswer result old new s
     → s ≡ status.Memory → IsErrOf result Memory
@@ -118,40 +115,36 @@ no_cause lacks before after files is none still (inl rose) = still rose
 no_cause lacks before after files is none still (inr (inl lack)) = none (subst (λ o. IsSomeAnd o lacks) is lack)
 no_cause lacks before after files is none still (inr (inr untold)) = let e = subst IsNone is untold.0 in cc
 
--- the whole ending
-module _ (words : List (List ℕ)) (before after : InputsTold) (old new : SinkTold) (s : Status) (result : Result (List ℕ) Refusal)
-    (a : Answers (option_map (answer words) before.files) (LacksFile words) before after result)
-    (k : KnowsWords words result)
+-- the whole ending of a command
+module _ (asked : Asked) (before after : InputsTold) (old new : SinkTold) (s : Status) (result : Result (List ℕ) Refusal)
+    (a : Answers (option_map (answer asked) before.files) (LacksFile (Some asked)) before after result)
     (d : DeliversAnswer result old new s) where
-  whole : (files : Option Files) → IfSome (option_map (answer words) files) (λ wanted. IsCut result ⊎ (result ≡ wanted))
-      → IfSome files (λ f. IsOutput (output words f) old new s × HasFront (output words f) old new)
+  whole : (files : Option Files) → IfSome (option_map (answer asked) files) (λ wanted. IsCut result ⊎ (result ≡ wanted))
+      → IfSome files (λ f. IsOutput (output (Some asked) f) old new s × HasFront (output (Some asked) f) old new)
   whole None h = tt
-  whole (Some f) h = told_output result (answer words f) old new s d h
+  whole (Some f) h = told_output result (answer asked f) old new s d h
 
   complete : (files : Option Files) → before.files ≡ files
-      → IfSome (option_map (answer words) files) (λ wanted. IsCut result ⊎ (result ≡ wanted))
-      → IfSome files (λ f. ¬ LacksFile words f → ¬ Rose before.faults after.faults → ¬ Rose old.faults new.faults
-      → (s ≡ (output words f).status) ⊎ (s ≡ status.Memory))
+      → IfSome (option_map (answer asked) files) (λ wanted. IsCut result ⊎ (result ≡ wanted))
+      → IfSome files (λ f. ¬ LacksFile (Some asked) f → ¬ Rose before.faults after.faults → ¬ Rose old.faults new.faults
+      → (s ≡ (output (Some asked) f).status) ⊎ (s ≡ status.Memory))
   complete None is h = tt
   complete (Some f) is h = λ there reads writes. elim d.whole [
     | inl w ↦ absurd (writes (d.fault w))
     | inr e ↦ elim h [
       | inl cut ↦ elim cut [
-        | inl fault ↦ absurd (no_cause (LacksFile words) before after f is there reads (a.fault fault))
+        | inl fault ↦ absurd (no_cause (LacksFile (Some asked)) before after f is there reads (a.fault fault))
         | inr memory ↦ inr (e.0 ∙ ap (λ r. (output_of r).status) memory)
       ]
       | inr same ↦ inl (e.0 ∙ ap (λ r. (output_of r).status) same)
     ]
   ]
 
-  no_command : asked_by words ≡ None → (s ≡ status.Usage) ⊎ (s ≡ status.WriteFault)
-  no_command none = elim d.whole [ inl w ↦ inr w | inr e ↦ inl (e.0 ∙ ap (λ r. (output_of r).status) (k.unknown none)) ]
-
   cut : (s ≡ status.ReadFault) ⊎ (s ≡ status.Memory) → Keeps old.written new.written
   cut (inl fault) = (cut_ends result old new s (inl (told_fault result old new s d fault)) d).1
   cut (inr memory) = (cut_ends result old new s (inr (told_memory result old new s d memory)) d).1
 
-  pub ends : Ends words before after old new s
+  pub ends : Ends (Some asked) before after old new s
   ends = record {
     outcome = IfSome-first _ _ _ (whole before.files a.answer);
     front = IfSome-second _ _ _ (whole before.files a.answer);
@@ -160,20 +153,63 @@ module _ (words : List (List ℕ)) (before after : InputsTold) (old new : SinkTo
     lacking = λ lack. cut_ends result old new s (a.lacking lack) d;
     cut = cut;
     complete = complete before.files refl a.answer;
-    usage = λ is. k.known (told_usage result old new s d is);
-    no_command = no_command;
+    usage = λ is. absurd (never_usage result old new s d is);
+    no_command = λ none. absurd cc;
+    unread = λ none. absurd cc;
     files = a.files;
     faults = a.faults;
     missing = a.missing;
+    write_faults = d.later;
   }
 
--- the same, where the words, the text and the status were handed on
-pub run_ends : (words shown : List (List ℕ)) (before after : InputsTold) (old new : SinkTold) (s : Status) (result : Result (List ℕ) Refusal)
-    (text : List ℕ) (wanted : Status)
-    → shown ≡ words → text ≡ (output_of result).bytes → wanted ≡ (output_of result).status
-    → Answers (option_map (answer shown) before.files) (LacksFile shown) before after result → KnowsWords shown result
-    → Delivers text wanted old new s → Ends words before after old new s
-run_ends words shown before after old new s result text wanted is text_is status_is a k d =
-    subst (λ ws. Ends ws before after old new s) is
-    (ends shown before after old new s result a k
+-- the same, where the request, the text and the status were handed on
+pub command_ends : (asked : Option Asked) (shown : Asked) (before after : InputsTold) (old new : SinkTold) (s : Status)
+    (result : Result (List ℕ) Refusal) (text : List ℕ) (wanted : Status)
+    → asked ≡ Some shown → text ≡ (output_of result).bytes → wanted ≡ (output_of result).status
+    → Answers (option_map (answer shown) before.files) (LacksFile (Some shown)) before after result
+    → Delivers text wanted old new s → Ends asked before after old new s
+command_ends asked shown before after old new s result text wanted is text_is status_is a d =
+    subst (λ o. Ends o before after old new s) (sym is)
+    (ends shown before after old new s result a
     (subst (λ b. Delivers b (output_of result).status old new s) text_is (subst (λ w. Delivers text w old new s) status_is d)))
+
+-- ---- words that are no command
+
+-- the status is that of the usage line, or a write failed
+usage_or_fault : (old new : SinkTold) (s : Status) → Delivers usage_line status.Usage old new s
+    → (s ≡ status.ReadFault) ⊎ (s ≡ status.Memory) → ⊥
+usage_or_fault old new s d (inl is) = elim d.whole [ inl w ↦ cc | inr e ↦ let f = e.0 in cc ]
+usage_or_fault old new s d (inr is) = elim d.whole [ inl w ↦ cc | inr e ↦ let f = e.0 in cc ]
+
+IfSome-each : {X : Type 0} (o : Option X) (P : X → Type 0) → ((x : X) → P x) → IfSome o P
+IfSome-each None P h = tt
+IfSome-each (Some x) P h = h x
+
+lacks_none : (files : Option Files) → IsSomeAnd files (LacksFile None) → ⊥
+lacks_none None lack = lack
+lacks_none (Some f) (name, reached, away) = reached
+
+told_usage : (seen : InputsTold) (old new : SinkTold) (s : Status) → Delivers usage_line status.Usage old new s → Ends None seen seen old new s
+told_usage seen old new s d = record {
+  outcome = IfSome-each seen.files _ (λ f. elim d.whole [ inl w ↦ inl (inr (inl w)) | inr e ↦ inr e ]);
+  front = IfSome-each seen.files _ (λ f. d.front);
+  read_fault = λ is. absurd (usage_or_fault old new s d (inl is));
+  write_fault = d.fault;
+  lacking = λ lack. absurd (lacks_none seen.files lack);
+  cut = λ is. absurd (usage_or_fault old new s d is);
+  complete = IfSome-each seen.files _ (λ f there reads writes. elim d.whole [ inl w ↦ absurd (writes (d.fault w)) | inr e ↦ inl e.0 ]);
+  usage = λ is. refl;
+  no_command = λ none. elim d.whole [ inl w ↦ inr w | inr e ↦ inl e ];
+  unread = λ none. refl;
+  files = refl;
+  faults = omega arith;
+  missing = omega arith;
+  write_faults = d.later;
+}
+
+-- the same, where the words and the text were handed on
+pub usage_ends : (asked : Option Asked) (seen : InputsTold) (old new : SinkTold) (s : Status) (text : List ℕ) → asked ≡ None → text ≡ usage_line
+    → Delivers text status.Usage old new s → Ends asked seen seen old new s
+usage_ends asked seen old new s text none is d =
+    subst (λ o. Ends o seen seen old new s) (sym none)
+    (told_usage seen old new s (subst (λ t. Delivers t status.Usage old new s) is d))

@@ -17,7 +17,7 @@ use Rattle.serde_json.specs.Read.{read}
 use Rattle.std.specs.Str.{IsUtf8, is_utf8}
 use Rattle.std.proofs.lemmas.Str.{IsUtf8-from_is_utf8, is_utf8-from_IsUtf8}
 use Rattle.commands.specs.Refusals.{of_reading}
-use Rattle.commands.specs.Answer.{content, of_metrics_file, metrics_in, json_in, of_tree_file, tree_of_json, tree_in}
+use Rattle.commands.specs.Answer.{metrics_limit, tree_limit, content, of_metrics_file, metrics_in, json_in, of_tree_file, tree_of_json, tree_in}
 use Rattle.commands.specs.Ends.{IsCut, GivesOr, Answers}
 use Rattle.commands.specs.declared.refusal.Refusal.{Refusal}
 use Rattle.commands.specs.declared.refusal.Refusal.TheVariants.{MetricsLong, TreeLong, TreeJson, ReadFault, Memory}
@@ -124,35 +124,35 @@ metrics_no_fault : (said : Result MetricsValue Fault) → of_metrics_file said �
 metrics_no_fault (Ok metrics) h = cc
 metrics_no_fault (Err fault) h = let e = err_same _ ReadFault h in cc
 
-metrics_short : (bytes : List ℕ) → length bytes ≤ 8388608 → metrics_in bytes ≡ of_metrics_file (metrics_of bytes)
+metrics_short : (bytes : List ℕ) → length bytes ≤ metrics_limit → metrics_in bytes ≡ of_metrics_file (metrics_of bytes)
 unfolding metrics_in
-metrics_short bytes short = let no : nat_lt 8388608 (length bytes) ≡ false = le-ltb 8388608 (length bytes) short in rw no refl
+metrics_short bytes short = let no : nat_lt metrics_limit (length bytes) ≡ false = le-ltb metrics_limit (length bytes) short in rw no refl
 
-pub metrics_long : (bytes : List ℕ) → 8388608 < length bytes → metrics_in bytes ≡ Err MetricsLong
+pub metrics_long : (bytes : List ℕ) → metrics_limit < length bytes → metrics_in bytes ≡ Err MetricsLong
 unfolding metrics_in
-metrics_long bytes long = let yes : nat_lt 8388608 (length bytes) ≡ true = lt-ltb 8388608 (length bytes) long in rw yes refl
+metrics_long bytes long = let yes : nat_lt metrics_limit (length bytes) ≡ true = lt-ltb metrics_limit (length bytes) long in rw yes refl
 
 -- the bytes that were read, as they were handed on
 pub metrics_read : (name bytes shown : List ℕ) (before after : InputsTold) (result : Result MetricsValue Refusal)
-    → ReadsAll before after name 8388608 (Ok bytes)
+    → ReadsAll before after name metrics_limit (Ok bytes)
     → shown ≡ bytes → GivesOr (of_metrics_file (metrics_of shown)) result
     → Answers (option_map (λ f. metrics_in (content f name)) before.files) (λ f. f name ≡ None) before after result
 metrics_read name bytes shown before after result reads is gives =
     let whole : metrics_in bytes ≡ of_metrics_file (metrics_of shown) =
     metrics_short bytes reads.short ∙ ap (λ b. of_metrics_file (metrics_of b)) (sym is) in
-    read_whole metrics_in 8388608 name before after bytes result reads
+    read_whole metrics_in metrics_limit name before after bytes result reads
     (subst (λ w. GivesOr w result) (sym whole) gives)
     (λ fault. metrics_no_fault (metrics_of shown) (sym whole ∙ fault))
 
 -- ---- trees
 
-pub tree_short : (bytes : List ℕ) → length bytes ≤ 4194304 → tree_in bytes ≡ tree_of_json (json_in bytes)
+pub tree_short : (bytes : List ℕ) → length bytes ≤ tree_limit → tree_in bytes ≡ tree_of_json (json_in bytes)
 unfolding tree_in
-tree_short bytes short = let no : nat_lt 4194304 (length bytes) ≡ false = le-ltb 4194304 (length bytes) short in rw no refl
+tree_short bytes short = let no : nat_lt tree_limit (length bytes) ≡ false = le-ltb tree_limit (length bytes) short in rw no refl
 
-pub tree_long : (bytes : List ℕ) → 4194304 < length bytes → tree_in bytes ≡ Err TreeLong
+pub tree_long : (bytes : List ℕ) → tree_limit < length bytes → tree_in bytes ≡ Err TreeLong
 unfolding tree_in
-tree_long bytes long = let yes : nat_lt 4194304 (length bytes) ≡ true = lt-ltb 4194304 (length bytes) long in rw yes refl
+tree_long bytes long = let yes : nat_lt tree_limit (length bytes) ≡ true = lt-ltb tree_limit (length bytes) long in rw yes refl
 
 tree_no_fault : (said : Result TreeValue TreeFault) → of_tree_file said ≡ Err ReadFault → ⊥
 tree_no_fault (Ok tree) h = cc
@@ -163,13 +163,13 @@ json_no_fault None h = let e = err_same TreeJson ReadFault h in cc
 json_no_fault (Some value) h = tree_no_fault (tree_of value) h
 
 pub tree_read : (name bytes shown : List ℕ) (before after : InputsTold) (result : Result TreeValue Refusal)
-    → ReadsAll before after name 4194304 (Ok bytes)
+    → ReadsAll before after name tree_limit (Ok bytes)
     → shown ≡ bytes → GivesOr (tree_of_json (json_in shown)) result
     → Answers (option_map (λ f. tree_in (content f name)) before.files) (λ f. f name ≡ None) before after result
 tree_read name bytes shown before after result reads is gives =
     let whole : tree_in bytes ≡ tree_of_json (json_in shown) =
     tree_short bytes reads.short ∙ ap (λ b. tree_of_json (json_in b)) (sym is) in
-    read_whole tree_in 4194304 name before after bytes result reads
+    read_whole tree_in tree_limit name before after bytes result reads
     (subst (λ w. GivesOr w result) (sym whole) gives)
     (λ fault. json_no_fault (json_in shown) (sym whole ∙ fault))
 

@@ -170,7 +170,7 @@ laid_out_one =
     ap (λ b. if b then Ok (text_of font (place font tree_value.root)) else Err TreeLater) (built (codes "1"))
     ∙ ap (λ items. Ok (text_of font items)) (over_number (codes "1")) ∙ ap Ok one_digit
 
-output_of_one : output (codes "layout" ∷ codes "m" ∷ codes "t" ∷ []) (files one) ≡ record { bytes = boxes; status = Done }
+output_of_one : output (asked_by (codes "layout" ∷ codes "m" ∷ codes "t" ∷ [])) (files one) ≡ record { bytes = boxes; status = Done }
 output_of_one =
     ap output_of (answered Layout metrics_file one font tree_value metrics_of_file tree_of_one) ∙ ap output_of laid_out_one
 
@@ -178,12 +178,12 @@ tree_is_no_metrics : metrics_in one ≡ Err (Metrics (record { line = 1; kind = 
 unfolding on_literals
 tree_is_no_metrics = refl
 
-output_of_no_metrics : output (codes "check" ∷ codes "t" ∷ codes "t" ∷ []) (files one)
+output_of_no_metrics : output (asked_by (codes "check" ∷ codes "t" ∷ codes "t" ∷ [])) (files one)
     ≡ record { bytes = codes "metrics 1 2\n"; status = MetricsStatus }
 unfolding digits
 output_of_no_metrics = ap output_of (refused_by_metrics Check one one _ tree_is_no_metrics)
 
-output_of_two_words : output (codes "layout" ∷ codes "m" ∷ []) (files one)
+output_of_two_words : output (asked_by (codes "layout" ∷ codes "m" ∷ [])) (files one)
     ≡ record { bytes = codes "usage: mathlay layout METRICS TREE | check METRICS TREE\n"; status = Usage }
 output_of_two_words = refl
 

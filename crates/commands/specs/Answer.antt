@@ -1,4 +1,4 @@
--- What the program answers to its words, where the files are told: the table of its endings.
+-- What the program answers to a command, where the files are told: the table of its endings.
 use Rattle.std.specs.Prelude.{ℕ, List, [], ◌∷◌, ◌++◌, length, nat_lt, if◌then◌else◌, Option, Some, None, Result, Ok, Err, unwrap_or}
 use Rattle.std.specs.Str.{is_utf8}
 use Rattle.serde_json.specs.Data.{Data}
@@ -13,18 +13,25 @@ use Rattle.math_tree.specs.Print.{print_of as tree_print}
 use Rattle.math_tree.specs.Reading.{tree_of}
 use Rattle.math_tree.specs.Trees.{TreeValue}
 use Rattle.math_tree.specs.declared.fault.TreeFault.{TreeFault}
-use Rattle.commands.specs.Command.{Asked, asked_by}
+use Rattle.commands.specs.Command.{Asked, usage_line}
 use Rattle.commands.specs.declared.command.Task.{Task}
 use Rattle.commands.specs.declared.command.Task.TheVariants.{Layout, Check}
 use Rattle.commands.specs.Refusals.{line_of, status_of}
 use Rattle.commands.specs.Placed.{place}
 use Rattle.commands.specs.Lines.{text_of}
 use Rattle.commands.specs.declared.status.Status.{Status}
-use Rattle.commands.specs.declared.status.Status.TheVariants.{Done}
+use Rattle.commands.specs.declared.status.Status.TheVariants.{Done, Usage}
 use Rattle.commands.specs.declared.refusal.Refusal.{Refusal}
-use Rattle.commands.specs.declared.refusal.Refusal.TheVariants.{Usage, MetricsLong, Metrics, TreeLong, TreeJson, Tree, TreeLater}
+use Rattle.commands.specs.declared.refusal.Refusal.TheVariants.{MetricsLong, Metrics, TreeLong, TreeJson, Tree, TreeLater}
 
 -- ---- the two files
+
+-- the most bytes that a metrics file may have, 8 MiB, and a tree file, 4 MiB
+abbrev pub metrics_limit : ℕ
+metrics_limit = 8388608
+
+abbrev pub tree_limit : ℕ
+tree_limit = 4194304
 
 -- a file that isn't there counts as empty
 abbrev pub content : Files → List ℕ → List ℕ
@@ -35,10 +42,10 @@ abbrev pub of_metrics_file : Result MetricsValue Fault → Result MetricsValue R
 of_metrics_file (Ok metrics) = Ok metrics
 of_metrics_file (Err fault) = Err (Metrics (told fault))
 
--- the metrics of a file's bytes, which are at most 8 MiB
+-- the metrics of a file's bytes
 unfoldable pub metrics_in : List ℕ → Result MetricsValue Refusal
 metrics_in bytes =
-    if nat_lt 8388608 (length bytes) then Err MetricsLong
+    if nat_lt metrics_limit (length bytes) then Err MetricsLong
     else of_metrics_file (metrics_of bytes)
 
 -- the JSON value of a file's bytes: they are UTF-8, and `serde_json` reads the text
@@ -54,10 +61,10 @@ abbrev pub tree_of_json : Option Data → Result TreeValue Refusal
 tree_of_json None = Err TreeJson
 tree_of_json (Some value) = of_tree_file (tree_of value)
 
--- the tree of a file's bytes, which are at most 4 MiB
+-- the tree of a file's bytes
 unfoldable pub tree_in : List ℕ → Result TreeValue Refusal
 tree_in bytes =
-    if nat_lt 4194304 (length bytes) then Err TreeLong
+    if nat_lt tree_limit (length bytes) then Err TreeLong
     else tree_of_json (json_in bytes)
 
 -- ---- the answer
@@ -81,20 +88,21 @@ unfoldable pub done : Task → MetricsValue → TreeValue → Result (List ℕ) 
 done Layout metrics tree = laid_out metrics tree
 done Check metrics tree = Ok (checked metrics tree)
 
+-- the text that is asked for over these metrics, or the first refusal
+unfoldable pub answer_over : Task → MetricsValue → List ℕ → Result (List ℕ) Refusal
+answer_over task metrics tree_bytes = do
+  tree ← tree_in tree_bytes
+  done task metrics tree
+
 -- the text that is asked for, or the first refusal
 unfoldable pub answer_in : Task → List ℕ → List ℕ → Result (List ℕ) Refusal
 answer_in task metrics_bytes tree_bytes = do
   metrics ← metrics_in metrics_bytes
-  tree ← tree_in tree_bytes
-  done task metrics tree
+  answer_over task metrics tree_bytes
 
-abbrev pub answer_to : Option Asked → Files → Result (List ℕ) Refusal
-answer_to None files = Err Usage
-answer_to (Some asked) files =
+abbrev pub answer : Asked → Files → Result (List ℕ) Refusal
+answer asked files =
     answer_in asked.task (content files asked.metrics) (content files asked.tree)
-
-abbrev pub answer : List (List ℕ) → Files → Result (List ℕ) Refusal
-answer words files = answer_to (asked_by words) files
 
 -- ---- what is written, and the status
 
@@ -106,6 +114,7 @@ abbrev pub output_of : Result (List ℕ) Refusal → Output
 output_of (Ok text) = record { bytes = text; status = Done }
 output_of (Err refusal) = record { bytes = line_of refusal; status = status_of refusal }
 
--- the bytes and the status of the words over these files
-abbrev pub output : List (List ℕ) → Files → Output
-output words files = output_of (answer words files)
+-- the bytes and the status of a command over these files, and of words that are none
+abbrev pub output : Option Asked → Files → Output
+output None files = record { bytes = usage_line; status = Usage }
+output (Some asked) files = output_of (answer asked files)

@@ -28,3 +28,7 @@ asked_by words = None
 abbrev pub asked_of : Request → Asked
 asked_of request =
     record { task = request.task; metrics = request.metrics.now; tree = request.tree.now }
+
+-- the line that words get which are no command
+abbrev pub usage_line : List ℕ
+usage_line = codes "usage: mathlay layout METRICS TREE | check METRICS TREE\n"

@@ -2,7 +2,7 @@
 use Rattle.std.specs.Prelude.{◌≡◌, ◌⊎◌, ℕ, ◌≤◌, List, [], take, Option, Some, None, IsNone, IfSome, IsSomeAnd, Result, IsOk, IsErrOf}
 use Rattle.std.specs.Io.KnownBytes.{Appends, Keeps}
 use Rattle.doc_io.specs.Causes.{Files, InputsTold, Rose, SinkTold}
-use Rattle.commands.specs.Command.{Asked, asked_by}
+use Rattle.commands.specs.Command.{Asked, usage_line}
 use Rattle.commands.specs.Answer.{content, metrics_in, output}
 use Rattle.commands.specs.declared.status.Status.{Status}
 use Rattle.commands.specs.declared.status.Status.TheVariants.{Usage, ReadFault, WriteFault, Memory}
@@ -12,18 +12,15 @@ use Rattle.commands.specs.declared.refusal.Refusal.TheVariants as refusal
 -- ---- which files are reached
 
 -- the metrics file always, and the tree file where the metrics file gives metrics
-abbrev pub IsReachedOf : Option Asked → Files → List ℕ → Type 0
-IsReachedOf None files name = ⊥
-IsReachedOf (Some asked) files name =
+abbrev pub IsReached : Option Asked → Files → List ℕ → Type 0
+IsReached None files name = ⊥
+IsReached (Some asked) files name =
     (name ≡ asked.metrics)
     ⊎ ((name ≡ asked.tree) × IsOk (metrics_in (content files asked.metrics)))
 
 -- a reached file isn't there
-abbrev pub LacksFileOf : Option Asked → Files → Type 0
-LacksFileOf asked files = (name : List ℕ) × IsReachedOf asked files name × (files name ≡ None)
-
-abbrev pub LacksFile : List (List ℕ) → Files → Type 0
-LacksFile words files = LacksFileOf (asked_by words) files
+abbrev pub LacksFile : Option Asked → Files → Type 0
+LacksFile asked files = (name : List ℕ) × IsReached asked files name × (files name ≡ None)
 
 -- ---- causes
 
@@ -54,18 +51,13 @@ pub record Answers {V : Type 0} (wanted : Option (Result V Refusal)) (lacks : Fi
   pub faults : before.faults ≤ after.faults
   pub missing : before.missing ≤ after.missing
 
--- the words are told to be no command exactly where they are none
-pub record KnowsWords {V : Type 0} (words : List (List ℕ))
-    (result : Result V Refusal) : Type 0 where
-  pub known : IsErrOf result refusal.Usage → asked_by words ≡ None
-  pub unknown : asked_by words ≡ None → IsErrOf result refusal.Usage
-
 -- the text was written and the status is the wanted one, or a write failed
 pub record Delivers (text : List ℕ) (wanted : Status) (old new : SinkTold)
     (status : Status) : Type 0 where
   pub whole : (status ≡ WriteFault) ⊎ ((status ≡ wanted) × Appends old.written new.written text)
   pub front : (n : ℕ) × Appends old.written new.written (take n text)
   pub fault : status ≡ WriteFault → Rose old.faults new.faults
+  pub later : old.faults ≤ new.faults
   pub silent : text ≡ [] → (status ≡ wanted) × Keeps old.written new.written
 
 -- ---- the ending of a run
@@ -73,31 +65,37 @@ pub record Delivers (text : List ℕ) (wanted : Status) (old new : SinkTold)
 abbrev pub IsCutShort : Status → Type 0
 IsCutShort status = (status ≡ ReadFault) ⊎ ((status ≡ WriteFault) ⊎ (status ≡ Memory))
 
-pub record Ends (words : List (List ℕ)) (before after : InputsTold) (old new : SinkTold)
+-- how a run ends that was asked for this, or whose words are no command
+pub record Ends (asked : Option Asked) (before after : InputsTold) (old new : SinkTold)
     (status : Status) : Type 0 where
   -- the output's status with its bytes written, or one of the three endings that cut a run short
   pub outcome : IfSome before.files (λ files.
       IsCutShort status
-      ⊎ ((status ≡ (output words files).status)
-      × Appends old.written new.written (output words files).bytes))
+      ⊎ ((status ≡ (output asked files).status)
+      × Appends old.written new.written (output asked files).bytes))
   -- what was written is a front of the output, at every ending
   pub front : IfSome before.files (λ files.
-      (n : ℕ) × Appends old.written new.written (take n (output words files).bytes))
-  pub read_fault : status ≡ ReadFault → HasReadCause (LacksFile words) before after
+      (n : ℕ) × Appends old.written new.written (take n (output asked files).bytes))
+  pub read_fault : status ≡ ReadFault → HasReadCause (LacksFile asked) before after
   pub write_fault : status ≡ WriteFault → Rose old.faults new.faults
   -- where a reached file isn't there nothing is written
-  pub lacking : IsSomeAnd before.files (LacksFile words) →
+  pub lacking : IsSomeAnd before.files (LacksFile asked) →
       ((status ≡ ReadFault) ⊎ (status ≡ Memory)) × Keeps old.written new.written
   -- a failed read and want of memory write nothing
   pub cut : (status ≡ ReadFault) ⊎ (status ≡ Memory) → Keeps old.written new.written
   -- where every reached file is there and no count rose, only want of memory stands between
   pub complete : IfSome before.files (λ files.
-      ¬ LacksFile words files → ¬ Rose before.faults after.faults → ¬ Rose old.faults new.faults →
-      (status ≡ (output words files).status) ⊎ (status ≡ Memory))
-  -- words that are no command are told so, and no others are, whatever the inputs tell
-  pub usage : status ≡ Usage → asked_by words ≡ None
-  pub no_command : asked_by words ≡ None → (status ≡ Usage) ⊎ (status ≡ WriteFault)
-  -- no file is changed, and no count of the inputs falls
+      ¬ LacksFile asked files → ¬ Rose before.faults after.faults → ¬ Rose old.faults new.faults →
+      (status ≡ (output asked files).status) ⊎ (status ≡ Memory))
+  -- words that are no command get the usage line, and no others get its status, whatever the
+  -- inputs tell
+  pub usage : status ≡ Usage → asked ≡ None
+  pub no_command : asked ≡ None →
+      ((status ≡ Usage) × Appends old.written new.written usage_line) ⊎ (status ≡ WriteFault)
+  -- they reach no file
+  pub unread : asked ≡ None → after ≡ before
+  -- no file is changed, and no count falls
   pub files : after.files ≡ before.files
   pub faults : before.faults ≤ after.faults
   pub missing : before.missing ≤ after.missing
+  pub write_faults : old.faults ≤ new.faults

@@ -10,7 +10,7 @@ use Rattle.commands.specs.Layout.{font_size, token_of, row_of}
 use Rattle.commands.specs.declared.placed.PlacedItem.{PlacedItem}
 use Rattle.commands.specs.declared.placed.PlacedItem.TheVariants.{Frame, Glyph}
 
--- an element's box at the start of the root's baseline, where all of a short tree stands
+-- an element's box at the start of the root's baseline
 abbrev pub frame_at_origin : Head → MathBox → PlacedItem
 frame_at_origin head frame =
     Frame (record { id = head.id; name = head.name; x = pos 0; y = pos 0; frame = frame })
@@ -41,7 +41,7 @@ abbrev pub place_over : MetricsValue → Head → Option Node → List PlacedIte
 place_over metrics head None = frame_at_origin head (row_of None) ∷ []
 place_over metrics head (Some child) = row_items metrics head child
 
--- the root over its child, if it has one: a short tree has no more
+-- the root over its first child, if it has one; the trees that are laid out so far have no more
 unfoldable pub place : MetricsValue → Node → List PlacedItem
 place metrics root = place_over metrics (out-Node root).head (slice_get (out-Node root).children 0)
 

@@ -10,7 +10,7 @@ use Rattle.math_tree.specs.declared.refusal.TreeRefusal.TheVariants as tree
 use Rattle.commands.specs.declared.status.Status.{Status}
 use Rattle.commands.specs.declared.status.Status.TheVariants as status
 use Rattle.commands.specs.declared.refusal.Refusal.{Refusal}
-use Rattle.commands.specs.declared.refusal.Refusal.TheVariants.{Usage, MetricsLong, Metrics, TreeLong, TreeJson, Tree, TreeLater, ReadFault, Memory}
+use Rattle.commands.specs.declared.refusal.Refusal.TheVariants.{MetricsLong, Metrics, TreeLong, TreeJson, Tree, TreeLater, ReadFault, Memory}
 use Rattle.commands.specs.Lines.{line}
 
 -- the line of a fault: where it is, and the number of its kind
@@ -19,7 +19,6 @@ fault_line file place kind = line file (decimal place ∷ decimal kind ∷ [])
 
 -- the one line that is written
 abbrev pub line_of : Refusal → List ℕ
-line_of Usage = codes "usage: mathlay layout METRICS TREE | check METRICS TREE\n"
 line_of MetricsLong = codes "metrics long\n"
 line_of (Metrics fault) = fault_line (codes "metrics") fault.line fault.kind
 line_of TreeLong = codes "tree long\n"
@@ -31,7 +30,6 @@ line_of Memory = []
 
 -- the status with which the run ends
 abbrev pub status_of : Refusal → Status
-status_of Usage = status.Usage
 status_of MetricsLong = status.Metrics
 status_of (Metrics fault) = status.Metrics
 status_of TreeLong = status.Tree

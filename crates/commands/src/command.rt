@@ -1,6 +1,15 @@
-ghost use Rattle.std.specs.Prelude.{◌≡◌, map, string_bytes};
-ghost use Rattle.std.specs.Option.{option_map};
+ghost use Rattle.std.specs.Prelude.{◌≡◌, Some, None, IfOk, OnErr, map, string_bytes};
 ghost use Rattle.commands.specs.Command.{asked_by, asked_of, task_of};
+
+use thiserror::Error;
+
+/// What the user is told whose words are no command.
+pub const USAGE: &str = "usage: mathlay layout METRICS TREE | check METRICS TREE\n";
+
+/// The words are no command.
+#[derive(Clone, Copy, Debug, PartialEq, Eq, Error)]
+#[error("the words are no command")]
+pub struct NoCommand;
 
 /// What is done with a metrics file and a tree file.
 #[derive(Clone, Copy, Debug, PartialEq, Eq)]
@@ -22,22 +31,27 @@ pub struct Request<'a> {
 impl<'a> Request<'a> {
     /// Reads the words after the program's name: `layout METRICS TREE` or `check METRICS TREE`, and
     /// nothing else.
-    pub fn from_words(words: &'a [String]) -> Option<Request<'a>>
-        ensures { option_map asked_of result ≡ asked_by (map string_bytes words.now) }
+    pub fn from_words(words: &'a [String]) -> Result<Request<'a>, NoCommand>
+        ensures ok { IfOk result (λ request.
+            asked_by (map string_bytes words.now) ≡ Some (asked_of request)) }
+        ensures err { OnErr result (asked_by (map string_bytes words.now) ≡ None) }
     {
         if words.len() != 3 {
-            return None;
+            return Err(NoCommand);
         }
-        let task = Task::of_word(words[0].as_str())?;
-        Some(Request {
-            task,
-            metrics: words[1].as_str(),
-            tree: words[2].as_str(),
-        })
+        match Task::of_word(words[0].as_str()) {
+            Some(task) => Ok(Request {
+                task,
+                metrics: words[1].as_str(),
+                tree: words[2].as_str(),
+            }),
+            None => Err(NoCommand),
+        }
     }
 }
 
 impl Task {
+    /// The task that a word names.
     fn of_word(word: &str) -> Option<Task>
         ensures { result ≡ task_of word.now }
     {

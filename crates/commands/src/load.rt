@@ -1,6 +1,6 @@
-ghost use Rattle.std.specs.Prelude.{◌≡◌, ◌≤◌, None, IsErrOf, length};
+ghost use Rattle.std.specs.Prelude.{◌≡◌, ◌≤◌, None, length};
 ghost use Rattle.std.specs.Option.{option_map};
-ghost use Rattle.commands.specs.Answer.{content, metrics_in, tree_in, tree_of_json, json_in, of_metrics_file, of_tree_file};
+ghost use Rattle.commands.specs.Answer.{content, metrics_in, metrics_limit, tree_in, tree_of_json, json_in, of_metrics_file, of_tree_file};
 ghost use Rattle.commands.specs.Ends.{Answers, GivesOr};
 ghost use Rattle.font_metrics.specs.Reading.{metrics_of};
 ghost use Rattle.math_tree.specs.Reading.{tree_of};
@@ -13,10 +13,10 @@ use math_tree::{Tree, read_tree};
 use serde_json::Value;
 use std::alloc::Global;
 
-/// The most bytes that a metrics file may have.
+/// The most bytes that a metrics file may have: 8 MiB.
 const METRICS_LIMIT: usize = 8_388_608;
 
-/// The most bytes that a tree file may have.
+/// The most bytes that a tree file may have: 4 MiB.
 const TREE_LIMIT: usize = 4_194_304;
 
 /// Reads the metrics of a file.
@@ -25,11 +25,10 @@ pub fn load_metrics<I: Inputs>(
     name: &str,
     inputs: &mut I,
 ) -> Result<Metrics, Refusal>
-    ensures answers { Answers
+    ensures { Answers
         (option_map (λ files. metrics_in (content files name.now)) (I.told inputs.old).files)
         (λ files. files name.now ≡ None)
         (I.told inputs.old) (I.told inputs.new) result }
-    ensures known { ¬ IsErrOf result Refusal.Usage }
 {
     match read_all(alloc, inputs, name, METRICS_LIMIT) {
         Ok(bytes) => metrics_of(alloc, bytes.as_slice()),
@@ -39,20 +38,18 @@ pub fn load_metrics<I: Inputs>(
 
 /// The metrics of a file's bytes.
 fn metrics_of(alloc: Global, bytes: &[u8]) -> Result<Metrics, Refusal>
-    requires { length bytes.now ≤ 8388608 }
-    ensures gives { GivesOr (of_metrics_file (metrics_of bytes.now)) result }
-    ensures known { ¬ IsErrOf result Refusal.Usage }
+    requires { length bytes.now ≤ metrics_limit }
+    ensures { GivesOr (of_metrics_file (metrics_of bytes.now)) result }
 {
     Ok(read_metrics(alloc, bytes)?)
 }
 
 /// Reads the tree of a file.
 pub fn load_tree<I: Inputs>(alloc: Global, name: &str, inputs: &mut I) -> Result<Tree, Refusal>
-    ensures answers { Answers
+    ensures { Answers
         (option_map (λ files. tree_in (content files name.now)) (I.told inputs.old).files)
         (λ files. files name.now ≡ None)
         (I.told inputs.old) (I.told inputs.new) result }
-    ensures known { ¬ IsErrOf result Refusal.Usage }
 {
     match read_all(alloc, inputs, name, TREE_LIMIT) {
         Ok(bytes) => tree_of(alloc, bytes.as_slice()),
@@ -62,8 +59,7 @@ pub fn load_tree<I: Inputs>(alloc: Global, name: &str, inputs: &mut I) -> Result
 
 /// The tree of a file's bytes.
 fn tree_of(alloc: Global, bytes: &[u8]) -> Result<Tree, Refusal>
-    ensures gives { GivesOr (tree_of_json (json_in bytes.now)) result }
-    ensures known { ¬ IsErrOf result Refusal.Usage }
+    ensures { GivesOr (tree_of_json (json_in bytes.now)) result }
 {
     match Value::from_slice(alloc, bytes) {
         Ok(value) => tree_of_value(alloc, &value),
@@ -79,8 +75,7 @@ fn tree_of(alloc: Global, bytes: &[u8]) -> Result<Tree, Refusal>
 
 /// The tree of a JSON value.
 fn tree_of_value(alloc: Global, value: &Value) -> Result<Tree, Refusal>
-    ensures gives { GivesOr (of_tree_file (tree_of (view value.now))) result }
-    ensures known { ¬ IsErrOf result Refusal.Usage }
+    ensures { GivesOr (of_tree_file (tree_of (view value.now))) result }
 {
     Ok(read_tree(alloc, value)?)
 }

@@ -8,7 +8,8 @@ use font_metrics::Metrics;
 use math_tree::{Head, Node};
 use std::alloc::Global;
 
-/// Lays a short tree out and says what stands where, in document order.
+/// Says where the boxes and glyphs of the root and of its first child stand, in document order. The
+/// trees that are laid out so far have no more.
 pub fn place(alloc: Global, root: &Node, metrics: &Metrics) -> Result<List<PlacedItem>, Memory>
     ensures items { IfOk result (λ items. items ≡ place metrics.now root.now) }
     ensures glyphs { IfOk result (All (IsOfFont metrics.now)) }

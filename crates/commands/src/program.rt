@@ -1,10 +1,10 @@
-ghost use Rattle.std.specs.Prelude.{◌≡◌, ◌≢◌, Some, Ok, IsErrOf, IfOk, map, string_bytes};
+ghost use Rattle.std.specs.Prelude.{◌≡◌, ◌≢◌, Some, None, IfOk, map, string_bytes};
 ghost use Rattle.std.specs.Option.{option_map};
-ghost use Rattle.commands.specs.Command.{asked_of};
-ghost use Rattle.commands.specs.Answer.{answer, answer_to, done, laid_out, checked};
-ghost use Rattle.commands.specs.Ends.{Answers, Delivers, Ends, GivesOr, KnowsWords, LacksFile, LacksFileOf};
+ghost use Rattle.commands.specs.Command.{asked_by, asked_of};
+ghost use Rattle.commands.specs.Answer.{answer, answer_over, checked, content, done, laid_out};
+ghost use Rattle.commands.specs.Ends.{Answers, Delivers, Ends, GivesOr, LacksFile};
 
-use crate::command::{Request, Task};
+use crate::command::{NoCommand, Request, Task, USAGE};
 use crate::lines::Lines;
 use crate::load::{load_metrics, load_tree};
 use crate::place::place;
@@ -26,43 +26,29 @@ pub fn run<I: Inputs, O: Sink, L: Ledger>(
     out: &mut O,
     steps: &mut Steps<L>,
 ) -> Status
-    ensures ends { Ends (map string_bytes words.now)
+    ensures ends { Ends (asked_by (map string_bytes words.now))
         (I.told inputs.old) (I.told inputs.new)
         (O.told out.old) (O.told out.new) result }
     ensures steps { steps.new ≡ steps.old }
 {
-    match answer(alloc, words, inputs) {
-        Ok(text) => deliver(out, text.as_slice(), Status::Done),
-        Err(refusal) => deliver(out, refusal.line().as_str().as_bytes(), refusal.status()),
+    match Request::from_words(words) {
+        Err(NoCommand) => deliver(out, USAGE.as_bytes(), Status::Usage),
+        Ok(request) => match carry_out(alloc, request, inputs) {
+            Ok(text) => deliver(out, text.as_slice(), Status::Done),
+            Err(refusal) => deliver(out, refusal.line().as_str().as_bytes(), refusal.status()),
+        },
     }
 }
 
 /// Writes a text and answers the status, unless a write fails.
 fn deliver<O: Sink>(out: &mut O, text: &[u8], status: Status) -> Status
     requires { status ≢ Status.WriteFault }
-    ensures { Delivers text.now status (O.told out.old) (O.told out.new) result }
+    ensures { Delivers text.now status
+        (O.told out.old) (O.told out.new) result }
 {
-    // Nothing to write: no write can fail.
-    if text.is_empty() {
-        return status;
-    }
     match write_all(out, text) {
         Ok(()) => status,
         Err(_) => Status::WriteFault,
-    }
-}
-
-/// The text that the words ask for, or why there is none.
-fn answer<I: Inputs>(alloc: Global, words: &[String], inputs: &mut I) -> Result<List<u8>, Refusal>
-    ensures answers { Answers
-        (option_map (answer (map string_bytes words.now)) (I.told inputs.old).files)
-        (LacksFile (map string_bytes words.now))
-        (I.told inputs.old) (I.told inputs.new) result }
-    ensures knows { KnowsWords (map string_bytes words.now) result }
-{
-    match Request::from_words(words) {
-        None => Err(Refusal::Usage),
-        Some(request) => carry_out(alloc, request, inputs),
     }
 }
 
@@ -72,22 +58,37 @@ fn carry_out<I: Inputs>(
     request: Request,
     inputs: &mut I,
 ) -> Result<List<u8>, Refusal>
-    ensures answers { Answers
-        (option_map (answer_to (Some (asked_of request.entry))) (I.told inputs.old).files)
-        (LacksFileOf (Some (asked_of request.entry)))
+    ensures { Answers
+        (option_map (answer (asked_of request.entry)) (I.told inputs.old).files)
+        (LacksFile (Some (asked_of request.entry)))
         (I.told inputs.old) (I.told inputs.new) result }
-    ensures known { ¬ IsErrOf result Refusal.Usage }
 {
     let metrics = load_metrics(alloc, request.metrics, inputs)?;
-    let tree = load_tree(alloc, request.tree, inputs)?;
-    do_task(alloc, request.task, &metrics, &tree)
+    answer_over(alloc, request.task, &metrics, request.tree, inputs)
+}
+
+/// What a task makes of these metrics and a tree file, or why there is no text.
+fn answer_over<I: Inputs>(
+    alloc: Global,
+    task: Task,
+    metrics: &Metrics,
+    name: &str,
+    inputs: &mut I,
+) -> Result<List<u8>, Refusal>
+    ensures { Answers
+        (option_map (λ files. answer_over task metrics.now (content files name.now))
+        (I.told inputs.old).files)
+        (λ files. files name.now ≡ None)
+        (I.told inputs.old) (I.told inputs.new) result }
+{
+    let tree = load_tree(alloc, name, inputs)?;
+    do_task(alloc, task, metrics, &tree)
 }
 
 /// What a task makes of the two files.
 #[tactic(auto, unfolding(crate::specs::Answer::done))]
 fn do_task(alloc: Global, task: Task, metrics: &Metrics, tree: &Tree) -> Result<List<u8>, Refusal>
-    ensures gives { GivesOr (done task metrics.now tree.now) result }
-    ensures known { ¬ IsErrOf result Refusal.Usage }
+    ensures { GivesOr (done task metrics.now tree.now) result }
 {
     match task {
         Task::Layout => lay_out(alloc, metrics, tree),
@@ -97,8 +98,7 @@ fn do_task(alloc: Global, task: Task, metrics: &Metrics, tree: &Tree) -> Result<
 
 /// The lines of the boxes, where the tree is one that is laid out so far.
 fn lay_out(alloc: Global, metrics: &Metrics, tree: &Tree) -> Result<List<u8>, Refusal>
-    ensures gives { GivesOr (laid_out metrics.now tree.now) result }
-    ensures known { ¬ IsErrOf result Refusal.Usage }
+    ensures { GivesOr (laid_out metrics.now tree.now) result }
 {
     if !tree.root().is_built() {
         return Err(Refusal::TreeLater);

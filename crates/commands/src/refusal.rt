@@ -9,15 +9,9 @@ use font_metrics::{MetricsFault, MetricsRefusal};
 use math_tree::{TreeFault, TreeRefusal};
 use thiserror::Error;
 
-/// The words of each command.
-const USAGE: &str = "usage: mathlay layout METRICS TREE | check METRICS TREE\n";
-
-/// Why a run doesn't write what is asked for.
+/// Why the files don't give what is asked for.
 #[derive(Clone, Copy, Debug, PartialEq, Eq, Error)]
 pub enum Refusal {
-    /// The words are no command.
-    #[error("the words are no command")]
-    Usage,
     /// The metrics file has more bytes than its limit.
     #[error("the metrics file is too long")]
     MetricsLong,
@@ -51,7 +45,6 @@ impl Refusal {
         ensures { result ≡ line_of self }
     {
         match self {
-            Refusal::Usage => RefusalLine::of_text(USAGE),
             Refusal::MetricsLong => RefusalLine::of_text("metrics long\n"),
             Refusal::Metrics(fault) => RefusalLine::of_fault("metrics", fault.line, fault.kind),
             Refusal::TreeLong => RefusalLine::of_text("tree long\n"),
@@ -67,7 +60,6 @@ impl Refusal {
         ensures { result ≡ status_of self }
     {
         match self {
-            Refusal::Usage => Status::Usage,
             Refusal::MetricsLong | Refusal::Metrics(_) => Status::Metrics,
             Refusal::TreeLong | Refusal::TreeJson | Refusal::Tree(_) | Refusal::TreeLater => {
                 Status::Tree

@@ -7,11 +7,14 @@ use arrayvec::ArrayString;
 use itoa::Buffer;
 use std::marker::Model;
 
+/// How many bytes a line has room for.
+pub const ROOM: usize = 32;
+
 /// The line that tells of a refusal. It stands on the stack, so that no memory is needed to tell it.
 /// Contracts see its bytes.
 #[derive(Debug, Drop)]
 pub struct RefusalLine {
-    text: ArrayString<160>,
+    text: ArrayString<ROOM>,
 }
 
 impl Model for RefusalLine {
@@ -23,9 +26,9 @@ impl Model for RefusalLine {
 }
 
 impl RefusalLine {
-    /// A whole line of at most 100 bytes.
+    /// A line that begins with a text.
     pub fn of_text(text: &str) -> RefusalLine
-        requires { length text.now ≤ 100 }
+        requires { length text.now ≤ ROOM }
         ensures { result ≡ text.now }
     {
         let mut line = ArrayString::new();
@@ -35,7 +38,7 @@ impl RefusalLine {
 
     /// The line of a fault in a file, by the place and the number of its kind.
     pub fn of_fault(file: &str, place: u32, kind: u8) -> RefusalLine
-        requires { length file.now ≤ 20 }
+        requires { length (fault_line file.now place kind) ≤ ROOM }
         ensures { result ≡ fault_line file.now place kind }
     {
         let mut line = RefusalLine::of_text(file);
@@ -54,9 +57,8 @@ impl RefusalLine {
 
     /// A space and the number.
     fn add_number(&mut self, number: u32)
-        requires { length self.old ≤ 100 }
-        ensures value { self.new ≡ self.old ++ spaced (decimal number) }
-        ensures short { length self.new ≤ length self.old + 41 }
+        requires { length self.old + length (spaced (decimal number)) ≤ ROOM }
+        ensures { self.new ≡ self.old ++ spaced (decimal number) }
     {
         self.text.push_str(" ");
         self.text.push_str(Buffer::new().format(number));

@@ -2,48 +2,60 @@
 //! what stands where, or prints both files in their canonical form.
 //!
 //! `main` hands the words of the command line, the system's files and standard output to
-//! `commands::run`, which does all that the program does, and ends with its status.
+//! `commands::run`, which does all that the program does, and ends with the number of its status.
 //!
-//! - Proved: nothing beyond what `commands` and `doc_io` promise.
+//! - Models: the words and the exit status of a POSIX program.
+//! - Proved: the exit status is that of a run of the words (`specs/Exit.antt`).
+//! - Knows nothing of: what the words mean.
 //! - Change what is answered: `crates/commands`.
 #![tactic(auto)]
 
-ghost use Rattle.std.specs.Prelude.{◌≡◌, ◌<◌};
+#[cfg(test)]
+mod tests;
+
+ghost use Rattle.std.specs.Prelude.{◌≡◌, ◌≢◌, ◌<◌, None, IfOk, IfErr, map, string_bytes};
+ghost use Rattle.std.specs.Process.{exit_status};
+ghost use Rattle.commands.specs.Command.{asked_by};
+ghost use Rattle.commands.specs.Status.{number_of};
+ghost use Rattle.mathlay.specs.Exit.{Exits};
 
 use commands::{Status, run};
-use doc_io::{FileInputs, StdSink};
+use doc_io::{FileInputs, Inputs, Sink, StdSink};
 use fixed_units::Steps;
+use std::alloc::Global;
 use std::io::ErrorKind;
 use std::marker::Brand;
 use std::process::ExitCode;
-use std::rt::{Env, Files};
+use std::rt::Env;
 use std::sync::ledger::{Blank, Ledger};
 use std::{env, io};
 
 fn main(rt: HostRuntime) -> ExitCode {
-    run_counted::<Brand>(&rt, Blank::new(1)).exit_code()
+    started::<Brand>(
+        &rt,
+        &mut FileInputs::make(&rt),
+        &mut StdSink::make(io::writer(&rt)),
+        Blank::new(1),
+    )
 }
 
-/// Runs with the words of the command line, real files and standard output, and counts on the
-/// ledger `L`, which takes no bytes.
-fn run_counted<L: Ledger>(rt: &(impl Env + Files + Print + AllocGlobal), blank: Blank) -> Status
+/// Runs with the words of an environment, and counts on the ledger `L`, which takes no bytes.
+fn started<L: Ledger>(
+    rt: &(impl Env + AllocGlobal),
+    inputs: &mut impl Inputs,
+    out: &mut impl Sink,
+    blank: Blank,
+) -> ExitCode
     requires name { blank.name ≡ L.name }
     requires parts { blank.parts ≡ L.parts }
     requires some { 0 < blank.parts }
 {
-    let words = match words_of(rt) {
-        Ok(words) => words,
-        Err(error) if error.kind() == ErrorKind::OutOfMemory => return Status::Memory,
-        // Words that are no text are no command: `run` says so of no words as well.
-        Err(_) => Vec::new(rt.alloc()),
+    let words = words_of(rt);
+    let words = match &words {
+        Ok(words) => Ok(words.as_slice()),
+        Err(error) => Err(error.kind()),
     };
-    run(
-        rt.alloc(),
-        words.as_slice(),
-        &mut FileInputs::make(rt),
-        &mut StdSink::make(io::writer(rt)),
-        &mut Steps::<L>::new(blank),
-    )
+    exit_code(rt.alloc(), words, inputs, out, &mut Steps::<L>::new(blank))
 }
 
 /// The words after the program's name.
@@ -53,4 +65,29 @@ fn words_of(rt: &(impl Env + AllocGlobal)) -> io::Result<Vec<String>> {
         words.push(word)?;
     }
     Ok(words)
+}
+
+/// Runs with the words, or with the kind of the error that came in place of them: words that are no
+/// text are no command, and without memory for the words nothing is done.
+fn exit_code<I: Inputs, O: Sink, L: Ledger>(
+    alloc: Global,
+    words: Result<&[String], ErrorKind>,
+    inputs: &mut I,
+    out: &mut O,
+    steps: &mut Steps<L>,
+) -> ExitCode
+    ensures given { IfOk words.entry (λ words. Exits (asked_by (map string_bytes words.now))
+        (I.told inputs.old) (I.told inputs.new)
+        (O.told out.old) (O.told out.new) result) }
+    ensures no_text { IfErr words.entry (λ kind. kind ≢ ErrorKind.OutOfMemory → Exits None
+        (I.told inputs.old) (I.told inputs.new)
+        (O.told out.old) (O.told out.new) result) }
+    ensures no_memory { IfErr words.entry (λ kind. kind ≡ ErrorKind.OutOfMemory →
+        (exit_status result ≡ number_of Status.Memory) × (inputs.new ≡ inputs.old) × (out.new ≡ out.old)) }
+{
+    match words {
+        Ok(words) => run(alloc, words, inputs, out, steps).exit_code(),
+        Err(ErrorKind::OutOfMemory) => Status::Memory.exit_code(),
+        Err(_) => run(alloc, &[], inputs, out, steps).exit_code(),
+    }
 }

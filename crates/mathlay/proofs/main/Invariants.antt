@@ -1,5 +1,5 @@
 use Rattle.mathlay.proofs.main.Given as goal
 
 -- the ledger is the one that the blank opens
-abbrev pub ghosts-run_counted : goal.ghosts-run_counted
-ghosts-run_counted a = record { name = a.blank.name; parts = a.blank.parts }
+abbrev pub ghosts-started : goal.ghosts-started
+ghosts-started a = record { name = a.blank.name; parts = a.blank.parts }

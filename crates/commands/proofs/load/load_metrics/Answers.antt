@@ -1,14 +1,14 @@
 use Rattle.std.proofs.Common.{◌≡◌}
-use Rattle.commands.specs.Answer.{metrics_in}
+use Rattle.commands.specs.Answer.{metrics_limit, metrics_in}
 use Rattle.commands.specs.declared.refusal.Refusal.TheVariants.{MetricsLong, ReadFault}
 use Rattle.commands.proofs.Loading.{metrics_read, metrics_long, not_read}
 use Rattle.commands.proofs.load.load_metrics.Goals as goal
 
-pub returns-in-Ok-clause-answers : goal.returns-in-Ok-clause-answers
-returns-in-Ok-clause-answers g c =
-    metrics_read _ _ _ _ _ _ c.in-Ok.ensures.reads c.as_slice.ensures c.metrics_of.ensures.gives
+pub returns-in-Ok : goal.returns-in-Ok
+returns-in-Ok g c =
+    metrics_read _ _ _ _ _ _ c.in-Ok.ensures.reads c.as_slice.ensures c.metrics_of.ensures
 
-pub returns-in-Err-clause-answers : goal.returns-in-Err-clause-answers
-returns-in-Err-clause-answers g c =
+pub returns-in-Err : goal.returns-in-Err
+returns-in-Err g c =
     let own : ¬ (MetricsLong ≡ ReadFault) = λ e. cc in
-    not_read metrics_in 8388608 _ _ _ _ MetricsLong _ c.of_reading.ensures c.in-Err.ensures.reads metrics_long own
+    not_read metrics_in metrics_limit _ _ _ _ MetricsLong _ c.of_reading.ensures c.in-Err.ensures.reads metrics_long own
