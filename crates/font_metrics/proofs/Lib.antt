@@ -14,8 +14,10 @@ pub mod Values
 pub mod Scaling
 pub mod Bounds
 pub mod Worked
+pub mod LookBack
+pub mod FileLaws
 pub mod WorkedPrints
-mod ReadBack
+pub mod ReadBack
 mod Padding
 mod Printing
 mod ConstantTexts

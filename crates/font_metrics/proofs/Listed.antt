@@ -12,7 +12,7 @@ use Rattle.std.specs.Map.{keys_of, lookup, set_value}
 use Rattle.std.specs.Option.{option_map, unwrap_or}
 use Rattle.std.specs.Ordering.{nat_cmp, is_eq, match_ordering}
 use Rattle.font_metrics.specs.Kept.{lists_of_entries}
-use Rattle.font_metrics.specs.Metrics.{items_of, with_item}
+use Rattle.font_metrics.specs.Metrics.{ByGlyph, items_of, with_item}
 
 -- the test of a map of numbers is equality
 pub at_is_eq : (k n : ℕ) → is_at (nat_cmp k) n ≡ nat_eq k n
@@ -121,3 +121,18 @@ module _ {X : Type 0} where
       lists-insert k w es
       ∙ ap (insert_entry nat_cmp (lists_of_entries es) k)
       (h ∙ ap (λ o. unwrap_or o [] ++ x ∷ []) (sym (lookup-lists k es ∙ ap (option_map (λ v. v.items)) none)))
+
+  -- the same for a map that is seen as a table
+  pub added_to : (k : ℕ) (v w : Vec X Global) (x : X) (es new : List (ℕ × Vec X Global)) (now : ByGlyph X)
+      → new ≡ set_value (is_at (nat_cmp k)) es w → IsStrictlySortedBy nat_cmp (keys_of es)
+      → lookup (is_at (nat_cmp k)) es ≡ Some v → w.items ≡ v.items ++ x ∷ [] → lists_of_entries es ≡ now
+      → lists_of_entries new ≡ with_item now k x
+  added_to k v w x es new now e s found h seen =
+      ap lists_of_entries e ∙ added k v w x es s found h ∙ ap (λ t. with_item t k x) seen
+
+  pub begun_in : (k : ℕ) (w : Vec X Global) (x : X) (es old new : List (ℕ × Vec X Global)) (now : ByGlyph X)
+      → new ≡ insert_entry nat_cmp old k w → old ≡ es → lookup (is_at (nat_cmp k)) es ≡ None
+      → w.items ≡ x ∷ [] → lists_of_entries es ≡ now → lists_of_entries new ≡ with_item now k x
+  begun_in k w x es old new now e same none h seen =
+      ap lists_of_entries (e ∙ ap (λ m. insert_entry nat_cmp m k w) same) ∙ begun k w x es none h
+      ∙ ap (λ t. with_item t k x) seen

@@ -1,7 +1,7 @@
 -- Reading the print of metrics gives the same metrics: from its words up to the whole.
 mod Decimal
 mod Codes
-mod Choices
+pub mod Choices
 mod Joined
 mod Feeds
 mod Names

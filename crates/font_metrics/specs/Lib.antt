@@ -10,3 +10,4 @@ pub mod Kept
 pub mod Said
 pub mod Whole
 pub mod Print
+pub mod Laws

@@ -115,9 +115,12 @@ after given line = do
   if is_comment line then Ok given else after_words given (words_of line)
 
 -- the words of the first line
-abbrev pub is_version : Words → Bool
-is_version (name ∷ version ∷ []) =
+abbrev pub is_first : List ℕ → List ℕ → Bool
+is_first name version =
     bytes_eq name (codes "mathlay-metrics") && bytes_eq version (codes "1")
+
+abbrev pub is_version : Words → Bool
+is_version (name ∷ version ∷ []) = is_first name version
 is_version words = false
 
 -- the first line, which gives nothing

@@ -21,7 +21,7 @@ pub struct Glyph {
 }
 
 /// A glyph as it is kept. A font has thousands, so the numbers have the width of their ranges.
-#[derive(Clone, Copy, Debug, Drop)]
+#[derive(Clone, Copy)]
 pub struct Measures {
     pub advance: u16,
     pub ink_ascent: i32,

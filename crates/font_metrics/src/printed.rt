@@ -14,7 +14,7 @@ use std::fmt::Write;
 use std::marker::Model;
 
 /// The lines of a print so far, which contracts see as their bytes.
-#[derive(Debug, Drop)]
+#[derive(Drop)]
 pub struct PrintedLines {
     text: String,
 }

@@ -38,7 +38,7 @@ impl From<Memory> for MetricsRefusal {
 }
 
 /// Why a line isn't taken; which line it is, its caller knows.
-#[derive(Clone, Copy, Debug, PartialEq, Eq)]
+#[derive(Clone, Copy)]
 pub enum LineRefusal {
     /// The line has this fault.
     Fault(LineFault),
