@@ -109,8 +109,11 @@ operator_text_in word = text_of_codes (slice_split (λ b. nat_eq b plus) word)
 -- ---- names
 
 -- an ASCII letter or digit, `_`, `.` or `-`
+abbrev pub is_name_mark : ℕ → Bool
+is_name_mark b = nat_eq b 95 || nat_eq b 46 || nat_eq b 45
+
 abbrev pub is_name_byte : ℕ → Bool
-is_name_byte b = is_ascii_alphanumeric b || nat_eq b 95 || nat_eq b 46 || nat_eq b 45
+is_name_byte b = is_ascii_alphanumeric b || is_name_mark b
 
 -- a glyph name: 1 to 63 such bytes
 unfoldable pub is_name : List ℕ → Bool
