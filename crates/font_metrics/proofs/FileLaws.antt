@@ -4,22 +4,22 @@ use Rattle.std.specs.Str.Lines.{lines, strip_carriage_return}
 use Rattle.font_metrics.specs.declared.constants.ConstName.{ConstName}
 use Rattle.font_metrics.specs.declared.constants.ConstName.TheVariants.{ScriptPercentScaleDown}
 use Rattle.font_metrics.specs.declared.fault.LineFault.{LineFault}
-use Rattle.font_metrics.specs.declared.fault.LineFault.TheVariants.{ForeignByte, WrongFirstLine, NoUpem, NoLine, NoXHeight, NoMissing}
+use Rattle.font_metrics.specs.declared.fault.LineFault.TheVariants.{ForeignByte, NoUpem, NoLine, NoXHeight, NoMissing}
 use Rattle.font_metrics.specs.declared.given.Given.{Given}
 use Rattle.font_metrics.specs.declared.given.Needed.{Needed}
 use Rattle.font_metrics.specs.Constants.{place_of_constant}
 use Rattle.font_metrics.specs.Faults.{Step, ◌>>=◌, step_map, fault_if}
-use Rattle.font_metrics.specs.Laws.{upem_said, line_said, x_height_said, glyph_said, said, is_said, listed, allowed_behind, words_say, line_says, first_says, Say, SayAll, AreSaid, MetricsLaw, IsFirstFault, lacking, EndsWithout, FaultLaw, TakenLaw, ConstantLaw}
+use Rattle.font_metrics.specs.Laws.{upem_said, line_said, x_height_said, glyph_said, said, listed, allowed_behind, words_say, line_says, first_says, Say, SayAll, AreSaid, MetricsLaw, IsFirstFault, lacking, EndsWithout, FaultLaw, TakenLaw, ConstantLaw}
 use Rattle.font_metrics.specs.Lines.{Words, Item, keyword_of, item_in}
 use Rattle.font_metrics.specs.Metrics.{NamedGlyph, MetricsValue, place_of_name, variants_of, parts_of}
-use Rattle.font_metrics.specs.Reading.{Fault, fault_at, nothing, allowed, put, is_foreign, is_comment, is_version, words_of, after_words, after, after_first, needed_of, needed, metrics_with, finished, numbered, lines_of, metrics_of}
+use Rattle.font_metrics.specs.Reading.{Fault, fault_at, nothing, allowed, put, is_foreign, is_comment, first_in, words_of, after_words, after, after_first, needed_of, needed, metrics_with, finished, numbered, lines_of, metrics_of}
 use Rattle.font_metrics.specs.Taken.{IsTaken}
 use Rattle.font_metrics.specs.Whole.{IsGiven}
 use Rattle.font_metrics.proofs.Cuts.{is_feed, last_line, next_line}
 use Rattle.font_metrics.proofs.Finish.{needs_are, taken_of}
 use Rattle.font_metrics.proofs.Forward.{continued, from_line, from_first}
 use Rattle.font_metrics.proofs.LookBack.{Grows, grows-append, IsSaid, is_said_by, some_is_said, allowed-same}
-use Rattle.font_metrics.proofs.Ranges.{after_keeps, nothing_given, first_gives}
+use Rattle.font_metrics.proofs.Ranges.{after_keeps, nothing_given}
 use Rattle.font_metrics.proofs.ReadBack.Choices.{place_of_text-constant}
 use Rattle.font_metrics.proofs.Steps.{same_Ok, had, mapped}
 
@@ -92,26 +92,18 @@ first_cut bytes = by (position is_feed bytes) refl
     by None e = (bytes, lines [], last_line bytes e)
     by (Some i) e = (strip_carriage_return (take i bytes), lines (drop (i + 1) bytes), next_line bytes i e)
 
-abbrev none_said : Step (List Item)
-none_said = Ok []
-
 first-same : (line : List ℕ) → after_first line ≡ (first_says line >>= λ more. Ok nothing)
 unfolding after_first
-first-same line =
-    by (fault_if (is_foreign line) ForeignByte) (fault_if (not (is_version (words_of line))) WrongFirstLine)
+first-same line = by (first_in line)
   where
-    by : (s t : Step (Unit {0}))
-        → (s >>= λ plain. t >>= λ version. Ok nothing)
-        ≡ ((s >>= λ plain. t >>= λ version. none_said) >>= λ more. Ok nothing)
-    by (Err fault) t = refl
-    by (Ok u) (Err fault) = refl
-    by (Ok u) (Ok v) = refl
+    by : (s : Step (Unit {0})) → (s >>= λ first. Ok nothing) ≡ ((s >>= λ first. Ok []) >>= λ (more : List Item). Ok nothing)
+    by (Err fault) = refl
+    by (Ok u) = refl
 
 first_none : (line : List ℕ) (more : List Item) → first_says line ≡ Ok more → first_says line ≡ Ok []
 first_none line more e =
-    let p = had (fault_if (is_foreign line) ForeignByte) _ more e in
-    let v = had (fault_if (not (is_version (words_of line))) WrongFirstLine) _ more p.2 in
-    subst (λ (m : List Item). first_says line ≡ Ok m) (sym (same_Ok [] more v.2)) e
+    let f = had (first_in line) _ more e in
+    subst (λ (m : List Item). first_says line ≡ Ok m) (sym (same_Ok [] more f.2)) e
 
 -- a file by its first line and the others
 from_start : (bytes first : List ℕ) (rest : List (List ℕ)) → lines_of bytes ≡ first ∷ rest

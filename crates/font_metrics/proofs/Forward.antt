@@ -7,9 +7,9 @@ use Rattle.font_metrics.specs.declared.fault.LineFault.{LineFault}
 use Rattle.font_metrics.specs.declared.refusal.LineRefusal.{LineRefusal}
 use Rattle.font_metrics.specs.declared.refusal.LineRefusal.TheVariants.{Fault as FaultyLine, Memory as NoMemory}
 use Rattle.font_metrics.specs.declared.given.Given.{Given}
-use Rattle.font_metrics.specs.Faults.{Step}
+use Rattle.font_metrics.specs.Faults.{Step, ◌>>=◌}
 use Rattle.font_metrics.specs.Metrics.{MetricsValue}
-use Rattle.font_metrics.specs.Reading.{Fault, fault_at, fault_or, nothing, after, after_first, kept, given_from, first_fault_behind, finished, numbered, metrics_or, lines_of, metrics_of}
+use Rattle.font_metrics.specs.Reading.{Fault, fault_at, fault_or, nothing, after, first_in, after_first, kept, given_from, first_fault_behind, finished, numbered, metrics_or, lines_of, metrics_of}
 use Rattle.font_metrics.specs.Reads.{Reads, Takes, refusal_at}
 use Rattle.font_metrics.proofs.Ranges.{first_gives}
 
@@ -66,6 +66,14 @@ from_first bytes first lines h =
         ≡ continued 1 s (λ next. from_line 1 next lines)
     by (Err fault) e more = refl
     by (Ok next) e more = more ∙ ap (λ g. from_line 1 g lines) (sym (first_gives first next e))
+
+pub first_stops : (line : List ℕ) (fault : LineFault) → Err fault ≡ first_in line → after_first line ≡ Err fault
+unfolding after_first
+first_stops line fault h = ap (λ (s : Step (Unit {0})). s >>= λ first. Ok nothing) (sym h)
+
+pub first_goes : (line : List ℕ) (u : Unit {0}) → Ok u ≡ first_in line → after_first line ≡ Ok nothing
+unfolding after_first
+first_goes line u h = ap (λ (s : Step (Unit {0})). s >>= λ first. Ok nothing) (sym h)
 
 -- a line's refusal is that of the file
 pub stopped : (said : Result MetricsValue Fault) (number : ℕ) (s : Step Given) (new : Given)

@@ -1,5 +1,5 @@
 -- What lines have given is what their items say.
-use Rattle.std.proofs.Common.{◌≡◌, ◌∙◌, sym, ap, refl, subst, ℕ, ℤ, ◌+◌, ◌<◌, Bool, true, false, cond, not, nat_eq, nat_lt, nat_le, List, [], ◌∷◌, ◌++◌, length, flat_map, Option, Some, None, is_some, Ok, Err, arith, append_assoc, append-nil, true≢false, if◌then◌else◌}
+use Rattle.std.proofs.Common.{◌≡◌, ◌∙◌, sym, ap, refl, subst, ℕ, Bool, true, false, cond, nat_eq, nat_lt, nat_le, List, [], ◌∷◌, ◌++◌, length, Option, Some, None, is_some, Ok, arith, append_assoc, append-nil, true≢false, if◌then◌else◌}
 use Rattle.std.proofs.lemmas.Bool.Decides.{nat_tests}
 use Rattle.std.specs.BTreeMap.{insert_entry}
 use Rattle.std.specs.Map.{lookup}
@@ -14,10 +14,10 @@ use Rattle.font_metrics.specs.declared.fault.LineFault.TheVariants.{Repeated, To
 use Rattle.font_metrics.specs.declared.given.Given.{Given}
 use Rattle.font_metrics.specs.declared.growth.Variant.{Variant}
 use Rattle.font_metrics.specs.declared.growth.Part.{Part}
-use Rattle.font_metrics.specs.Faults.{Step, ◌>>=◌, fault_if}
+use Rattle.font_metrics.specs.Faults.{◌>>=◌, fault_if}
 use Rattle.font_metrics.specs.Laws.{upem_said, line_said, x_height_said, overlap_said, constant_said, glyph_said, character_said, variant_said, part_said, operator_said, one_if, same_axis, said, is_said, listed, allowed_behind}
 use Rattle.font_metrics.specs.Lines.{Item, SaysUpem, SaysLine, SaysXHeight, SaysOverlap, SaysConstant, SaysGlyph, SaysCharacter, SaysVariant, SaysPart, SaysOperator}
-use Rattle.font_metrics.specs.Metrics.{NamedGlyph, ByGlyph, ByAxis, along, items_of, with_item, with_item_along, place_of_name, place_of_code}
+use Rattle.font_metrics.specs.Metrics.{NamedGlyph, ByGlyph, ByAxis, along, items_of, with_item, with_item_along, place_of_name}
 use Rattle.font_metrics.specs.Reading.{nothing, allowed, put}
 use Rattle.font_metrics.specs.Taken.{most_glyphs, most_variants, most_parts}
 use Rattle.font_metrics.proofs.Steps.{free}

@@ -1,10 +1,10 @@
 -- What lines give lies in its ranges.
-use Rattle.std.proofs.Common.{◌≡◌, sym, subst, ℕ, ◌+◌, ◌<◌, ◌≤◌, Bool, true, false, if◌then◌else◌, List, [], ◌∷◌, ◌++◌, length, is_some, IfSome, Ok, arith, not}
+use Rattle.std.proofs.Common.{◌≡◌, sym, subst, ℕ, ◌+◌, ◌<◌, ◌≤◌, Bool, true, false, if◌then◌else◌, List, [], ◌∷◌, ◌++◌, length, is_some, IfSome, Ok, arith}
 use Rattle.std.proofs.lemmas.List.{length_push}
 use Rattle.std.proofs.lemmas.List.Elements.{All-nil, All-weaker}
 use Rattle.std.specs.List.{IsDistinct}
 use Rattle.std.specs.List.Sorted.{IsStrictlySortedBy}
-use Rattle.font_metrics.specs.declared.fault.LineFault.TheVariants.{ForeignByte, WrongFirstLine, UnknownWord, Repeated, TooMany}
+use Rattle.font_metrics.specs.declared.fault.LineFault.TheVariants.{ForeignByte, UnknownWord, Repeated, TooMany}
 use Rattle.font_metrics.specs.declared.given.Given.{Given}
 use Rattle.font_metrics.specs.declared.growth.Variant.{Variant}
 use Rattle.font_metrics.specs.declared.growth.Part.{Part}
@@ -13,7 +13,7 @@ use Rattle.font_metrics.specs.declared.keyword.Keyword.TheVariants.{Upem, Line, 
 use Rattle.font_metrics.specs.Faults.{fault_if}
 use Rattle.font_metrics.specs.Lines.{Words, Item, SaysUpem, SaysLine, SaysXHeight, SaysOverlap, SaysConstant, SaysGlyph, SaysCharacter, SaysVariant, SaysPart, SaysOperator, keyword_of, upem_in, line_in, one_length_in, constant_in, glyph_in, character_in, variant_in, part_in, operator_in, item_in}
 use Rattle.font_metrics.specs.Metrics.{NamedGlyph, along, is_full, place_of_name}
-use Rattle.font_metrics.specs.Reading.{nothing, is_foreign, is_comment, is_version, words_of, allowed, put, after_fields, after_words, after, after_first}
+use Rattle.font_metrics.specs.Reading.{nothing, is_foreign, is_comment, first_in, words_of, allowed, put, after_fields, after_words, after, after_first}
 use Rattle.font_metrics.specs.Taken.{IsGlyph, IsConstant, IsCharacter, AreTables, IsVariant, IsPart, IsOperatorText, most_variants, most_parts}
 use Rattle.font_metrics.specs.Whole.{IsUpem, IsLine, IsGiven, AreConstants, AreGlyphs, AreCharacters, AreOperators}
 use Rattle.font_metrics.proofs.Steps.{same_Ok, no_value, had, free, mapped}
@@ -229,6 +229,5 @@ nothing_given = record {
 pub first_gives : (line : List ℕ) (next : Given) → after_first line ≡ Ok next → next ≡ nothing
 unfolding after_first
 first_gives line next e =
-    let plain = had (fault_if (is_foreign line) ForeignByte) _ next e in
-    let version = had (fault_if (not (is_version (words_of line))) WrongFirstLine) _ next plain.2 in
-    sym (same_Ok nothing next version.2)
+    let first = had (first_in line) _ next e in
+    sym (same_Ok nothing next first.2)

@@ -1,13 +1,12 @@
 -- What a metrics file says, looked back at: each line with all that the lines before it say.
-use Rattle.std.specs.Prelude.{◌≡◌, ℕ, ◌+◌, ℤ, Bool, true, false, nat_eq, nat_le, not, if◌then◌else◌, List, [], ◌∷◌, ◌++◌, length, flat_map, codes, Option, Some, None, is_some, Result, Ok, Err, ◌⊎◌}
+use Rattle.std.specs.Prelude.{◌≡◌, ℕ, ◌+◌, ℤ, Bool, true, false, nat_eq, nat_le, not, if◌then◌else◌, List, [], ◌∷◌, ◌++◌, length, flat_map, codes, Option, Some, None, is_some, Ok, Err, ◌⊎◌}
 use Rattle.std.specs.Map.{lookup}
 use Rattle.op_dictionary.specs.declared.extra.OperatorLine.{OperatorLine}
 use Rattle.op_dictionary.specs.declared.operator.Axis.{Axis}
 use Rattle.op_dictionary.specs.declared.operator.Axis.TheVariants.{Block, Inline}
 use Rattle.op_dictionary.specs.Dictionary.{is_named}
 use Rattle.font_metrics.specs.declared.constants.ConstName.{ConstName}
-use Rattle.font_metrics.specs.declared.fault.LineFault.{LineFault}
-use Rattle.font_metrics.specs.declared.fault.LineFault.TheVariants.{ForeignByte, WrongFirstLine, Repeated, TooMany, NoUpem, NoLine, NoXHeight, NoMissing}
+use Rattle.font_metrics.specs.declared.fault.LineFault.TheVariants.{ForeignByte, Repeated, TooMany, NoUpem, NoLine, NoXHeight, NoMissing}
 use Rattle.font_metrics.specs.declared.growth.Variant.{Variant}
 use Rattle.font_metrics.specs.declared.growth.Part.{Part}
 use Rattle.font_metrics.specs.Constants.{place_of_constant, place_of_text}
@@ -15,7 +14,7 @@ use Rattle.font_metrics.specs.Faults.{Step, ◌>>=◌, fault_if}
 use Rattle.font_metrics.specs.Lines.{Words, Item, SaysUpem, SaysLine, SaysXHeight, SaysOverlap, SaysConstant, SaysGlyph, SaysCharacter, SaysVariant, SaysPart, SaysOperator, keyword_of, item_in}
 use Rattle.font_metrics.specs.Metrics.{NamedGlyph, MetricsValue, place_of_name, place_of_code, variants_of, parts_of}
 use Rattle.font_metrics.specs.Print.{constant_text}
-use Rattle.font_metrics.specs.Reading.{Fault, fault_at, is_foreign, is_comment, is_version, words_of, lines_of, metrics_of}
+use Rattle.font_metrics.specs.Reading.{Fault, is_foreign, is_comment, first_in, words_of, lines_of, metrics_of}
 use Rattle.font_metrics.specs.Taken.{IsTaken, most_glyphs, most_variants, most_parts}
 
 -- ---- what items say of one matter, in file order
@@ -118,8 +117,7 @@ line_says before line = do
 
 abbrev pub first_says : List ℕ → Step (List Item)
 first_says line = do
-  plain ← fault_if (is_foreign line) ForeignByte
-  version ← fault_if (not (is_version (words_of line))) WrongFirstLine
+  first ← first_in line
   Ok []
 
 -- ---- lines without a fault

@@ -123,11 +123,16 @@ abbrev pub is_version : Words → Bool
 is_version (name ∷ version ∷ []) = is_first name version
 is_version words = false
 
--- the first line, which gives nothing
+-- the first line, or what is wrong with it
+abbrev pub first_in : List ℕ → Step (Unit {0})
+first_in line = do
+  plain ← fault_if (is_foreign line) ForeignByte
+  fault_if (not (is_version (words_of line))) WrongFirstLine
+
+-- it gives nothing
 unfoldable pub after_first : List ℕ → Step Given
 after_first line = do
-  plain ← fault_if (is_foreign line) ForeignByte
-  version ← fault_if (not (is_version (words_of line))) WrongFirstLine
+  first ← first_in line
   Ok nothing
 
 -- ---- looking back

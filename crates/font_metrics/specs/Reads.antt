@@ -6,8 +6,7 @@ use Rattle.font_metrics.specs.declared.refusal.MetricsFault.{MetricsFault}
 use Rattle.font_metrics.specs.declared.refusal.MetricsRefusal.{MetricsRefusal}
 use Rattle.font_metrics.specs.declared.refusal.MetricsRefusal.TheVariants.{Fault as Faulty, Memory}
 use Rattle.font_metrics.specs.Faults.{Step, number_of_fault}
-use Rattle.font_metrics.specs.declared.given.Given.{Given}
-use Rattle.font_metrics.specs.Reading.{Fault, fault_at, nothing}
+use Rattle.font_metrics.specs.Reading.{Fault, fault_at}
 
 -- a fault as it is told: the line's number and the number of the fault's kind
 abbrev pub told : Fault → MetricsFault
@@ -26,10 +25,6 @@ abbrev pub Takes : {X : Type 0} → Step X → X → Result (Unit {0}) LineRefus
 Takes step new (Ok done) = step ≡ Ok new
 Takes step new (Err (FaultyLine fault)) = step ≡ Err fault
 Takes step new (Err NoMemory) = Unit {0}
-
--- the first line is the format's, or has exactly this fault
-abbrev pub Begins : Step Given → Result (Unit {0}) LineRefusal → Type 0
-Begins step result = Takes step nothing result
 
 -- a line's refusal as that of its file
 abbrev pub refusal_at : ℕ → LineRefusal → MetricsRefusal

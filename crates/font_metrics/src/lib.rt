@@ -11,8 +11,10 @@
 //!   the bounds of `specs/Taken.antt`; `print` is `print_of` (`specs/Print.antt`), and reading it
 //!   gives the same metrics (`laws`). `read_metrics` and `print` alone take memory.
 //! - Knows nothing of: trees, styles, layout.
+//! - Laws (`specs/Laws.antt`): metrics are what the lines say, each behind those before it; the first
+//!   fault is told; whatever is given is in its range. Bounds for crates above: `proofs/Bounds.antt`.
 //! - Change a line of the format: `specs/Lines.antt`, `specs/Reading.antt` and `specs/Print.antt`,
-//!   then `src/lines.rt` and its mirror `src/printed.rt`, then `rt check`.
+//!   then `src/lines.rt`, `src/said.rt`, `src/taking.rt` and the mirror `src/printed.rt`.
 #![tactic(auto)]
 
 mod by_axis; // ByAxis: such lists for each axis
@@ -27,7 +29,7 @@ mod glyph; // GlyphId, Glyph
 mod glyphs; // GlyphTable
 mod growth; // Variant, Part
 mod keyword; // the first word of a line
-pub mod laws; // reading a print gives the metrics
+pub mod laws; // of all files: what their lines say, their first fault, their print
 mod lines; // the fields of each kind of line
 mod mark; // Mark
 mod metrics; // Metrics

@@ -1,10 +1,9 @@
-ghost use Rattle.std.specs.Prelude.{◌≡◌, ◌<◌, ◌≤◌, ◌≢◌, [], ◌∷◌, length, take, not, IfOk};
+ghost use Rattle.std.specs.Prelude.{◌≡◌, ◌<◌, ◌≤◌, ◌≢◌, [], ◌∷◌, length, take, not};
 ghost use Rattle.std.specs.Str.Lines.{lines, strip_carriage_return};
 ghost use Rattle.font_metrics.specs.Lines.{lent};
 ghost use Rattle.font_metrics.specs.Reading.{lines_of, words_of, is_blank, is_comment, is_plain, is_foreign, is_empty};
 
 use arrayvec::ArrayVec;
-use fixed_units::Memory;
 
 /// The first line of a file, and what follows it. A line feed ends a line, with a carriage return
 /// just before it if there is one; the last line may lack it.
@@ -64,15 +63,18 @@ fn has_bytes(word: &[u8]) -> bool
 /// One more than the longest line has, so that a line of too many words shows.
 pub const MOST_WORDS: usize = 8;
 
-/// The words of a line, which blanks part: the first eight of them.
-pub fn words(line: &[u8]) -> Result<ArrayVec<&[u8], MOST_WORDS>, Memory>
-    ensures { IfOk result (λ words. lent words.items ≡ take 8 (words_of line.now)) }
+/// The words of a line, which blanks part: the first eight of them. It takes no memory.
+pub fn words(line: &[u8]) -> ArrayVec<&[u8], MOST_WORDS>
+    ensures { lent result.items ≡ take 8 (words_of line.now) }
 {
     let mut words = ArrayVec::new();
-    words.extend(
-        line.split(|byte| is_blank(*byte))
-            .filter(|word| has_bytes(word))
-            .take(MOST_WORDS),
-    )?;
-    Ok(words)
+    let parts = line
+        .split(|byte| is_blank(*byte))
+        .filter(|word| has_bytes(word))
+        .take(MOST_WORDS);
+    match words.extend(parts) {
+        Ok(()) => words,
+        // There is room for as many as are taken.
+        Err(_) => unreachable!(),
+    }
 }

@@ -19,8 +19,8 @@ pub fn read_metrics(alloc: Global, bytes: &[u8]) -> Result<Metrics, MetricsRefus
 {
     let (first, mut rest) = first_line(bytes);
     let mut number = 1;
-    if let Err(refusal) = take_first(first) {
-        return Err(refusal.at(number));
+    if let Err(fault) = take_first(first) {
+        return Err(LineRefusal::Fault(fault).at(number));
     }
     let mut given = Given::nothing(alloc);
     while !rest.is_empty() {

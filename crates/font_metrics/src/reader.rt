@@ -1,8 +1,8 @@
 ghost use Rattle.std.specs.Prelude.{◌≡◌, ◌≤◌, length};
 ghost use Rattle.font_metrics.specs.Taken.{most_glyphs};
 ghost use Rattle.font_metrics.specs.Lines.{lent};
-ghost use Rattle.font_metrics.specs.Reading.{after, after_words, after_fields, after_first, is_first, is_version, needed};
-ghost use Rattle.font_metrics.specs.Reads.{Takes, Begins};
+ghost use Rattle.font_metrics.specs.Reading.{after, after_words, after_fields, first_in, is_first, is_version, needed};
+ghost use Rattle.font_metrics.specs.Reads.{Takes};
 
 use crate::fault::{LineFault, fault_if};
 use crate::given::{Given, Needed};
@@ -24,7 +24,7 @@ impl Given {
         if is_comment(line) {
             return Ok(());
         }
-        let words = words(line)?;
+        let words = words(line);
         self.take_words(alloc, words.as_slice())
     }
 
@@ -71,14 +71,12 @@ impl Given {
 }
 
 /// Whether the first line is the format's.
-#[tactic(auto, unfolding(crate::specs::Reading::after_first))]
-pub fn take_first(line: &[u8]) -> Result<(), LineRefusal>
-    ensures { Begins (after_first line.now) result }
+pub fn take_first(line: &[u8]) -> Result<(), LineFault>
+    ensures { result ≡ first_in line.now }
 {
     fault_if(is_foreign(line), LineFault::ForeignByte)?;
-    let words = words(line)?;
-    fault_if(!is_version(words.as_slice()), LineFault::WrongFirstLine)?;
-    Ok(())
+    let words = words(line);
+    fault_if(!is_version(words.as_slice()), LineFault::WrongFirstLine)
 }
 
 /// Whether the words are `mathlay-metrics` and `1`.

@@ -1,6 +1,4 @@
 ghost use Rattle.std.specs.Prelude.{◌≡◌, Ok};
-ghost use Rattle.font_metrics.specs.Faults.{fault_if};
-ghost use Rattle.font_metrics.specs.declared.fault.LineFault.TheVariants as fault;
 ghost use Rattle.font_metrics.specs.Reading.{nothing, allowed, put};
 ghost use Rattle.font_metrics.specs.Reads.{Takes};
 ghost use Rattle.font_metrics.specs.Said.{item_of, HasLineText};
@@ -47,23 +45,34 @@ impl Given {
         ensures { result ≡ allowed self.now (item_of said.entry) }
     {
         match said {
-            Said::Upem(_) => repeated_if(self.upem.is_some()),
-            Said::Line(_) => repeated_if(self.line.is_some()),
-            Said::XHeight(_) => repeated_if(self.x_height.is_some()),
-            Said::Overlap(_) => repeated_if(self.overlap.is_some()),
-            Said::Constant((place, _)) => repeated_if(self.constants.value(place).is_some()),
+            Said::Upem(_) => fault_if(self.upem.is_some(), LineFault::Repeated),
+            Said::Line(_) => fault_if(self.line.is_some(), LineFault::Repeated),
+            Said::XHeight(_) => fault_if(self.x_height.is_some(), LineFault::Repeated),
+            Said::Overlap(_) => fault_if(self.overlap.is_some(), LineFault::Repeated),
+            Said::Constant((place, _)) => {
+                fault_if(self.constants.value(place).is_some(), LineFault::Repeated)
+            },
             Said::Glyph((name, _)) => {
-                repeated_if(self.glyphs.place(name).is_some())?;
-                too_many_if(self.glyphs.len() >= MOST_GLYPHS)
+                fault_if(self.glyphs.place(name).is_some(), LineFault::Repeated)?;
+                fault_if(self.glyphs.len() >= MOST_GLYPHS, LineFault::TooMany)
             }
-            Said::Character((letter, _)) => repeated_if(self.characters.place(letter).is_some()),
+            Said::Character((letter, _)) => {
+                fault_if(self.characters.place(letter).is_some(), LineFault::Repeated)
+            },
             Said::Variant(axis, (place, _)) => {
-                too_many_if(self.variants.items(axis, place).len() >= MOST_VARIANTS)
+                let count = self.variants.items(axis, place).len();
+                fault_if(count >= MOST_VARIANTS, LineFault::TooMany)
             }
             Said::Part(axis, (place, _)) => {
-                too_many_if(self.parts.items(axis, place).len() >= MOST_PARTS)
+                let count = self.parts.items(axis, place).len();
+                fault_if(count >= MOST_PARTS, LineFault::TooMany)
             }
-            Said::Operator(line) => repeated_if(self.operators.has(line.text, line.form)),
+            Said::Operator(line) => {
+                fault_if(
+                    self.operators.has(line.text, line.form),
+                    LineFault::Repeated,
+                )
+            },
         }
     }
 
@@ -89,16 +98,4 @@ impl Given {
         }
         Ok(())
     }
-}
-
-fn repeated_if(test: bool) -> Result<(), LineFault>
-    ensures { result ≡ fault_if test fault.Repeated }
-{
-    fault_if(test, LineFault::Repeated)
-}
-
-fn too_many_if(test: bool) -> Result<(), LineFault>
-    ensures { result ≡ fault_if test fault.TooMany }
-{
-    fault_if(test, LineFault::TooMany)
 }

@@ -1,10 +1,11 @@
 use Rattle.std.proofs.Common.{◌≡◌, ◌≢◌, ◌∙◌, ◌+◌, ap, sym, subst, [], Err, rules, arith, true}
 use Rattle.std.specs.Str.Lines.{lines}
+use Rattle.font_metrics.specs.declared.refusal.LineRefusal.TheVariants.{Fault as FaultyLine}
 use Rattle.font_metrics.specs.Reading.{nothing, after, after_first, finished, numbered, metrics_of}
 use Rattle.font_metrics.specs.Reads.{Reads}
 use Rattle.font_metrics.specs.Whole.{IsGiven}
 use Rattle.font_metrics.proofs.Finish.{ends_with, ends_without}
-use Rattle.font_metrics.proofs.Forward.{continued, from_line, from_first, stopped, more, ended, none_left, lacks}
+use Rattle.font_metrics.proofs.Forward.{first_stops, first_goes, continued, from_line, from_first, stopped, more, ended, none_left, lacks}
 use Rattle.font_metrics.proofs.Ranges.{after_keeps, nothing_given}
 use Rattle.font_metrics.proofs.read.read_metrics.Goals as goal
 
@@ -14,8 +15,9 @@ returns-in-Err c =
     record {
       reads =
           subst (λ r. Reads (metrics_of c.args.bytes.now) (Err r)) (sym c.at.ensures)
-          (stopped _ 1 (after_first first) nothing _ c.in-Err.refusal
-          (from_first c.args.bytes.now first (lines c.first_line.result.1.now) c.first_line.ensures.line) c.in-Err.ensures);
+          (stopped _ 1 (after_first first) nothing _ (FaultyLine c.in-Err.fault)
+          (from_first c.args.bytes.now first (lines c.first_line.result.1.now) c.first_line.ensures.line)
+          (first_stops first c.in-Err.fault c.in-Err.ensures));
     }
 
 pub loop-rest-init : goal.loop-rest-init
@@ -25,7 +27,7 @@ loop-rest-init c =
     record {
       says =
           from_first c.args.bytes.now first rest c.first_line.ensures.line
-          ∙ ap (λ s. continued 1 s (λ next. from_line 1 next rest)) c.in_default.ensures
+          ∙ ap (λ s. continued 1 s (λ next. from_line 1 next rest)) (first_goes first c.in_default.field-0 c.in_default.ensures)
           ∙ ap (λ g. from_line 1 g rest) (sym c.nothing-given.ensures);
       given = subst IsGiven (sym c.nothing-given.ensures) nothing_given;
       small = let bound = c.first_line.ensures.bound in omega (arith, bound, c.requires);
