@@ -14,11 +14,12 @@ use Rattle.math_tree.specs.declared.fault.ElementFault.{ElementFault}
 use Rattle.math_tree.specs.declared.fault.TreeFault.{TreeFault}
 use Rattle.math_tree.proofs.Entries.{listed_is}
 use Rattle.math_tree.proofs.FirstFault.{bytes_of, no_first}
+use Rattle.math_tree.specs.declared.portion.Portion.TheVariants.{Whole}
 
 -- an element's fault behind so many elements that hold so many bytes
 abbrev FaultBehind : ℕ → ℕ → List Element → ℕ → Option ElementFault → Type 0
 FaultBehind count bytes list index fault = (element : Element) × (slice_get list index ≡ Some element)
-    × (fault_of (count + (index + 1)) (bytes + bytes_of (take (index + 1) list)) element ≡ fault)
+    × (fault_of Whole (count + (index + 1)) (bytes + bytes_of (take (index + 1) list)) element ≡ fault)
 
 abbrev FirstBehind : ℕ → ℕ → List Element → TreeFault → Type 0
 FirstBehind count bytes list found = (index : ℕ) × (fault : ElementFault)
@@ -27,7 +28,7 @@ FirstBehind count bytes list found = (index : ℕ) × (fault : ElementFault)
     × (found ≡ fault_at (count + (index + 1)) fault)
 
 same_test : (place next bytes held : ℕ) (element : Element) (fault : Option ElementFault) → place ≡ next → bytes ≡ held
-    → fault_of place bytes element ≡ fault → fault_of next held element ≡ fault
+    → fault_of Whole place bytes element ≡ fault → fault_of Whole next held element ≡ fault
 same_test place next bytes held element fault p b e = rw (← p, ← b) e
 
 module _ (count bytes : ℕ) (element : Element) (list : List Element) where
@@ -38,7 +39,7 @@ module _ (count bytes : ℕ) (element : Element) (list : List Element) where
   more n = omega (arith, sum_by-cons (λ (e : Element). bytes_held e.value) element (take n list))
 
   -- the element itself
-  at_first : (fault : Option ElementFault) → fault_of (count + 1) (bytes + held) element ≡ fault
+  at_first : (fault : Option ElementFault) → fault_of Whole (count + 1) (bytes + held) element ≡ fault
       → FaultBehind count bytes (element ∷ list) 0 fault
   at_first fault e =
       let sum : bytes + held ≡ bytes + bytes_of (element ∷ []) = omega (arith, more 0) in
@@ -52,18 +53,18 @@ module _ (count bytes : ℕ) (element : Element) (list : List Element) where
       let sum = more (i + 1) ∙ ap (λ n. bytes + bytes_of (take n (element ∷ list))) step in
       (other, at, same_test (count + 1 + (i + 1)) (count + (suc i + 1)) _ _ other fault (omega arith) sum e)
 
-faultless : (count bytes : ℕ) (list : List Element) → first_fault_after count bytes list ≡ None
+faultless : (count bytes : ℕ) (list : List Element) → first_fault_after Whole count bytes list ≡ None
     → (i : ℕ) → i < length list → FaultBehind count bytes list i None
 faultless count bytes [] e i h = absurd (omega (arith, h))
 faultless count bytes (element ∷ list) e zero h =
-    at_first count bytes element list None (no_first _ (fault_of (count + 1) (bytes + bytes_held element.value) element) _ e).0
+    at_first count bytes element list None (no_first _ (fault_of Whole (count + 1) (bytes + bytes_held element.value) element) _ e).0
 faultless count bytes (element ∷ list) e (suc i) h =
     let held = bytes + bytes_held element.value in
-    let rest = (no_first _ (fault_of (count + 1) held element) _ e).1 in
+    let rest = (no_first _ (fault_of Whole (count + 1) held element) _ e).1 in
     at_next count bytes element list i None (faultless (count + 1) held list rest i (omega (arith, h)))
 
 none_before : (count bytes : ℕ) (element : Element) (list : List Element) (index : ℕ)
-    → fault_of (count + 1) (bytes + bytes_held element.value) element ≡ None
+    → fault_of Whole (count + 1) (bytes + bytes_held element.value) element ≡ None
     → ((i : ℕ) → i < index → FaultBehind (count + 1) (bytes + bytes_held element.value) list i None)
     → (i : ℕ) → i < suc index → FaultBehind count bytes (element ∷ list) i None
 none_before count bytes element list index is earlier zero h = at_first count bytes element list None is
@@ -72,10 +73,10 @@ none_before count bytes element list index is earlier (suc i) h =
 
 -- the element itself has the first fault, or the elements behind it have
 first_or_behind : (count bytes : ℕ) (element : Element) (list : List Element) (found : TreeFault) (own : Option ElementFault)
-    → fault_of (count + 1) (bytes + bytes_held element.value) element ≡ own
-    → (first_fault_after (count + 1) (bytes + bytes_held element.value) list ≡ Some found
+    → fault_of Whole (count + 1) (bytes + bytes_held element.value) element ≡ own
+    → (first_fault_after Whole (count + 1) (bytes + bytes_held element.value) list ≡ Some found
     → FirstBehind (count + 1) (bytes + bytes_held element.value) list found)
-    → option_or (option_map (fault_at (count + 1)) own) (first_fault_after (count + 1) (bytes + bytes_held element.value) list) ≡ Some found
+    → option_or (option_map (fault_at (count + 1)) own) (first_fault_after Whole (count + 1) (bytes + bytes_held element.value) list) ≡ Some found
     → FirstBehind count bytes (element ∷ list) found
 first_or_behind count bytes element list found (Some fault) is rest e = (
   0,
@@ -95,11 +96,11 @@ first_or_behind count bytes element list found None is rest e =
     )
 
 first_behind : (count bytes : ℕ) (list : List Element) (found : TreeFault)
-    → first_fault_after count bytes list ≡ Some found → FirstBehind count bytes list found
+    → first_fault_after Whole count bytes list ≡ Some found → FirstBehind count bytes list found
 first_behind count bytes [] found e = absurd (none-some found e)
 first_behind count bytes (element ∷ list) found e =
     let held = bytes + bytes_held element.value in
-    first_or_behind count bytes element list found (fault_of (count + 1) held element) refl
+    first_or_behind count bytes element list found (fault_of Whole (count + 1) held element) refl
     (first_behind (count + 1) held list found) e
 
 from_start : (list : List Element) (i : ℕ) (fault : Option ElementFault) → FaultBehind 0 0 list i fault → HasFault list i fault
@@ -120,7 +121,7 @@ pub first_fault : FirstFaultLaw
 unfolding tree_of
 first_fault value found e =
     let list = elements 1 value in
-    let first = first_behind 0 0 list found (told (first_fault_after 0 0 list) value found e) in
+    let first = first_behind 0 0 list found (told (first_fault_after Whole 0 0 list) value found e) in
     let place : 0 + (first.0 + 1) ≡ first.0 + 1 = omega arith in
     record {
       index = first.0;
@@ -143,7 +144,7 @@ pub whole_tree : TreeLaw
 unfolding tree_of
 whole_tree value tree e =
     let list = elements 1 value in
-    let parts = whole_without (first_fault_after 0 0 list) value tree e in
+    let parts = whole_without (first_fault_after Whole 0 0 list) value tree e in
     record {
       faultless = λ i h. from_start list i None (faultless 0 0 list parts.0 i h);
       listing = ap (λ (t : TreeValue). listed 1 t.root) parts.1 ∙ listed_is value 1 1;

@@ -15,7 +15,6 @@ mod ReadParts
 mod Entries
 mod Proper
 mod Whole
-mod BuiltForm
 mod Firsts
 mod Printing
 mod Reread

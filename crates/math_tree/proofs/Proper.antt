@@ -22,6 +22,7 @@ use Rattle.math_tree.specs.Trees.{IsProper, IsProperAttribute}
 use Rattle.math_tree.specs.declared.attributes.Attribute.{Attribute}
 use Rattle.math_tree.specs.declared.kind.Kind.{Kind}
 use Rattle.math_tree.proofs.FirstFault.{no_fault}
+use Rattle.math_tree.specs.declared.portion.Portion.{Portion}
 
 pub is_not : (b : Bool) → not b ≡ false → b ≡ true
 is_not true e = refl
@@ -133,11 +134,11 @@ no_child kind (Some (item value items)) e text = absurd (true≢false (sym e ∙
 
 -- ---- the element
 
-pub proper : (place bytes id : ℕ) (element : Element) → fault_of place bytes element ≡ None → IsProper (entry id element)
+pub proper : (portion : Portion) (place bytes id : ℕ) (element : Element) → fault_of portion place bytes element ≡ None → IsProper (entry id element)
 unfolding kind_in has_attributes attributes_held attributes_in is_right_to_left has_text text_held has_children
-proper place bytes id element e =
+proper portion place bytes id element e =
     let value = element.value in
-    let tests = no_fault place bytes element e in
+    let tests = no_fault portion place bytes element e in
     let name = tests.1.1.1.1 in
     let attributes = name.1.1 in
     let text = attributes.1.1 in

@@ -21,10 +21,11 @@ use Rattle.math_tree.specs.declared.refusal.TreeRefusal.{TreeRefusal}
 use Rattle.math_tree.specs.declared.refusal.TreeRefusal.TheVariants.{Fault, Memory}
 use Rattle.math_tree.proofs.FirstFault.{bytes_of, within, all_within, IsWithin, capped_fault, fault_here, fault_later, seen_append}
 use Rattle.math_tree.proofs.Listing.{all_elements, elements_out, node_out, nodes_more}
+use Rattle.math_tree.specs.declared.portion.Portion.{Portion}
 
 -- ---- an element and those below it
 
-module _ (seen : Seen) (level : ℕ) (value : Data) where
+module _ (portion : Portion) (seen : Seen) (level : ℕ) (value : Data) where
   abbrev here : Element
   here = record { level = level; value = value }
 
@@ -37,34 +38,34 @@ module _ (seen : Seen) (level : ℕ) (value : Data) where
 
   -- the test of the element, which counts its bytes up to a bound far above the limit
   pub tested : (held sum : ℕ) (found : Option ElementFault) → held ≡ min (bytes_held value) 18446744073709551615
-      → sum ≡ min (seen.bytes + held) 18446744073709551615 → found ≡ fault_of (seen.elements + 1) sum here
-      → fault_of with_one.elements with_one.bytes here ≡ found
+      → sum ≡ min (seen.bytes + held) 18446744073709551615 → found ≡ fault_of portion (seen.elements + 1) sum here
+      → fault_of portion with_one.elements with_one.bytes here ≡ found
   tested held sum found held_is sum_is found_is =
       let counted : sum ≡ min with_one.bytes 18446744073709551615 = omega (arith, held_is, sum_is) in
-      sym (found_is ∙ ap (λ n. fault_of (seen.elements + 1) n here) counted ∙ capped_fault (seen.elements + 1) with_one.bytes here)
+      sym (found_is ∙ ap (λ n. fault_of portion (seen.elements + 1) n here) counted ∙ capped_fault portion (seen.elements + 1) with_one.bytes here)
 
-  pub limits : fault_of with_one.elements with_one.bytes here ≡ None → IsWithin with_one.elements with_one.bytes here
-  limits none = within with_one.elements with_one.bytes here none
+  pub limits : fault_of portion with_one.elements with_one.bytes here ≡ None → IsWithin with_one.elements with_one.bytes here
+  limits none = within portion with_one.elements with_one.bytes here none
 
   -- where it has no fault, they are counted exactly
   pub counted : (held sum : ℕ) → held ≡ min (bytes_held value) 18446744073709551615
       → sum ≡ min (seen.bytes + held) 18446744073709551615
-      → fault_of with_one.elements with_one.bytes here ≡ None → sum ≡ with_one.bytes
+      → fault_of portion with_one.elements with_one.bytes here ≡ None → sum ≡ with_one.bytes
   counted held sum held_is sum_is none =
-      let small = (within with_one.elements with_one.bytes here none).bytes in
+      let small = (within portion with_one.elements with_one.bytes here none).bytes in
       omega (arith, held_is, sum_is, small)
 
-  pub own_fault : (fault : ElementFault) → fault_of with_one.elements with_one.bytes here ≡ Some fault
-      → fault_behind seen (elements level value) ≡ Some (fault_at (seen.elements + 1) fault)
+  pub own_fault : (fault : ElementFault) → fault_of portion with_one.elements with_one.bytes here ≡ Some fault
+      → fault_behind portion seen (elements level value) ≡ Some (fault_at (seen.elements + 1) fault)
   own_fault fault e =
-      ap (fault_behind seen) (elements_out level value)
-      ∙ ap (λ own. option_or (option_map (fault_at (seen.elements + 1)) own) (fault_behind with_one lower)) e
+      ap (fault_behind portion seen) (elements_out level value)
+      ∙ ap (λ own. option_or (option_map (fault_at (seen.elements + 1)) own) (fault_behind portion with_one lower)) e
 
-  pub lower_fault : (fault : Option TreeFault) → fault_of with_one.elements with_one.bytes here ≡ None
-      → fault_behind with_one lower ≡ fault → fault_behind seen (elements level value) ≡ fault
+  pub lower_fault : (fault : Option TreeFault) → fault_of portion with_one.elements with_one.bytes here ≡ None
+      → fault_behind portion with_one lower ≡ fault → fault_behind portion seen (elements level value) ≡ fault
   lower_fault fault none e =
-      ap (fault_behind seen) (elements_out level value)
-      ∙ ap (λ own. option_or (option_map (fault_at (seen.elements + 1)) own) (fault_behind with_one lower)) none ∙ e
+      ap (fault_behind portion seen) (elements_out level value)
+      ∙ ap (λ own. option_or (option_map (fault_at (seen.elements + 1)) own) (fault_behind portion with_one lower)) none ∙ e
 
   pub all_seen : seen_with with_one lower ≡ seen_with seen (elements level value)
   all_seen =
@@ -79,16 +80,16 @@ module _ (seen : Seen) (level : ℕ) (value : Data) where
 
   -- want of memory, or a fault, among those below it
   pub lower_refused : (kids : List Data) (sum : ℕ) (after now : Seen) (refusal : TreeRefusal)
-      → kids ≡ below value → sum ≡ with_one.bytes → fault_of with_one.elements with_one.bytes here ≡ None
-      → ReadsPart (all_elements (level + 1) kids) (λ id. nodes_of id kids) (record { elements = seen.elements + 1; bytes = sum }) after (Err refusal)
-      → ReadsPart (elements level value) (λ id. node_of id value) seen now (Err refusal)
+      → kids ≡ below value → sum ≡ with_one.bytes → fault_of portion with_one.elements with_one.bytes here ≡ None
+      → ReadsPart portion (all_elements (level + 1) kids) (λ id. nodes_of id kids) (record { elements = seen.elements + 1; bytes = sum }) after (Err refusal)
+      → ReadsPart portion (elements level value) (λ id. node_of id value) seen now (Err refusal)
   lower_refused kids sum after now (Fault fault) kids_are sum_is none e =
       lower_fault (Some fault) none (rw (← kids_are, ← sum_is) e)
   lower_refused kids sum after now Memory kids_are sum_is none e = tt
 
-  pub whole_part : (after : Seen) (nodes : List Node) → fault_of with_one.elements with_one.bytes here ≡ None
-      → ReadsPart lower (λ id. nodes_of id (below value)) with_one after (Ok nodes)
-      → ReadsPart (elements level value) (λ id. node_of id value) seen after (Ok (node (head_of (seen.elements + 1) value) nodes))
+  pub whole_part : (after : Seen) (nodes : List Node) → fault_of portion with_one.elements with_one.bytes here ≡ None
+      → ReadsPart portion lower (λ id. nodes_of id (below value)) with_one after (Ok nodes)
+      → ReadsPart portion (elements level value) (λ id. node_of id value) seen after (Ok (node (head_of (seen.elements + 1) value) nodes))
   whole_part after nodes none read = (
     lower_fault None none read.0,
     ap (node (head_of (seen.elements + 1) value)) read.1 ∙ sym (node_out (seen.elements + 1) value),
@@ -103,12 +104,12 @@ as_refused (Err found) refusal h e = ap Err e
 
 -- ---- elements side by side
 
-pub side_limits : (seen : Seen) (level : ℕ) (values : List Data) (now : Seen) (nodes : List Node)
-    → ReadsPart (all_elements level values) (λ id. nodes_of id values) seen now (Ok nodes)
+pub side_limits : (portion : Portion) (seen : Seen) (level : ℕ) (values : List Data) (now : Seen) (nodes : List Node)
+    → ReadsPart portion (all_elements level values) (λ id. nodes_of id values) seen now (Ok nodes)
     → seen.elements ≤ most_elements → seen.bytes ≤ most_bytes
     → (now.elements ≤ most_elements) × (now.bytes ≤ most_bytes)
-side_limits seen level values now nodes read few small =
-    rw (read.2) (all_within seen.elements seen.bytes (all_elements level values) read.0 few small)
+side_limits portion seen level values now nodes read few small =
+    rw (read.2) (all_within portion seen.elements seen.bytes (all_elements level values) read.0 few small)
 
 pub taken : (values : List Value) (at : ℕ) (value : Value) → at < length values → value ≡ get_or values at value
     → map view (take (at + 1) values) ≡ map view (take at values) ++ view value ∷ []
@@ -132,20 +133,20 @@ all_append level (value ∷ front) back =
 one_element : (level : ℕ) (value : Data) → all_elements level (value ∷ []) ≡ elements level value
 one_element level value = append-nil (elements level value)
 
-module _ (seen : Seen) (level : ℕ) (front : List Data) (value : Data) (back : List Data) (now : Seen) where
+module _ (portion : Portion) (seen : Seen) (level : ℕ) (front : List Data) (value : Data) (back : List Data) (now : Seen) where
   -- one more is read
   pub one_more : (after : Seen) (nodes : List Node) (read : Node)
-      → ReadsPart (all_elements level front) (λ id. nodes_of id front) seen now (Ok nodes)
-      → ReadsPart (elements level value) (λ id. node_of id value) now after (Ok read)
-      → ReadsPart (all_elements level (front ++ value ∷ [])) (λ id. nodes_of id (front ++ value ∷ [])) seen after (Ok (nodes ++ read ∷ []))
+      → ReadsPart portion (all_elements level front) (λ id. nodes_of id front) seen now (Ok nodes)
+      → ReadsPart portion (elements level value) (λ id. node_of id value) now after (Ok read)
+      → ReadsPart portion (all_elements level (front ++ value ∷ [])) (λ id. nodes_of id (front ++ value ∷ [])) seen after (Ok (nodes ++ read ∷ []))
   one_more after nodes read done more =
       let first = all_elements level front in
       let list = all_append level front (value ∷ []) ∙ ap (λ last. first ++ last) (one_element level value) in
       let count = ap (λ (s : Seen). s.elements) done.2 in
       let id : now.elements + 1 ≡ seen.elements + 1 + length first = omega (arith, count) in
       let last : read ≡ node_of (seen.elements + 1 + length first) value = more.1 ∙ ap (λ n. node_of n value) id in (
-        ap (fault_behind seen) list
-            ∙ fault_later seen first (elements level value) None done.0 (subst (λ s. fault_behind s (elements level value) ≡ None) done.2 more.0),
+        ap (fault_behind portion seen) list
+            ∙ fault_later portion seen first (elements level value) None done.0 (subst (λ s. fault_behind portion s (elements level value) ≡ None) done.2 more.0),
         rw (done.1, last) (sym (nodes_more level (seen.elements + 1) front value)),
         more.2 ∙ ap (λ s. seen_with s (elements level value)) done.2 ∙ seen_append seen first (elements level value) ∙ ap (seen_with seen) (sym list),
       )
@@ -153,15 +154,15 @@ module _ (seen : Seen) (level : ℕ) (front : List Data) (value : Data) (back : 
   -- one is refused, and so all are
   pub one_refused : (all : List Data) (after last : Seen) (nodes : List Node) (refusal : TreeRefusal)
       → all ≡ front ++ value ∷ back
-      → ReadsPart (all_elements level front) (λ id. nodes_of id front) seen now (Ok nodes)
-      → ReadsPart (elements level value) (λ id. node_of id value) now after (Err refusal)
-      → ReadsPart (all_elements level all) (λ id. nodes_of id all) seen last (Err refusal)
+      → ReadsPart portion (all_elements level front) (λ id. nodes_of id front) seen now (Ok nodes)
+      → ReadsPart portion (elements level value) (λ id. node_of id value) now after (Err refusal)
+      → ReadsPart portion (all_elements level all) (λ id. nodes_of id all) seen last (Err refusal)
   one_refused all after last nodes (Fault fault) split done e =
       let first = all_elements level front in
       let back_list = all_elements level back in
-      let next = fault_here (seen_with seen first) (elements level value) back_list fault
-      (subst (λ s. fault_behind s (elements level value) ≡ Some fault) done.2 e) in
-      ap (λ values. fault_behind seen (all_elements level values)) split
-      ∙ ap (fault_behind seen) (all_append level front (value ∷ back))
-      ∙ fault_later seen first (elements level value ++ back_list) (Some fault) done.0 next
+      let next = fault_here portion (seen_with seen first) (elements level value) back_list fault
+      (subst (λ s. fault_behind portion s (elements level value) ≡ Some fault) done.2 e) in
+      ap (λ values. fault_behind portion seen (all_elements level values)) split
+      ∙ ap (fault_behind portion seen) (all_append level front (value ∷ back))
+      ∙ fault_later portion seen first (elements level value ++ back_list) (Some fault) done.0 next
   one_refused all after last nodes Memory split done e = tt

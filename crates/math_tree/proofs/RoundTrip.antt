@@ -29,6 +29,7 @@ use Rattle.math_tree.specs.declared.node.Node.TheViews.{out-Node}
 use Rattle.math_tree.proofs.Nodes.{by_children, all_parts, listed_element}
 use Rattle.math_tree.proofs.Printing.{value_of_element}
 use Rattle.math_tree.proofs.Reread.{element_of, keyed, name_again, kind_again, attributes_are, text_again, has_attributes_again, left_again, has_text_again, has_children_again}
+use Rattle.math_tree.specs.declared.portion.Portion.TheVariants.{Whole}
 
 -- ---- the elements of a printed value
 
@@ -98,8 +99,8 @@ module _ (head : Head) (values : List Data) (level children : ℕ) (counted : le
       λ i. record { id = record { 0 = id }; name = name i; kind = kind i; attributes = attributes i; text = text i }
 
   -- and has no fault
-  pub no_fault : (place bytes : ℕ) → level ≤ most_levels → place ≤ most_elements → bytes ≤ most_bytes → is_misplaced place head.name ≡ false
-      → fault_of place bytes (record { level = level; value = element_of head.attributes values head.name head.text }) ≡ None
+  pub no_fault : (place bytes : ℕ) → level ≤ most_levels → place ≤ most_elements → bytes ≤ most_bytes → is_misplaced Whole place head.name ≡ false
+      → fault_of Whole place bytes (record { level = level; value = element_of head.attributes values head.name head.text }) ≡ None
   unfolding fault_of
   no_fault place bytes shallow few small placed =
       let xs = head.attributes in
@@ -109,7 +110,7 @@ module _ (head : Head) (values : List Data) (level children : ℕ) (counted : le
       let long : nat_lt most_bytes bytes ≡ false = le-ltb most_bytes bytes small in
       let known = (keyed xs values head.name head.text).known in
       let named : is_name (name_in (element_of xs values head.name head.text)) ≡ true = ap is_name name ∙ proper.name in
-      let right_place : is_misplaced place (name_in (element_of xs values head.name head.text)) ≡ false = ap (is_misplaced place) name ∙ placed in
+      let right_place : is_misplaced Whole place (name_in (element_of xs values head.name head.text)) ≡ false = ap (is_misplaced Whole place) name ∙ placed in
       let attributes = has_attributes_again xs values head.name head.text (recursion_from_All IsProperAttribute xs proper.attributes) in
       let left = left_again xs values head.name head.text proper.left_to_right in
       let text = has_text_again xs values head.name head.text proper.text textless in
@@ -169,12 +170,12 @@ room_rest count bytes xs ys r =
 -- where these have room, the first fault is one behind them
 abbrev Passes : List Element → List Listed → Type 0
 Passes es ls = (count bytes : ℕ) (rest : List Element) → 1 ≤ count → Room count bytes ls
-    → first_fault_after count bytes (es ++ rest) ≡ first_fault_after (count + length ls) (bytes + sum_by held ls) rest
+    → first_fault_after Whole count bytes (es ++ rest) ≡ first_fault_after Whole (count + length ls) (bytes + sum_by held ls) rest
 
 abbrev PassesNode : Node → Type 0
 PassesNode n = (level : ℕ) → Passes (elements level (value_of n)) (listed level n)
 
-misplaced_later : (place : ℕ) (name : List ℕ) → 2 ≤ place → is_misplaced place name ≡ false
+misplaced_later : (place : ℕ) (name : List ℕ) → 2 ≤ place → is_misplaced Whole place name ≡ false
 misplaced_later place name h =
     let other : nat_eq place 1 ≡ false = grind (arith, nat_tests) in
     ap (λ b. b && not (bytes_eq name (codes "math"))) other
@@ -184,7 +185,7 @@ passes_all : (nodes : List Node) (level : ℕ) → AllByRecursion PassesNode nod
 passes_all [] level h count bytes rest later room =
     let same : count ≡ count + 0 = omega arith in
     let held_same : bytes ≡ bytes + 0 = omega arith in
-    λ i. first_fault_after (same i) (held_same i) rest
+    λ i. first_fault_after Whole (same i) (held_same i) rest
 passes_all (n ∷ nodes) level h count bytes rest later room =
     let es = elements level (value_of n) in
     let more = flat_map (elements level) (map value_of nodes) in
@@ -197,16 +198,16 @@ passes_all (n ∷ nodes) level h count bytes rest later room =
     let parts = ap length parted ∙ length-append ls others in omega (arith, parts) in
     let sum : (bytes + sum_by held ls) + sum_by held others ≡ bytes + sum_by held (flat_map (listed level) (n ∷ nodes)) =
     let parts = ap (sum_by held) parted ∙ sum_by-append held ls others in omega (arith, parts) in
-    ap (λ l. first_fault_after count bytes (l ++ rest)) (flat_map-cons (elements level) (value_of n) (map value_of nodes))
-    ∙ ap (first_fault_after count bytes) (append_assoc es more rest)
+    ap (λ l. first_fault_after Whole count bytes (l ++ rest)) (flat_map-cons (elements level) (value_of n) (map value_of nodes))
+    ∙ ap (first_fault_after Whole count bytes) (append_assoc es more rest)
     ∙ h.0 level count bytes (more ++ rest) later (room_first count bytes ls others whole)
     ∙ passes_all nodes level h.1 (count + length ls) (bytes + sum_by held ls) rest further (room_rest count bytes ls others whole)
-    ∙ (λ i. first_fault_after (size i) (sum i) rest)
+    ∙ (λ i. first_fault_after Whole (size i) (sum i) rest)
 
 passes_here : (n : Node) → AllByRecursion PassesNode (out-Node n).children → (level count bytes : ℕ) (rest : List Element)
-    → is_misplaced (count + 1) (out-Node n).head.name ≡ false → Room count bytes (listed level n)
-    → first_fault_after count bytes (elements level (value_of n) ++ rest)
-    ≡ first_fault_after (count + length (listed level n)) (bytes + sum_by held (listed level n)) rest
+    → is_misplaced Whole (count + 1) (out-Node n).head.name ≡ false → Room count bytes (listed level n)
+    → first_fault_after Whole count bytes (elements level (value_of n) ++ rest)
+    ≡ first_fault_after Whole (count + length (listed level n)) (bytes + sum_by held (listed level n)) rest
 passes_here n h level count bytes rest placed room =
     let head = (out-Node n).head in
     let kids = (out-Node n).children in
@@ -224,8 +225,8 @@ passes_here n h level count bytes rest placed room =
     let sum_parts = sum_by-cons held (shown level n) below in
     let place_in : count + 1 ≤ most_elements = omega (arith, few) in
     let bytes_in : bytes + bytes_held (value_of n) ≤ most_bytes = omega (arith, small, sum_parts, own) in
-    let none : fault_of (count + 1) (bytes + bytes_held (value_of n)) (record { level = level; value = value_of n }) ≡ None =
-    subst (λ v. fault_of (count + 1) (bytes + bytes_held (value_of n)) (record { level = level; value = v }) ≡ None) (sym is)
+    let none : fault_of Whole (count + 1) (bytes + bytes_held (value_of n)) (record { level = level; value = value_of n }) ≡ None =
+    subst (λ v. fault_of Whole (count + 1) (bytes + bytes_held (value_of n)) (record { level = level; value = v }) ≡ None) (sym is)
     (no_fault head values level (length kids) counted proper (count + 1) (bytes + bytes_held (value_of n)) whole.shallow.0 place_in bytes_in placed) in
     let room_below : Room (count + 1) (bytes + bytes_of_head head) below = record {
       proper = whole.proper.1;
@@ -237,11 +238,11 @@ passes_here n h level count bytes rest placed room =
     let size : (count + 1) + length below ≡ count + length (listed level n) = let parts = ap length parted in omega (arith, parts) in
     let sum : (bytes + bytes_of_head head) + sum_by held below ≡ bytes + sum_by held (listed level n) =
     let parts = ap (sum_by held) parted ∙ sum_parts in omega (arith, parts) in
-    ap (λ l. first_fault_after count bytes (l ++ rest)) (elements_of level n)
-    ∙ ap (λ o. option_or (option_map (fault_at (count + 1)) o) (first_fault_after (count + 1) (bytes + bytes_held (value_of n)) (more ++ rest))) none
-    ∙ ap (λ b. first_fault_after (count + 1) (bytes + b) (more ++ rest)) own
+    ap (λ l. first_fault_after Whole count bytes (l ++ rest)) (elements_of level n)
+    ∙ ap (λ o. option_or (option_map (fault_at (count + 1)) o) (first_fault_after Whole (count + 1) (bytes + bytes_held (value_of n)) (more ++ rest))) none
+    ∙ ap (λ b. first_fault_after Whole (count + 1) (bytes + b) (more ++ rest)) own
     ∙ passes_all kids (level + 1) h (count + 1) (bytes + bytes_of_head head) rest later room_below
-    ∙ (λ i. first_fault_after (size i) (sum i) rest)
+    ∙ (λ i. first_fault_after Whole (size i) (sum i) rest)
 
 passes : (n : Node) → PassesNode n
 passes = by_children PassesNode (λ n h level count bytes rest later room.
@@ -315,9 +316,9 @@ print_reads_back tree whole =
       few = omega (arith, few);
       small = omega (arith, small);
     } in
-    let placed : is_misplaced 1 (out-Node root).head.name ≡ false = ap (is_misplaced 1) whole.name in
-    let none : first_fault_after 0 0 (elements 1 value) ≡ None =
-    ap (first_fault_after 0 0) (sym (append-nil (elements 1 value)))
+    let placed : is_misplaced Whole 1 (out-Node root).head.name ≡ false = ap (is_misplaced Whole 1) whole.name in
+    let none : first_fault_after Whole 0 0 (elements 1 value) ≡ None =
+    ap (first_fault_after Whole 0 0) (sym (append-nil (elements 1 value)))
     ∙ passes_here root (all_of PassesNode passes (out-Node root).children) 1 0 0 [] placed room in
     ap (λ o. tree_without o value) none
     ∙ (λ i. Ok (record { root = (planted_again root 1 proper i).node 1; next_id = 1 + size_again root 1 i }))

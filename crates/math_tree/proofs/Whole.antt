@@ -1,21 +1,25 @@
--- The tree of a value without a fault is whole.
-use Rattle.std.proofs.Common.{◌≡◌, ◌∙◌, sym, ap, refl, ℕ, ◌+◌, ◌≤◌, ◌<◌, List, [], ◌∷◌, length, All, false, nat_eq, None, Ok, Err, codes, arith}
+-- The tree of a value without a fault is whole, and an element without one may stand in a tree.
+use Rattle.std.proofs.Common.{◌≡◌, ◌∙◌, sym, ap, refl, ℕ, ◌+◌, ◌≤◌, ◌<◌, List, [], ◌∷◌, length, All, false, nat_eq, None, Result, Ok, Err, codes, subst, arith}
 use Rattle.std.proofs.lemmas.Bool.{false_from_ne_true}
 use Rattle.std.proofs.lemmas.List.Elements.{All-nil, All-cons}
 use Rattle.std.proofs.lemmas.List.Sums.{sum_by-cons}
 use Rattle.std.proofs.lemmas.Slice.Eq.{bytes_eq-Decides}
 use Rattle.std.proofs.lemmas.Bool.Decides.{Decides-eqb}
 use Rattle.std.specs.List.{sum_by, AllByRecursion, IsDistinct}
+use Rattle.std.specs.Result.{IfOk}
 use Rattle.std.specs.Str.{bytes_eq}
 use Rattle.serde_json.specs.Data.{Data}
 use Rattle.math_tree.specs.Elements.{Element, elements, name_in, bytes_held}
 use Rattle.math_tree.specs.Faults.{fault_of, first_fault_after}
 use Rattle.math_tree.specs.Forms.{most_levels}
-use Rattle.math_tree.specs.Reading.{Reads, node_of, tree_without, tree_of}
+use Rattle.math_tree.specs.Reading.{Reads, node_of, part_of, part_without, tree_without, tree_of}
 use Rattle.math_tree.specs.Parts.{ReadsPart}
 use Rattle.math_tree.specs.Laws.{entry, entries}
-use Rattle.math_tree.specs.Trees.{TreeValue, Listed, ids_of, bytes_of_head, IsProper, IsWhole, IsTotalled}
+use Rattle.math_tree.specs.Trees.{TreeValue, Listed, ids_of, bytes_of_head, IsPart, IsProper, IsWhole, IsTotalled}
+use Rattle.math_tree.specs.declared.node.Node.{Node}
 use Rattle.math_tree.specs.declared.node.Node.TheViews.{out-roll-Node}
+use Rattle.math_tree.specs.declared.portion.Portion.{Portion}
+use Rattle.math_tree.specs.declared.portion.Portion.TheVariants.{Part, Whole}
 use Rattle.math_tree.specs.declared.read.Seen.{Seen}
 use Rattle.math_tree.specs.declared.refusal.TreeRefusal.{TreeRefusal}
 use Rattle.math_tree.specs.declared.refusal.TreeRefusal.TheVariants.{Fault, Memory}
@@ -26,14 +30,14 @@ use Rattle.math_tree.proofs.Proper.{is_not, proper}
 
 -- ---- the elements of a list without a fault
 
-module _ (P : Listed → Type 0)
-    (each : (place bytes : ℕ) (element : Element) → fault_of place bytes element ≡ None → P (entry place element)) where
-  all_entries : (count bytes : ℕ) (list : List Element) → first_fault_after count bytes list ≡ None
+module _ (portion : Portion) (P : Listed → Type 0)
+    (each : (place bytes : ℕ) (element : Element) → fault_of portion place bytes element ≡ None → P (entry place element)) where
+  all_entries : (count bytes : ℕ) (list : List Element) → first_fault_after portion count bytes list ≡ None
       → All P (entries (count + 1) list)
   all_entries count bytes [] e = All-nil P
   all_entries count bytes (element ∷ list) e =
       let held = bytes + bytes_held element.value in
-      let parts = no_first _ (fault_of (count + 1) held element) _ e in
+      let parts = no_first _ (fault_of portion (count + 1) held element) _ e in
       All-cons P (entry (count + 1) element) (entries (count + 1 + 1) list)
       (each (count + 1) held element parts.0) (all_entries (count + 1) held list parts.1)
 
@@ -72,35 +76,50 @@ bytes_are id (element ∷ list) =
     let held = sum_by-cons (λ (e : Element). bytes_held e.value) element list in
     omega (arith, made, held, bytes_are (id + 1) list)
 
--- ---- the whole
+-- ---- what is read
 
-root_name : (bytes : ℕ) (value : Data) → fault_of 1 bytes (record { level = 1; value = value }) ≡ None
-    → name_in value ≡ codes "math"
-root_name bytes value e =
-    let tests = no_fault 1 bytes (record { level = 1; value = value }) e in
-    (bytes_eq-Decides (name_in value) (codes "math")).0 (is_not (bytes_eq (name_in value) (codes "math")) tests.1.1.1.1.1.0)
-
-pub whole : (value : Data) (next_id : ℕ) → first_fault_after 0 0 (elements 1 value) ≡ None
-    → next_id ≡ 1 + length (elements 1 value) → IsWhole (record { root = node_of 1 value; next_id = next_id })
-whole value next_id e next =
+pub sound : (portion : Portion) (value : Data) → first_fault_after portion 0 0 (elements 1 value) ≡ None → IsPart (node_of 1 value)
+sound portion value e =
     let list = elements 1 value in
     let same = listed_is value 1 1 in
-    let limits = all_within 0 0 list e (omega arith) (omega arith) in
-    let first = no_first _ _ _ (ap (first_fault_after 0 0) (sym (elements_out 1 value)) ∙ e) in
+    let limits = all_within portion 0 0 list e (omega arith) (omega arith) in
     record {
-      name = rw (node_out 1 value, out-roll-Node) (root_name (0 + bytes_held value) value first.0);
-      first = rw (node_out 1 value, out-roll-Node) refl;
-      proper = rw same (all_entries IsProper (λ place bytes element none. proper place bytes place element none) 0 0 list e);
-      shallow = rw same (all_entries (λ l. l.level ≤ most_levels) (λ place bytes element none. (within place bytes element none).level) 0 0 list e);
-      distinct = rw same (ids_distinct 1 list);
-      given = rw same (ids_below 1 next_id list (omega (arith, next)));
-      next = omega (arith, next, limits.0);
+      proper = rw same (all_entries portion IsProper (λ place bytes element none. proper portion place bytes place element none) 0 0 list e);
+      shallow = rw same (all_entries portion (λ l. l.level ≤ most_levels) (λ place bytes element none. (within portion place bytes element none).level) 0 0 list e);
       few = rw (same, count_is 1 list) (omega (arith, limits.0));
       small = rw (same, bytes_are 1 list) (omega (arith, limits.1));
     }
 
+-- ---- a whole tree
+
+root_name : (bytes : ℕ) (value : Data) → fault_of Whole 1 bytes (record { level = 1; value = value }) ≡ None
+    → name_in value ≡ codes "math"
+root_name bytes value e =
+    let tests = no_fault Whole 1 bytes (record { level = 1; value = value }) e in
+    (bytes_eq-Decides (name_in value) (codes "math")).0 (is_not (bytes_eq (name_in value) (codes "math")) tests.1.1.1.1.1.0)
+
+whole : (value : Data) (next_id : ℕ) → first_fault_after Whole 0 0 (elements 1 value) ≡ None
+    → next_id ≡ 1 + length (elements 1 value) → IsWhole (record { root = node_of 1 value; next_id = next_id })
+whole value next_id e next =
+    let list = elements 1 value in
+    let same = listed_is value 1 1 in
+    let limits = all_within Whole 0 0 list e (omega arith) (omega arith) in
+    let first = no_first _ _ _ (ap (first_fault_after Whole 0 0) (sym (elements_out 1 value)) ∙ e) in
+    let part = sound Whole value e in
+    record {
+      name = rw (node_out 1 value, out-roll-Node) (root_name (0 + bytes_held value) value first.0);
+      first = rw (node_out 1 value, out-roll-Node) refl;
+      proper = part.proper;
+      shallow = part.shallow;
+      distinct = rw same (ids_distinct 1 list);
+      given = rw same (ids_below 1 next_id list (omega (arith, next)));
+      next = omega (arith, next, limits.0);
+      few = part.few;
+      small = part.small;
+    }
+
 -- what was seen of the elements are its totals
-pub totalled : (value : Data) (next_id count held : ℕ) → first_fault_after 0 0 (elements 1 value) ≡ None
+pub totalled : (value : Data) (next_id count held : ℕ) → first_fault_after Whole 0 0 (elements 1 value) ≡ None
     → next_id ≡ 1 + length (elements 1 value) → count ≡ length (elements 1 value)
     → held ≡ bytes_of (elements 1 value)
     → IsTotalled (record { root = node_of 1 value; next_id = next_id }) count held
@@ -113,17 +132,27 @@ totalled value next_id count held e next counts holds =
       bytes_are = holds ∙ sym (ap (sum_by (λ (e : Listed). bytes_of_head e.head)) same ∙ bytes_are 1 list);
     }
 
--- ---- what is read of a whole value
-
-pub tree_is : (value : Data) (next_id : ℕ) → first_fault_after 0 0 (elements 1 value) ≡ None
+pub tree_is : (value : Data) (next_id : ℕ) → first_fault_after Whole 0 0 (elements 1 value) ≡ None
     → next_id ≡ 1 + length (elements 1 value) → tree_of value ≡ Ok record { root = node_of 1 value; next_id = next_id }
 unfolding tree_of
 tree_is value next_id e next =
     ap (λ fault. tree_without fault value) e ∙ ap (λ n. Ok (record { root = node_of 1 value; next_id = n })) (sym next)
 
 pub refused : (value : Data) (after : Seen) (refusal : TreeRefusal)
-    → ReadsPart (elements 1 value) (λ id. node_of id value) (record { elements = 0; bytes = 0 }) after (Err refusal)
+    → ReadsPart Whole (elements 1 value) (λ id. node_of id value) (record { elements = 0; bytes = 0 }) after (Err refusal)
     → Reads {A = TreeValue} (tree_of value) (Err refusal)
 unfolding tree_of
 refused value after (Fault fault) e = ap (λ found. tree_without found value) e
 refused value after Memory e = tt
+
+-- ---- an element that is to stand in a tree
+
+pub part_read : (value : Data) (after : Seen) (read : Result Node TreeRefusal)
+    → ReadsPart Part (elements 1 value) (λ id. node_of id value) (record { elements = 0; bytes = 0 }) after read
+    → Reads {A = Node} (part_of value) read × IfOk read IsPart
+unfolding part_of
+part_read value after (Ok node) e =
+    let meant : node ≡ node_of 1 value = e.1 in
+    (ap (λ fault. part_without fault value) e.0 ∙ ap Ok (sym meant), subst IsPart (sym meant) (sound Part value e.0))
+part_read value after (Err (Fault fault)) e = (ap (λ found. part_without found value) e, tt)
+part_read value after (Err Memory) e = (tt, tt)

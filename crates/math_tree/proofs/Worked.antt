@@ -1,5 +1,5 @@
 -- Trees and faults, each from its JSON text on.
-use Rattle.std.proofs.Common.{◌≡◌, refl, ℕ, zero, suc, List, [], ◌∷◌, Option, Some, codes}
+use Rattle.std.proofs.Common.{◌≡◌, ◌∙◌, refl, ap, map, ℕ, zero, suc, List, [], ◌∷◌, Option, Some, codes}
 use Rattle.std.specs.Prelude.{Result, Ok, Err}
 use Rattle.std.specs.Option.{option_map}
 use Rattle.std.specs.Result.{result_map_both}
@@ -7,6 +7,7 @@ use Rattle.serde_json.specs.Data.{Data, string, array, object, no_items, item, n
 use Rattle.serde_json.specs.Read.{read}
 use Rattle.math_tree.proofs.OnLiterals.{math_tree_on_literals}
 use Rattle.math_tree.specs.Faults.{fault_at}
+use Rattle.math_tree.specs.Print.{layer_value, object_of, value_of}
 use Rattle.math_tree.specs.Reading.{tree_of}
 use Rattle.math_tree.specs.Trees.{TreeValue, node}
 use Rattle.math_tree.specs.declared.attributes.Attribute.{Attribute}
@@ -15,7 +16,9 @@ use Rattle.math_tree.specs.declared.fault.ElementFault.TheVariants.{NotAnObject,
 use Rattle.math_tree.specs.declared.fault.TreeFault.{TreeFault}
 use Rattle.math_tree.specs.declared.kind.Kind.{Kind}
 use Rattle.math_tree.specs.declared.kind.Kind.TheVariants.{Math, Mi, Mrow, Unknown}
+use Rattle.math_tree.specs.declared.node.Head.{Head}
 use Rattle.math_tree.specs.declared.node.Node.{Node}
+use Rattle.math_tree.specs.declared.node.Node.TheFolds.{fold-roll-Node}
 
 -- the tree of a JSON text, or its fault
 abbrev tree_of_text : List ℕ → Option (Result TreeValue TreeFault)
@@ -113,3 +116,23 @@ sixty_levels = refl
 sixty_one_levels : tree_of (nested 60) ≡ Err (fault_at 61 TooDeep)
 unfolding math_tree_on_literals
 sixty_one_levels = refl
+
+-- ---- the value that is printed
+
+abbrev mi_head : Head
+mi_head = record { id = record { 0 = 2 }; name = codes "mi"; kind = Mi; attributes = []; text = codes "x" }
+
+abbrev math_head : Head
+math_head = record { id = record { 0 = 1 }; name = codes "math"; kind = Math; attributes = attribute (codes "dir") (codes "ltr") ∷ []; text = [] }
+
+-- an element's value, from those of its children
+value_out : (head : Head) (children : List Node) → value_of (node head children) ≡ object_of head (map value_of children)
+unfolding value_of
+value_out head children = fold-roll-Node Data layer_value (record { head = head; children = children })
+
+-- keys in their order, and only those that tell
+two_valued : value_of (node math_head (node mi_head [] ∷ []))
+    ≡ object (member (codes "attributes") (object (member (codes "dir") (string (codes "ltr")) no_members))
+    (member (codes "children") (array (item (object (member (codes "name") (string (codes "mi")) (member (codes "text") (string (codes "x")) no_members))) no_items))
+    (member (codes "name") (string (codes "math")) no_members)))
+two_valued = value_out math_head (node mi_head [] ∷ []) ∙ ap (λ value. object_of math_head (value ∷ [])) (value_out mi_head [])

@@ -1,5 +1,5 @@
 -- The trees that are laid out so far: a `math` over at most one `mn` of one character.
-use Rattle.std.specs.Prelude.{◌≡◌, ℕ, ◌≤◌, List, [], ◌∷◌, length, All, Bool, true, false, ◌&&◌, nat_le}
+use Rattle.std.specs.Prelude.{ℕ, List, [], ◌∷◌, Bool, true, false, ◌&&◌, nat_le}
 use Rattle.math_tree.specs.declared.kind.Kind.{Kind}
 use Rattle.math_tree.specs.declared.kind.Kind.TheVariants.{Math, Mn}
 use Rattle.math_tree.specs.declared.node.Node.{Node}
@@ -39,23 +39,3 @@ unfoldable pub is_built : Node → Bool
 is_built node = let element = out-Node node in
     is_math element.head.kind && is_empty element.head.attributes
     && is_empty element.head.text && are_built element.children
-
--- ---- the same, said as facts
-
-abbrev pub IsShortText : List ℕ → Type 0
-IsShortText [] = Unit {0}
-IsShortText (letter ∷ []) = (0x21 ≤ letter) × (letter ≤ 0x7E)
-IsShortText (letter ∷ next ∷ more) = ⊥
-
-pub record IsBuiltNumber (node : Node) : Type 0 where
-  pub kind : (out-Node node).head.kind ≡ Mn
-  pub plain : (out-Node node).head.attributes ≡ []
-  pub text : IsShortText (out-Node node).head.text
-  pub childless : (out-Node node).children ≡ []
-
-pub record IsBuilt (node : Node) : Type 0 where
-  pub kind : (out-Node node).head.kind ≡ Math
-  pub plain : (out-Node node).head.attributes ≡ []
-  pub text : (out-Node node).head.text ≡ []
-  pub few : length (out-Node node).children ≤ 1
-  pub numbers : All IsBuiltNumber (out-Node node).children

@@ -8,6 +8,7 @@ use Rattle.math_tree.specs.Reading.{head_of, tree_of}
 use Rattle.math_tree.specs.Trees.{TreeValue, Listed, listed, element_count, byte_count, bytes_of_head}
 use Rattle.math_tree.specs.declared.fault.ElementFault.{ElementFault}
 use Rattle.math_tree.specs.declared.fault.TreeFault.{TreeFault}
+use Rattle.math_tree.specs.declared.portion.Portion.TheVariants.{Whole}
 use Rattle.math_tree.specs.declared.node.Node.{Node}
 use Rattle.math_tree.specs.declared.node.Node.TheViews.{out-Node}
 
@@ -15,7 +16,7 @@ use Rattle.math_tree.specs.declared.node.Node.TheViews.{out-Node}
 -- one more, and the bytes are those of all elements up to it
 abbrev pub HasFault : List Element → ℕ → Option ElementFault → Type 0
 HasFault list index fault = (element : Element) × (slice_get list index ≡ Some element)
-    × (fault_of (index + 1) (sum_by (λ e. bytes_held e.value) (take (index + 1) list)) element ≡ fault)
+    × (fault_of Whole (index + 1) (sum_by (λ e. bytes_held e.value) (take (index + 1) list)) element ≡ fault)
 
 -- it is that of an element before which no element has one
 pub record IsFirstFault (list : List Element) (found : TreeFault) : Type 0 where

@@ -7,13 +7,14 @@ use Rattle.math_tree.specs.Faults.{first_fault_after}
 use Rattle.math_tree.specs.Reading.{planted, nodes_from, node_of}
 use Rattle.math_tree.specs.declared.fault.TreeFault.{TreeFault}
 use Rattle.math_tree.specs.declared.node.Node.{Node}
+use Rattle.math_tree.specs.declared.portion.Portion.{Portion}
 use Rattle.math_tree.specs.declared.read.Seen.{Seen}
 use Rattle.math_tree.specs.declared.refusal.TreeRefusal.{TreeRefusal}
 use Rattle.math_tree.specs.declared.refusal.TreeRefusal.TheVariants.{Fault, Memory}
 
 -- the first fault of elements that come after those seen
-abbrev pub fault_behind : Seen → List Element → Option TreeFault
-fault_behind seen elements = first_fault_after seen.elements seen.bytes elements
+abbrev pub fault_behind : Portion → Seen → List Element → Option TreeFault
+fault_behind portion seen elements = first_fault_after portion seen.elements seen.bytes elements
 
 -- what is seen once these are read too
 abbrev pub seen_with : Seen → List Element → Seen
@@ -28,18 +29,20 @@ nodes_of id values = nodes_from id (map (over planted) values)
 
 -- a part's elements have no fault, it is what they mean from the next id on, and they are seen too;
 -- or the first of their faults
-abbrev pub ReadsPart : {A : Type 0} → List Element → (ℕ → A) → Seen → Seen → Result A TreeRefusal
+abbrev pub ReadsPart : {A : Type 0} → Portion → List Element → (ℕ → A) → Seen → Seen → Result A TreeRefusal
     → Type 0
-ReadsPart elements meant before after (Ok read) =
-    (fault_behind before elements ≡ None)
+ReadsPart portion elements meant before after (Ok read) =
+    (fault_behind portion before elements ≡ None)
     × (read ≡ meant (before.elements + 1))
     × (after ≡ seen_with before elements)
-ReadsPart elements meant before after (Err (Fault fault)) = fault_behind before elements ≡ Some fault
-ReadsPart elements meant before after (Err Memory) = Unit {0}
+ReadsPart portion elements meant before after (Err (Fault fault)) =
+    fault_behind portion before elements ≡ Some fault
+ReadsPart portion elements meant before after (Err Memory) = Unit {0}
 
 -- an element with all below it, and elements side by side with all below them
-abbrev pub ReadsElement : ℕ → Data → Seen → Seen → Result Node TreeRefusal → Type 0
-ReadsElement level value = ReadsPart (elements level value) (λ id. node_of id value)
+abbrev pub ReadsElement : Portion → ℕ → Data → Seen → Seen → Result Node TreeRefusal → Type 0
+ReadsElement portion level value = ReadsPart portion (elements level value) (λ id. node_of id value)
 
-abbrev pub ReadsElements : ℕ → List Data → Seen → Seen → Result (List Node) TreeRefusal → Type 0
-ReadsElements level values = ReadsPart (flat_map (elements level) values) (λ id. nodes_of id values)
+abbrev pub ReadsElements : Portion → ℕ → List Data → Seen → Seen → Result (List Node) TreeRefusal → Type 0
+ReadsElements portion level values =
+    ReadsPart portion (flat_map (elements level) values) (λ id. nodes_of id values)

@@ -8,6 +8,7 @@ use Rattle.math_tree.specs.Trees.{TreeValue, node}
 use Rattle.math_tree.specs.declared.fault.TreeFault.{TreeFault}
 use Rattle.math_tree.specs.declared.node.Head.{Head}
 use Rattle.math_tree.specs.declared.node.Node.{Node}
+use Rattle.math_tree.specs.declared.portion.Portion.TheVariants.{Part, Whole}
 use Rattle.math_tree.specs.declared.refusal.TreeRefusal.{TreeRefusal}
 use Rattle.math_tree.specs.declared.refusal.TreeRefusal.TheVariants.{Fault, Memory}
 
@@ -48,7 +49,15 @@ tree_without None value = Ok record { root = node_of 1 value; next_id = 1 + leng
 
 -- the first fault of a value's elements in document order, or else the tree of them all
 unfoldable pub tree_of : Data → Result TreeValue TreeFault
-tree_of value = tree_without (first_fault_after 0 0 (elements 1 value)) value
+tree_of value = tree_without (first_fault_after Whole 0 0 (elements 1 value)) value
+
+abbrev pub part_without : Option TreeFault → Data → Result Node TreeFault
+part_without (Some fault) value = Err fault
+part_without None value = Ok (node_of 1 value)
+
+-- the same of an element that is to stand in a tree, which needn't be `math`; its own level is 1
+unfoldable pub part_of : Data → Result Node TreeFault
+part_of value = part_without (first_fault_after Part 0 0 (elements 1 value)) value
 
 -- a reading answers what is meant; want of memory may come at any value
 abbrev pub Reads : {A : Type 0} → Result A TreeFault → Result A TreeRefusal → Type 0

@@ -66,6 +66,14 @@ pub record IsProper (element : Listed) : Type 0 where
   pub textless : is_text_kind element.head.kind ≡ false → element.head.text ≡ []
   pub left_to_right : option_map_or is_rtl (value_of (codes "dir") element.head.attributes) false ≡ false
 
+-- an element with all below it, as it may be put into a tree: proper elements, of no more than 60
+-- levels by themselves; not too many of them, nor too many bytes in them
+pub record IsPart (node : Node) : Type 0 where
+  pub proper : All IsProper (listed 1 node)
+  pub shallow : All (λ e. e.level ≤ most_levels) (listed 1 node)
+  pub few : element_count node ≤ most_elements
+  pub small : byte_count node ≤ most_bytes
+
 abbrev pub ids_of : List Listed → List ℕ
 ids_of elements = map (λ e. e.head.id.0) elements
 

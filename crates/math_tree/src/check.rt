@@ -11,13 +11,21 @@ use crate::fault::ElementFault;
 use crate::forms::{
     MOST_BYTES, MOST_ELEMENTS, MOST_LEVELS, is_name, is_rtl, is_short_enough, is_white_space,
 };
+use crate::portion::Portion;
 use serde_json::{Map, Value};
 
-/// The first fault of an element, where it has one: by its level, its place in document order, both
-/// from 1, and the bytes that it and all elements before it hold together.
+/// The first fault of an element, where it has one: by what is read, by the element's level, its
+/// place in document order, both from 1, and the bytes that it and all elements before it hold.
 #[tactic(auto, unfolding(crate::specs::Faults::fault_of))]
-pub fn fault_of(value: &Value, level: u32, place: u32, bytes: u64) -> Option<ElementFault>
-    ensures { result ≡ fault_of place bytes (record { level = level; value = view value.now }) }
+pub fn fault_of(
+    portion: Portion,
+    value: &Value,
+    level: u32,
+    place: u32,
+    bytes: u64,
+) -> Option<ElementFault>
+    ensures { result
+        ≡ fault_of portion place bytes (record { level = level; value = view value.now }) }
 {
     if level > MOST_LEVELS {
         Some(ElementFault::TooDeep)
@@ -29,7 +37,7 @@ pub fn fault_of(value: &Value, level: u32, place: u32, bytes: u64) -> Option<Ele
         Some(ElementFault::UnknownKey)
     } else if !is_name(name_in(value)) {
         Some(ElementFault::BadName)
-    } else if is_misplaced(place, name_in(value)) {
+    } else if is_misplaced(portion, place, name_in(value)) {
         Some(ElementFault::NotMath)
     } else if !has_attributes(value) {
         Some(ElementFault::BadAttributes)
@@ -46,11 +54,11 @@ pub fn fault_of(value: &Value, level: u32, place: u32, bytes: u64) -> Option<Ele
     }
 }
 
-/// Whether this is the first element and isn't `math`.
-fn is_misplaced(place: u32, name: &str) -> bool
-    ensures { result ≡ is_misplaced place name.now }
+/// Whether this is the first element of a whole tree and isn't `math`.
+fn is_misplaced(portion: Portion, place: u32, name: &str) -> bool
+    ensures { result ≡ is_misplaced portion place name.now }
 {
-    place == 1 && name != "math"
+    matches!(portion, Portion::Whole) && place == 1 && name != "math"
 }
 
 /// Whether the value has no key but the four of an element.

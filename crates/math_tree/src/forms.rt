@@ -3,6 +3,8 @@ ghost use Rattle.std.specs.Prelude.{◌≡◌};
 ghost use Rattle.std.specs.List.{list_all};
 ghost use Rattle.math_tree.specs.Forms.{is_name, is_name_byte, is_white_space, is_short_enough, is_rtl};
 
+use fixed_units::is_word;
+
 /// The levels of a tree, of which the root's is the first.
 pub const MOST_LEVELS: u32 = 60;
 
@@ -64,5 +66,5 @@ pub fn is_short_enough(text: &str) -> bool
 pub fn is_rtl(text: &str) -> bool
     ensures { result ≡ is_rtl text.now }
 {
-    text.eq_ignore_ascii_case("rtl")
+    is_word(text, "rtl")
 }

@@ -2,7 +2,8 @@
 //!
 //! `read_tree` takes what `serde_json` made of a text and gives the tree: elements with an id, a
 //! name, a kind, attributes and a text each, and the id that the next new element gets. Or it
-//! answers the first faulty element, and its fault.
+//! answers the first faulty element, and its fault. `read_part` reads an element that is to stand in
+//! a tree by the same rules.
 //!
 //! - Models: the elements of MathML Core 2 and 3; their JSON form is this project's own.
 //! - Proved: the answer is `tree_of` of the value (`specs/Reading.antt`), which goes by a list of
@@ -23,6 +24,7 @@ mod forms; // names, white space, limits
 mod kind;
 mod laws; // of the definitions
 mod node; // Node, Head, NodeId
+mod portion; // a whole tree, or an element
 mod print; // the canonical print
 mod read;
 mod refusal;
@@ -38,6 +40,6 @@ pub use laws::{
     trees_list_the_elements,
 };
 pub use node::{Head, Node, NodeId};
-pub use read::read_tree;
+pub use read::{read_part, read_tree};
 pub use refusal::TreeRefusal;
 pub use tree::Tree;

@@ -1,6 +1,6 @@
-ghost use Rattle.std.specs.Prelude.{◌≡◌, ◌↔◌, IsTrue, IfOk};
+ghost use Rattle.std.specs.Prelude.{◌≡◌, IfOk};
 ghost use Rattle.serde_json.specs.View.{view};
-ghost use Rattle.math_tree.specs.Built.{is_built, is_built_number, IsBuilt};
+ghost use Rattle.math_tree.specs.Built.{is_built, is_built_number};
 ghost use Rattle.math_tree.specs.Reading.{head_of};
 
 use crate::element::{kind_in, name_in, text_held};
@@ -67,16 +67,8 @@ impl Node {
     /// Whether this is a tree of the form that is laid out so far: a `math` without attributes and
     /// text, over at most one `mn` without attributes and children whose text is empty or one
     /// character from `!` to `~`.
-    #[tactic(auto, using(crate::proofs::BuiltForm::built_form))]
-    pub fn is_built(&self) -> bool
-        ensures exact { result ≡ is_built self.now }
-        ensures form { IsTrue result ↔ IsBuilt self.now }
-    {
-        self.is_built_math()
-    }
-
     #[tactic(auto, unfolding(crate::specs::Built::is_built))]
-    fn is_built_math(&self) -> bool
+    pub fn is_built(&self) -> bool
         ensures { result ≡ is_built self.now }
     {
         let head = &self.head;

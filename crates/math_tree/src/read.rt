@@ -1,11 +1,13 @@
-ghost use Rattle.std.specs.Prelude.{◌≡◌, ◌+◌, ◌≤◌, map};
+ghost use Rattle.std.specs.Prelude.{◌≡◌, ◌+◌, ◌≤◌, map, IfOk};
 ghost use Rattle.serde_json.specs.View.{view};
 ghost use Rattle.math_tree.specs.Forms.{most_levels, most_elements, most_bytes};
 ghost use Rattle.math_tree.specs.Parts.{ReadsElement, ReadsElements};
-ghost use Rattle.math_tree.specs.Reading.{Reads, tree_of};
+ghost use Rattle.math_tree.specs.Reading.{Reads, part_of, tree_of};
+ghost use Rattle.math_tree.specs.Trees.{IsPart};
 
 use crate::check::fault_of;
 use crate::element::{below, bytes_held};
+use crate::portion::Portion;
 use crate::{Head, Node, NodeId, Tree, TreeFault, TreeRefusal};
 use fixed_units::List;
 use serde_json::Value;
@@ -24,9 +26,23 @@ pub fn read_tree(alloc: Global, value: &Value) -> Result<Tree, TreeRefusal>
         elements: 0,
         bytes: 0,
     };
-    let root = read_element(alloc, value, 1, &mut seen)?;
+    let root = read_element(alloc, Portion::Whole, value, 1, &mut seen)?;
     let next_id = seen.elements as u64 + 1;
     Ok(Tree::whole(root, next_id, seen.elements, seen.bytes))
+}
+
+/// Reads an element with all below it that is to stand in a tree, as a line of a script has it. The
+/// rules are those of a tree, but that it needn't be `math`; levels, places and ids are counted from
+/// 1 as there, and it gets its own when it is put into a tree.
+pub fn read_part(alloc: Global, value: &Value) -> Result<Node, TreeRefusal>
+    ensures reads { Reads (part_of (view value.now)) result }
+    ensures sound { IfOk result IsPart }
+{
+    let mut seen = Seen {
+        elements: 0,
+        bytes: 0,
+    };
+    read_element(alloc, Portion::Part, value, 1, &mut seen)
 }
 
 /// The elements that were read so far: how many there are, and how many bytes they hold together.
@@ -40,6 +56,7 @@ struct Seen {
 #[cycle(read)]
 fn read_element(
     alloc: Global,
+    portion: Portion,
     value: &Value,
     level: u32,
     seen: &mut Seen,
@@ -47,18 +64,18 @@ fn read_element(
     requires level { level ≤ most_levels + 1 }
     requires elements { seen.old.elements ≤ most_elements }
     requires bytes { seen.old.bytes ≤ most_bytes }
-    ensures { ReadsElement level (view value.now) seen.old seen.new result }
+    ensures { ReadsElement portion level (view value.now) seen.old seen.new result }
 {
     seen.elements += 1;
     seen.bytes = seen.bytes.saturating_add(bytes_held(value));
-    if let Some(fault) = fault_of(value, level, seen.elements, seen.bytes) {
+    if let Some(fault) = fault_of(portion, value, level, seen.elements, seen.bytes) {
         return Err(TreeRefusal::Fault(TreeFault {
             element: seen.elements,
             kind: fault.number(),
         }));
     }
     let head = Head::of_value(alloc, NodeId(seen.elements), value)?;
-    let children = read_elements(alloc, below(value), level + 1, seen)?;
+    let children = read_elements(alloc, portion, below(value), level + 1, seen)?;
     Ok(Node { head, children })
 }
 
@@ -66,6 +83,7 @@ fn read_element(
 #[cycle(read)]
 fn read_elements(
     alloc: Global,
+    portion: Portion,
     values: &[Value],
     level: u32,
     seen: &mut Seen,
@@ -73,11 +91,11 @@ fn read_elements(
     requires level { level ≤ most_levels + 1 }
     requires elements { seen.old.elements ≤ most_elements }
     requires bytes { seen.old.bytes ≤ most_bytes }
-    ensures { ReadsElements level (map view values.now) seen.old seen.new result }
+    ensures { ReadsElements portion level (map view values.now) seen.old seen.new result }
 {
     let mut nodes = List::make(alloc);
     for value in values {
-        nodes.push(read_element(alloc, value, level, seen)?)?;
+        nodes.push(read_element(alloc, portion, value, level, seen)?)?;
     }
     Ok(nodes)
 }

@@ -14,19 +14,19 @@ pub read_element-returns-in-Some : goal.read_element-returns-in-Some
 read_element-returns-in-Some t c =
     let seen : Seen = c.args.seen.now in
     let value : Data = view c.args.value.now in
-    let none = ReadParts.tested seen c.args.level value c.bytes_held.result c.saturating_add-seen.result c.fault_of.result
+    let none = ReadParts.tested c.args.portion seen c.args.level value c.bytes_held.result c.saturating_add-seen.result c.fault_of.result
     c.bytes_held.ensures c.saturating_add-seen.ensures c.fault_of.ensures in
-    rw c.number.ensures (ReadParts.own_fault seen c.args.level value c.in-Some.fault (none ∙ c.in-Some.is))
+    rw c.number.ensures (ReadParts.own_fault c.args.portion seen c.args.level value c.in-Some.fault (none ∙ c.in-Some.is))
 
 -- what is seen once the element is
 pub read_element-read_elements-requires : goal.read_element-read_elements-requires
 read_element-read_elements-requires t c =
     let seen : Seen = c.args.seen.now in
     let value : Data = view c.args.value.now in
-    let none = ReadParts.tested seen c.args.level value c.bytes_held.result c.saturating_add-seen.result c.fault_of.result
+    let none = ReadParts.tested c.args.portion seen c.args.level value c.bytes_held.result c.saturating_add-seen.result c.fault_of.result
     c.bytes_held.ensures c.saturating_add-seen.ensures c.fault_of.ensures ∙ c.in_default.is in
-    let limits = ReadParts.limits seen c.args.level value none in
-    let bytes = ReadParts.counted seen c.args.level value c.bytes_held.result c.saturating_add-seen.result
+    let limits = ReadParts.limits c.args.portion seen c.args.level value none in
+    let bytes = ReadParts.counted c.args.portion seen c.args.level value c.bytes_held.result c.saturating_add-seen.result
     c.bytes_held.ensures c.saturating_add-seen.ensures none in
     (omega (arith, limits.level), (omega (arith, limits.level), (limits.place, omega (arith, limits.bytes, bytes))))
 
@@ -34,33 +34,33 @@ pub read_element-returns-in_err-children : goal.read_element-returns-in_err-chil
 read_element-returns-in_err-children t c =
     let seen : Seen = c.args.seen.now in
     let value : Data = view c.args.value.now in
-    let none = ReadParts.tested seen c.args.level value c.bytes_held.result c.saturating_add-seen.result c.fault_of.result
+    let none = ReadParts.tested c.args.portion seen c.args.level value c.bytes_held.result c.saturating_add-seen.result c.fault_of.result
     c.bytes_held.ensures c.saturating_add-seen.ensures c.fault_of.ensures ∙ c.in_default.is in
-    let bytes = ReadParts.counted seen c.args.level value c.bytes_held.result c.saturating_add-seen.result
+    let bytes = ReadParts.counted c.args.portion seen c.args.level value c.bytes_held.result c.saturating_add-seen.result
     c.bytes_held.ensures c.saturating_add-seen.ensures none in
     let refusal : TreeRefusal = c.in_err-children.field-0.0 in
     let same : c.from_residual-in_err-children.result ≡ Err refusal =
     ReadParts.as_refused _ refusal c.from_residual-in_err-children.ensures.0 c.from_residual-in_err-children.ensures.1 in
-    rw same (ReadParts.lower_refused seen c.args.level value (map view c.below.result.now) c.saturating_add-seen.result
+    rw same (ReadParts.lower_refused c.args.portion seen c.args.level value (map view c.below.result.now) c.saturating_add-seen.result
     c.read_elements.new.seen c.read_elements.new.seen refusal c.below.ensures bytes none c.in_err-children.ensures)
 
 pub read_element-returns : goal.read_element-returns
 read_element-returns t c =
     let seen : Seen = c.args.seen.now in
     let value : Data = view c.args.value.now in
-    let none = ReadParts.tested seen c.args.level value c.bytes_held.result c.saturating_add-seen.result c.fault_of.result
+    let none = ReadParts.tested c.args.portion seen c.args.level value c.bytes_held.result c.saturating_add-seen.result c.fault_of.result
     c.bytes_held.ensures c.saturating_add-seen.ensures c.fault_of.ensures ∙ c.in_default.is in
-    let bytes = ReadParts.counted seen c.args.level value c.bytes_held.result c.saturating_add-seen.result
+    let bytes = ReadParts.counted c.args.portion seen c.args.level value c.bytes_held.result c.saturating_add-seen.result
     c.bytes_held.ensures c.saturating_add-seen.ensures none in
-    let read : ReadsPart (all_elements (c.args.level + 1) (below value)) (λ id. nodes_of id (below value))
-    (ReadParts.with_one seen c.args.level value) c.read_elements.new.seen (Ok c.in_ok-children.children) =
+    let read : ReadsPart c.args.portion (all_elements (c.args.level + 1) (below value)) (λ id. nodes_of id (below value))
+    (ReadParts.with_one c.args.portion seen c.args.level value) c.read_elements.new.seen (Ok c.in_ok-children.children) =
     rw (← c.below.ensures, ← bytes) c.in_ok-children.ensures in
-    rw c.in_ok-head.ensures (ReadParts.whole_part seen c.args.level value c.read_elements.new.seen c.in_ok-children.children none read)
+    rw c.in_ok-head.ensures (ReadParts.whole_part c.args.portion seen c.args.level value c.read_elements.new.seen c.in_ok-children.children none read)
 
 pub read_elements-read_element-requires : goal.read_elements-read_element-requires
 read_elements-read_element-requires t c =
     let done = map view (take c.loop-value.value-index c.args.values.now) in
-    let limits = ReadParts.side_limits c.args.seen.now c.args.level done c.loop-value.seen c.loop-value.nodes c.loop-value.invariant
+    let limits = ReadParts.side_limits c.args.portion c.args.seen.now c.args.level done c.loop-value.seen c.loop-value.nodes c.loop-value.invariant
     c.requires.elements c.requires.bytes in
     (omega (arith, c.requires.level), (c.requires.level, limits))
 
@@ -73,7 +73,7 @@ read_elements-returns-in_err-read_element t c =
     let refusal : TreeRefusal = c.in_err-read_element.field-0.0 in
     let same : c.from_residual.result ≡ Err refusal =
     ReadParts.as_refused _ refusal c.from_residual.ensures.0 c.from_residual.ensures.1 in
-    rw same (ReadParts.one_refused c.args.seen.now c.args.level (map view (take at values)) (view value)
+    rw same (ReadParts.one_refused c.args.portion c.args.seen.now c.args.level (map view (take at values)) (view value)
     (map view (drop (at + 1) values)) c.loop-value.seen (map view values) c.read_element.new.seen c.read_element.new.seen
     c.loop-value.nodes refusal list c.loop-value.invariant c.in_err-read_element.ensures)
 
@@ -83,6 +83,6 @@ read_elements-loop-value-preserved t c =
     let at : ℕ = c.loop-value.value-index in
     let value : Value = c.value-item.result in
     let list = ReadParts.taken values at value c.loop-value-test.true c.value-item.is in
-    rw (list, c.in_ok-push.ensures.ok) (ReadParts.one_more c.args.seen.now c.args.level (map view (take at values)) (view value) []
+    rw (list, c.in_ok-push.ensures.ok) (ReadParts.one_more c.args.portion c.args.seen.now c.args.level (map view (take at values)) (view value) []
     c.loop-value.seen c.read_element.new.seen c.loop-value.nodes c.in_ok-read_element.field-0
     c.loop-value.invariant c.in_ok-read_element.ensures)

@@ -15,4 +15,4 @@ decreases-read_elements l = 2 * (62 - l.level) + 1
 abbrev pub invariant-read_elements-loop-value : goal.invariant-read_elements-loop-value
 invariant-read_elements-loop-value l =
     let done = map view (take l.value-index l.values) in
-    ReadsPart (all_elements l.level done) (λ id. nodes_of id done) l.initial.seen l.seen (Ok l.nodes)
+    ReadsPart l.portion (all_elements l.level done) (λ id. nodes_of id done) l.initial.seen l.seen (Ok l.nodes)
