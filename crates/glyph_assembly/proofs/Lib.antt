@@ -1,0 +1,10 @@
+pub mod FirstFrom
+pub mod LeastCount
+pub mod GreatestOverlap
+pub mod PartSums
+pub mod Rows
+pub mod Finding
+pub mod Worked
+pub mod Taken
+pub mod Reach
+pub mod Narrow
