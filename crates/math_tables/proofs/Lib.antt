@@ -1,0 +1,4 @@
+pub mod Places
+pub mod Tabular
+pub mod Widest
+pub mod Worked
