@@ -181,10 +181,10 @@ first_fault_behind before (line ∷ lines) =
 abbrev pub needed_of : Option ℕ → Option (ℕ × ℕ) → Option ℕ → Option ℕ → Step Needed
 needed_of upem line x_height missing = do
   units ← or_fault NoUpem upem
-  reach ← or_fault NoLine line
+  extent ← or_fault NoLine line
   height ← or_fault NoXHeight x_height
   place ← or_fault NoMissing missing
-  Ok (record { upem = units; line = reach; x_height = height; missing = place })
+  Ok (record { upem = units; line = extent; x_height = height; missing = place })
 
 abbrev pub needed : Given → Step Needed
 needed given =

@@ -23,7 +23,7 @@ pub fn upem_line(fields: &[&[u8]]) -> Result<u16, LineFault>
 }
 
 /// `line ASCENT DESCENT`
-pub fn reach_line(fields: &[&[u8]]) -> Result<(u16, u16), LineFault>
+pub fn extent_line(fields: &[&[u8]]) -> Result<(u16, u16), LineFault>
     ensures { result ≡ line_in (lent fields.now) }
 {
     match fields {

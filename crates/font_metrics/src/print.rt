@@ -38,7 +38,7 @@ impl Metrics {
     {
         lines.add_version()?;
         lines.add_upem(self.needs.upem)?;
-        lines.add_reach(self.needs.line.0, self.needs.line.1)?;
+        lines.add_extent(self.needs.line.0, self.needs.line.1)?;
         lines.add_x_height(self.needs.x_height)?;
         lines.add_overlap(self.given.overlap)
     }

@@ -60,7 +60,7 @@ impl PrintedLines {
     }
 
     /// `line ASCENT DESCENT`
-    pub fn add_reach(&mut self, ascent: u16, descent: u16) -> Result<(), Memory>
+    pub fn add_extent(&mut self, ascent: u16, descent: u16) -> Result<(), Memory>
         ensures { OnOk result (self.new ≡ self.old ++ line_text (line_words ascent descent)) }
     {
         writeln!(self.text, "line {ascent} {descent}")?;

@@ -8,7 +8,7 @@ use crate::glyph::Measures;
 use crate::glyphs::GlyphTable;
 use crate::growth::{Part, Variant};
 use crate::keyword::Keyword;
-use crate::lines::{constant_line, glyph_line, length_line, operator_line, reach_line, upem_line};
+use crate::lines::{constant_line, extent_line, glyph_line, length_line, operator_line, upem_line};
 use crate::named_lines::{character_line, part_line, variant_line};
 use op_dictionary::{Axis, OperatorLine};
 
@@ -46,7 +46,7 @@ pub fn line_says<'a>(
 {
     match keyword {
         Keyword::Upem => Ok(Said::Upem(upem_line(fields)?)),
-        Keyword::Line => Ok(Said::Line(reach_line(fields)?)),
+        Keyword::Line => Ok(Said::Line(extent_line(fields)?)),
         Keyword::XHeight => Ok(Said::XHeight(length_line(fields)?)),
         Keyword::Overlap => Ok(Said::Overlap(length_line(fields)?)),
         Keyword::Constant => Ok(Said::Constant(constant_line(fields)?)),

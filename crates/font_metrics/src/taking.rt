@@ -84,7 +84,7 @@ impl Given {
     {
         match said {
             Said::Upem(units) => self.upem = Some(units),
-            Said::Line(reach) => self.line = Some(reach),
+            Said::Line(extent) => self.line = Some(extent),
             Said::XHeight(height) => self.x_height = Some(height),
             Said::Overlap(least) => self.overlap = Some(least),
             Said::Constant((place, value)) => self.constants.add(place, value)?,
