@@ -1,0 +1,81 @@
+use crate::fault::Fault;
+use commands::Status;
+use doc_io::MemorySink;
+use std::alloc::Global;
+use std::io::{self, Write};
+
+/// What came of a case.
+#[derive(Drop)]
+pub enum Answer {
+    /// One answer.
+    One(String),
+    /// How a run ended, and what it wrote.
+    Run(Ended),
+}
+
+/// How a run ended, and what it wrote.
+#[derive(Drop)]
+pub struct Ended {
+    pub status: Status,
+    pub written: MemorySink,
+    /// Whether only the sum of what it wrote is told.
+    pub summed: bool,
+}
+
+impl Answer {
+    /// One answer in these words.
+    pub fn one(alloc: Global, words: &str) -> Result<Answer, Fault> {
+        Ok(Answer::One(String::from_str(alloc, words)?))
+    }
+
+    /// Writes its lines.
+    pub fn write<W: Write>(&self, output: &mut W) -> io::Result<()> {
+        match self {
+            Answer::One(words) => writeln!(output, "= {words}"),
+            Answer::Run(ended) => ended.write(output),
+        }
+    }
+}
+
+impl Ended {
+    fn write<W: Write>(&self, output: &mut W) -> io::Result<()> {
+        writeln!(output, "status {}", self.status.number())?;
+        if self.summed {
+            write_sum(self.written.bytes(), output)
+        } else {
+            write_lines(self.written.bytes(), output)
+        }
+    }
+}
+
+/// Each line behind a `|`, and a last piece without line feed behind a `+`.
+fn write_lines<W: Write>(bytes: &[u8], output: &mut W) -> io::Result<()> {
+    for line in bytes.split_inclusive(|byte| *byte == b'\n') {
+        if line.ends_with(b"\n") {
+            output.write_all(b"|")?;
+            output.write_all(line)?;
+        } else {
+            output.write_all(b"+")?;
+            output.write_all(line)?;
+            output.write_all(b"\n")?;
+        }
+    }
+    Ok(())
+}
+
+/// How many line feeds and bytes there are, and the bytes' hash.
+fn write_sum<W: Write>(bytes: &[u8], output: &mut W) -> io::Result<()> {
+    let lines = bytes.iter().filter(|byte| **byte == b'\n').count();
+    let size = bytes.len();
+    let hash = fnv_1a(bytes);
+    writeln!(output, "sum {lines} {size} {hash:016x}")
+}
+
+/// The 64-bit FNV-1a hash.
+fn fnv_1a(bytes: &[u8]) -> u64 {
+    let mut hash: u64 = 0xcbf2_9ce4_8422_2325;
+    for byte in bytes {
+        hash = (hash ^ u64::from(*byte)).wrapping_mul(0x0100_0000_01b3);
+    }
+    hash
+}

@@ -1,0 +1,107 @@
+use crate::fault::Fault;
+use crate::files::KnownFiles;
+use crate::lines::as_name;
+use crate::numbered::{Span, Template};
+use fixed_units::List;
+use std::alloc::Global;
+
+/// What a line adds to the file that stands above it.
+#[derive(Clone, Copy)]
+pub enum Content<'a> {
+    /// `|TEXT`: the text and a line feed.
+    Line(&'a str),
+    /// `+TEXT`: the text alone.
+    Text(&'a str),
+    /// `~48 65 FF`: these bytes.
+    Bytes(&'a str),
+    /// `*FROM..TO TEXT`: a line for each number.
+    LinesByRule(Span, &'a str),
+    /// `&FROM..TO TEXT`: a text for each number.
+    TextByRule(Span, &'a str),
+    /// `<NAME`: a known file.
+    File(&'a str),
+    /// `<NAME FROM..TO`: lines of a known file, counted from 1.
+    FileLines(&'a str, Span),
+}
+
+impl<'a> Content<'a> {
+    /// Reads what stands behind a `*`.
+    pub fn lines_by_rule(rule: &'a str) -> Result<Content<'a>, Fault> {
+        let (span, text) = rule.split_once(' ').ok_or(Fault::NotARange)?;
+        Ok(Content::LinesByRule(Span::of_text(span)?, text))
+    }
+
+    /// Reads what stands behind a `&`.
+    pub fn text_by_rule(rule: &'a str) -> Result<Content<'a>, Fault> {
+        let (span, text) = rule.split_once(' ').ok_or(Fault::NotARange)?;
+        Ok(Content::TextByRule(Span::of_text(span)?, text))
+    }
+
+    /// Reads what stands behind a `<`.
+    pub fn of_file(file: &'a str) -> Result<Content<'a>, Fault> {
+        match file.split_once(' ') {
+            None => Ok(Content::File(as_name(file)?)),
+            Some((name, span)) => Ok(Content::FileLines(as_name(name)?, Span::of_text(span)?)),
+        }
+    }
+
+    /// Adds it to the file that stands above.
+    pub fn add_to(self, alloc: Global, files: &mut KnownFiles) -> Result<(), Fault> {
+        match self {
+            Content::Line(text) => add_line(files, text),
+            Content::Text(text) => files.add(text.as_bytes()),
+            Content::Bytes(pairs) => add_bytes(alloc, files, pairs),
+            Content::LinesByRule(span, text) => add_by_rule(alloc, files, span, text, "\n"),
+            Content::TextByRule(span, text) => add_by_rule(alloc, files, span, text, ""),
+            Content::File(name) => files.add_file(alloc, name),
+            Content::FileLines(name, span) => files.add_lines(alloc, name, span),
+        }
+    }
+}
+
+fn add_line(files: &mut KnownFiles, text: &str) -> Result<(), Fault> {
+    files.add(text.as_bytes())?;
+    files.add(b"\n")
+}
+
+/// Adds the text once for each number, with this number in it and an end behind it.
+fn add_by_rule(
+    alloc: Global,
+    files: &mut KnownFiles,
+    span: Span,
+    text: &str,
+    end: &str,
+) -> Result<(), Fault> {
+    let template = Template::of_text(alloc, text)?;
+    let mut line = String::new(alloc);
+    for number in span.numbers() {
+        line.clear();
+        template.put(number, end, &mut line)?;
+        files.add(line.as_bytes())?;
+    }
+    Ok(())
+}
+
+/// Adds bytes that are written as pairs of hexadecimal digits.
+fn add_bytes(alloc: Global, files: &mut KnownFiles, pairs: &str) -> Result<(), Fault> {
+    let mut bytes = List::make(alloc);
+    read_pairs(pairs, &mut bytes)?;
+    files.add(bytes.as_slice())
+}
+
+fn read_pairs(pairs: &str, bytes: &mut List<u8>) -> Result<(), Fault> {
+    for pair in pairs.split_ascii_whitespace() {
+        bytes.push(byte_of(pair)?)?;
+    }
+    Ok(())
+}
+
+/// Reads two hexadecimal digits.
+fn byte_of(pair: &str) -> Result<u8, Fault> {
+    let digits = pair.as_bytes();
+    if digits.len() == 2 && digits.iter().all(|digit| digit.is_ascii_hexdigit()) {
+        u8::from_str_radix(pair, 16).map_err(|_| Fault::NotBytes)
+    } else {
+        Err(Fault::NotBytes)
+    }
+}
