@@ -1,0 +1,5 @@
+pub mod Beside
+pub mod Laws
+pub mod Lengths
+pub mod Questions
+pub mod Shifts

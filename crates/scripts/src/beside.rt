@@ -1,0 +1,146 @@
+ghost use Rattle.std.specs.Prelude.{◌≡◌, ◌^◌, pos, ◌≤ℤ◌};
+ghost use Rattle.fixed_units.specs.Boxes.{IsStored};
+ghost use Rattle.fixed_units.specs.Numbers.{IsWithin};
+ghost use Rattle.scripts.specs.Beside.{sub_x_of, sup_x_of, ending_at_of, sub_of, sup_of, sub_sup_of};
+
+use crate::lengths::{SubLengths, SupLengths};
+use crate::parts::{Scripted, Spot};
+use crate::shifts::{pair_shifts, sub_shift, sup_shift};
+use fixed_units::{MathBox, half, join, raise};
+use font_metrics::{ConstName, Metrics};
+
+/// A base with a subscript (MathML Core 3.4.1.2, "Base with subscript").
+///
+/// Lengths are in units of 1/1024 px, `size` is the font size of the element, and `large` says that
+/// the base is a large operator.
+pub fn sub(base: &MathBox, large: bool, script: &MathBox, size: i64, metrics: &Metrics) -> Scripted
+    requires base_fits { IsStored base.now }
+    requires script_fits { IsStored script.now }
+    requires size_low { pos 0 ≤ℤ size }
+    requires size_high { size ≤ℤ pos (2 ^ 20) }
+    ensures { result ≡ sub_of metrics.now base.now large script.now size }
+{
+    let down = sub_shift(&SubLengths::at(metrics, size), base, script);
+    let x = sub_x(base, large);
+    let parts = join(base, &raise(script, -down));
+    Scripted {
+        frame: ending_at(&parts, x + script.width, size, metrics),
+        sub: Spot { x, y: down },
+        sup: ORIGIN,
+    }
+}
+
+/// A base with a superscript (MathML Core 3.4.1.3, "Base with superscript"). `cramped` says that the
+/// style of the element is.
+pub fn sup(
+    base: &MathBox,
+    large: bool,
+    cramped: bool,
+    script: &MathBox,
+    size: i64,
+    metrics: &Metrics,
+) -> Scripted
+    requires base_fits { IsStored base.now }
+    requires script_fits { IsStored script.now }
+    requires size_low { pos 0 ≤ℤ size }
+    requires size_high { size ≤ℤ pos (2 ^ 20) }
+    ensures { result ≡ sup_of metrics.now base.now large cramped script.now size }
+{
+    let up = sup_shift(&SupLengths::at(metrics, size, cramped), base, script);
+    let x = sup_x(base, large);
+    let parts = join(base, &raise(script, up));
+    Scripted {
+        frame: ending_at(&parts, x + script.width, size, metrics),
+        sub: ORIGIN,
+        sup: Spot { x, y: -up },
+    }
+}
+
+/// A base with a subscript and a superscript (MathML Core 3.4.1.4).
+pub fn sub_sup(
+    base: &MathBox,
+    large: bool,
+    cramped: bool,
+    sub: &MathBox,
+    sup: &MathBox,
+    size: i64,
+    metrics: &Metrics,
+) -> Scripted
+    requires base_fits { IsStored base.now }
+    requires sub_fits { IsStored sub.now }
+    requires sup_fits { IsStored sup.now }
+    requires size_low { pos 0 ≤ℤ size }
+    requires size_high { size ≤ℤ pos (2 ^ 20) }
+    ensures { result ≡ sub_sup_of metrics.now base.now large cramped sub.now sup.now size }
+{
+    let shifts = pair_shifts(base, cramped, sub, sup, size, metrics);
+    let below = sub_x(base, large);
+    let above = sup_x(base, large);
+    let parts = join(
+        &join(base, &raise(sub, -shifts.down)),
+        &raise(sup, shifts.up),
+    );
+    let end = (below + sub.width).max(above + sup.width);
+    Scripted {
+        frame: ending_at(&parts, end, size, metrics),
+        sub: Spot {
+            x: below,
+            y: shifts.down,
+        },
+        sup: Spot {
+            x: above,
+            y: -shifts.up,
+        },
+    }
+}
+
+/// The place of a script that isn't there.
+const ORIGIN: Spot = Spot { x: 0, y: 0 };
+
+/// Where a subscript begins: behind the base, or under the lean of a large operator.
+#[tactic(auto, using(fixed_units::proofs::Signed::from_bits), unfolding(crate::specs::Beside::sub_x_of))]
+fn sub_x(base: &MathBox, large: bool) -> i64
+    requires { IsStored base.now }
+    ensures value { result ≡ sub_x_of base.now large }
+    ensures within { IsWithin (2 ^ 31) result }
+{
+    if large {
+        base.width - base.italic
+    } else {
+        base.width
+    }
+}
+
+/// Where a superscript begins: behind the base and what it leans, which the width of a large operator
+/// holds already.
+#[tactic(auto, using(fixed_units::proofs::Signed::from_bits), unfolding(crate::specs::Beside::sup_x_of))]
+fn sup_x(base: &MathBox, large: bool) -> i64
+    requires { IsStored base.now }
+    ensures value { result ≡ sup_x_of base.now large }
+    ensures within { IsWithin (2 ^ 31) result }
+{
+    if large {
+        base.width
+    } else {
+        base.width + base.italic
+    }
+}
+
+/// The box of parts of which the last ends there, with the space after scripts.
+fn ending_at(parts: &MathBox, end: i64, size: i64, metrics: &Metrics) -> MathBox
+    requires end_in { IsWithin (2 ^ 32) end }
+    requires size_low { pos 0 ≤ℤ size }
+    requires size_high { size ≤ℤ pos (2 ^ 20) }
+    ensures { result ≡ ending_at_of metrics.now parts.now end size }
+{
+    let width = end + metrics.constant(ConstName::SpaceAfterScript, size);
+    MathBox {
+        width,
+        ascent: parts.ascent,
+        descent: parts.descent,
+        ink_ascent: parts.ink_ascent,
+        ink_descent: parts.ink_descent,
+        italic: 0,
+        accent: half(width),
+    }
+}
