@@ -1,0 +1,4 @@
+pub mod Lengths
+pub mod Equation
+pub mod Placing
+pub mod Laws
