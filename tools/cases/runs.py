@@ -1,0 +1,107 @@
+"""Runs of the program over inputs and a sink in memory.
+
+What a run writes is the second program's word. Here stands what becomes of it where calls of the inputs or of the sink
+fail, or where the sink has little room. How many calls a run makes is the product's own: only bounds of it follow
+from the formats, so a case whose outcome hangs on more is refused."""
+
+import json
+
+from . import reference as so_far
+from .faults import Undetermined
+from .source import MOST_BYTES
+from .values import Fields, is_count, is_text
+
+READ_FAULT = 5
+WRITE_FAULT = 6
+
+
+def run(reference, known, value):
+    """The program's words over the known files that are named."""
+    fields = Fields(value, "words", "files", "cut", "fail_read", "fail_write", "room", "sum")
+    is_sum = fields.flag("sum", absent=False)
+    words = fields.items("words", is_text)
+    files = {name: known.content(name) for name in fields.items("files", is_text)}
+    cuts, failing = fields.items("cut", is_count, absent=[]), fields.items("fail_read", is_count, absent=[])
+    room = fields.within("room", 0, MOST_BYTES) if fields.has("room") else MOST_BYTES
+    status, text, looked_for = so_far.run(reference, words, files)
+    if status != READ_FAULT:
+        bounds = calls_made(reference, [files[name] for name in looked_for], cuts)
+        if has_call(failing, *bounds):
+            status, text = READ_FAULT, b""
+    return told(*written(status, text, fields.items("fail_write", is_count, absent=[]), room), is_sum)
+
+
+def command(name):
+    """A command over known metrics and a tree file that holds a value's text."""
+
+    def carried_out(reference, known, value):
+        fields = Fields(value, "metrics", "tree", "sum")
+        is_sum = fields.flag("sum", absent=False)
+        metrics, tree = known.content(fields.text("metrics")), fields.value("tree")
+        text = json.dumps(tree, ensure_ascii=False, separators=(",", ":"), sort_keys=True)
+        status, out, _ = so_far.run(reference, [name, "metrics", "tree"], {"metrics": metrics, "tree": text.encode()})
+        return told(status, out, is_sum)
+
+    return carried_out
+
+
+def calls_made(reference, contents, cuts):
+    """The least and the greatest number of calls in which these files are selected and read, one after the other; the
+    first is the metrics file."""
+    limits = (reference.program.METRICS_LIMIT, reference.program.TREE_LIMIT)
+    least = most = 0
+    for content, limit in zip(contents, limits):
+        few, many = reads_made(len(content), limit, cuts)
+        least, most = least + 1 + few, most + 1 + many
+    return least, most
+
+
+def reads_made(size, limit, cuts):
+    """The least and the greatest number of reads of a file of that size. A read gives at least one byte and stops at
+    the cuts; one that gives none tells the end; at most a byte past the limit is read."""
+    wanted = min(size, limit + 1)
+    stops = len({cut for cut in cuts if 0 < cut < wanted})
+    end = 1 if size <= limit else 0
+    return (stops + 1 if wanted else 0) + end, wanted + end
+
+
+def has_call(numbers, least, most):
+    """Whether one of the calls with these numbers is made, where between `least` and `most` calls are."""
+    if any(1 <= number <= least for number in numbers):
+        return True
+    if any(least < number <= most for number in numbers):
+        raise Undetermined("whether so many calls of the inputs are made isn't told by the formats")
+    return False
+
+
+def written(status, text, failing, room):
+    """The status and the bytes that a sink with that room has taken at the end, where calls with these numbers fail."""
+    if text == b"":
+        return status, text
+    fits = min(room, len(text))
+    # Each call before the sink is full takes at least a byte. Where not all fits, one more call finds it full.
+    if 1 in failing or fits == 0:
+        return WRITE_FAULT, b""
+    if any(1 < number <= fits for number in failing):
+        raise Undetermined("whether so many calls of the sink are made isn't told by the formats")
+    return (status, text) if fits == len(text) else (WRITE_FAULT, text[:fits])
+
+
+def told(status, text, is_sum):
+    """The lines that tell of a run."""
+    lines = [b"status %d" % status]
+    if is_sum:
+        return lines + [b"sum %d %d %016x" % (text.count(b"\n"), len(text), fnv1a(text))]
+    *whole, rest = text.split(b"\n")
+    return lines + [b"|" + line for line in whole] + ([b"+" + rest] if rest else [])
+
+
+def fnv1a(data):
+    """The 64-bit FNV-1a hash."""
+    found = 0xCBF29CE484222325
+    for byte in data:
+        found = (found ^ byte) * 0x100000001B3 & 0xFFFFFFFFFFFFFFFF
+    return found
+
+
+KINDS = {"run": run, "layout": command("layout"), "check": command("check")}
