@@ -8,4 +8,4 @@ returns-in_err-metrics g c =
     rw (p.1, p.2) (without_metrics _ _ _ _ c.in_err-metrics.ensures)
 
 pub returns : goal.returns
-returns g c = with_metrics _ _ _ _ _ _ c.in_ok-metrics.ensures c.answer_over.ensures
+returns g c = with_metrics _ _ _ _ _ _ c.in_ok-metrics.ensures c.answer_over-text.ensures
