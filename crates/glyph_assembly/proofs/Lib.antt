@@ -8,3 +8,4 @@ pub mod Worked
 pub mod Taken
 pub mod Reach
 pub mod Narrow
+pub mod Chosen

@@ -5,10 +5,11 @@ ghost use Rattle.std.specs.Prelude.{ℕ, ◌≤◌, ℤ, ◌≤ℤ◌, List, Opt
 ghost use Rattle.std.specs.List.{All};
 ghost use Rattle.font_metrics.specs.Metrics.{MetricsValue};
 ghost use Rattle.font_metrics.specs.declared.growth.Variant.{Variant as LargerGlyph};
+ghost use Rattle.op_dictionary.specs.declared.operator.Axis.{Axis};
 ghost use Rattle.glyph_assembly.specs.declared.sums.Sums.{Sums};
 ghost use Rattle.glyph_assembly.specs.Counts.{Grows, IsEnough, IsLeastCount, IsGreatestOverlap, least_count, greatest_overlap, length_of};
-ghost use Rattle.glyph_assembly.specs.Laws.{IsShort, IsFirstReaching};
-ghost use Rattle.glyph_assembly.specs.Shaping.{first_reaching};
+ghost use Rattle.glyph_assembly.specs.Laws.{IsShort, IsFirstReaching, IsChosen};
+ghost use Rattle.glyph_assembly.specs.Shaping.{first_reaching, shaped_of};
 
 /// A valid assembly reaches its target by the least count, over all counts.
 pub fn no_smaller_count_reaches()
@@ -38,4 +39,11 @@ pub fn the_first_that_reaches_is_taken()
         MatchOption (first_reaching metrics size target variants)
         (All (IsShort metrics size target) variants)
         (IsFirstReaching metrics size target variants) }
+{}
+
+/// What a glyph is made into reaches the target, unless neither the glyph, nor a variant, nor an
+/// assembly does; and an assembly is made only where no glyph does.
+pub fn what_is_taken_reaches_where_anything_does()
+    ensures { (metrics : MetricsValue) (place : ℕ) (axis : Axis) (target size : ℤ) →
+        IsChosen metrics place axis target size (shaped_of metrics place axis target size).shape }
 {}
