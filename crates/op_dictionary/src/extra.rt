@@ -147,39 +147,3 @@ fn add_axis(axes: &mut IndexMap<OpText, Axis>, line: OperatorLine) -> Result<(),
     }
     Ok(())
 }
-
-#[cfg(test)]
-mod tests {
-    use super::*;
-
-    #[test]
-    fn lines_keep_their_order(rt: HostRuntime) -> Result<(), Memory> {
-        let lines = [
-            OperatorLine {
-                text: OpText::One('\u{27F6}'),
-                form: Form::Infix,
-                category: Category::A,
-                axis: Axis::Inline,
-            },
-            OperatorLine {
-                text: OpText::Two('=', '='),
-                form: Form::Prefix,
-                category: Category::Default,
-                axis: Axis::Block,
-            },
-        ];
-        let mut extra = Extra::make(rt.alloc());
-        assert_eq!(rt; extra.count(), 0);
-        for line in lines {
-            if !extra.has(line.text, line.form) && line.text.is_short() {
-                extra.add(line)?;
-            }
-        }
-        assert_eq!(rt; extra.count(), 2);
-        assert_eq!(rt; extra.line(0), lines[0]);
-        assert_eq!(rt; extra.line(1), lines[1]);
-        assert!(rt; extra.has(OpText::Two('=', '='), Form::Prefix));
-        assert!(rt; !extra.has(OpText::Two('=', '='), Form::Infix));
-        Ok(())
-    }
-}

@@ -73,6 +73,3 @@ fn own_category(text: OpText, form: Form, extra: &Extra) -> Category
         None => built_in_category(text, form),
     }
 }
-
-#[cfg(test)]
-mod tests;
