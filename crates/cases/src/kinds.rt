@@ -2,14 +2,18 @@ mod axis;
 mod category;
 mod elements;
 mod facts;
+mod fits;
+mod half;
 mod length;
 mod metrics;
 mod operators;
 mod properties;
 mod resolve;
+mod round;
 mod run;
 mod shown;
 mod tree;
+mod word;
 
 use crate::answer::Answer;
 use crate::fault::Fault;
@@ -32,15 +36,19 @@ pub fn answer(kind: &str, case: Case) -> Result<Answer, Fault> {
         "category" => category::answer(case),
         "check" => run::answer_command("check", case),
         "facts" => facts::answer(case),
+        "fits" => fits::answer(case),
+        "half" => half::answer(case),
         "layout" => run::answer_command("layout", case),
         "length" => length::answer(case),
         "metrics" => metrics::answer(case),
         "properties" => properties::answer(case),
         "resolve" => resolve::answer(case),
+        "round" => round::answer(case),
         "run" => run::answer(case),
         "shown" => shown::answer(case),
         "tree" => tree::answer(case),
         "treefile" => tree::answer_file(case),
+        "word" => word::answer(case),
         _ => Err(Fault::UnknownKind),
     }
 }

@@ -21,3 +21,7 @@ pub fn form_letter(form: Form) -> char {
 pub fn truth_letter(truth: bool) -> char {
     if truth { 't' } else { 'f' }
 }
+
+pub fn yes_or_no(truth: bool) -> &'static str {
+    if truth { "yes" } else { "no" }
+}
