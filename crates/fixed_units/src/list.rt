@@ -107,6 +107,3 @@ impl<T: Copy> List<T> {
         Ok(List { items })
     }
 }
-
-#[cfg(test)]
-mod tests;

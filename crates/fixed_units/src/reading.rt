@@ -177,6 +177,3 @@ fn is_name(name: &[u8], unit: &[u8]) -> bool
 {
     name.eq_ignore_ascii_case(unit)
 }
-
-#[cfg(test)]
-mod tests;

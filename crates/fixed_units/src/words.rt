@@ -7,22 +7,3 @@ pub fn is_word(text: &str, word: &str) -> bool
 {
     text.eq_ignore_ascii_case(word)
 }
-
-#[cfg(test)]
-mod tests {
-    use super::*;
-
-    #[test]
-    fn case_of_ascii_letters_alone_is_passed_over(rt: HostRuntime) {
-        for (text, word, same) in [
-            ("TrUe", "true", true),
-            ("true", "TRUE", true),
-            ("", "", true),
-            ("true ", "true", false),
-            ("tru", "true", false),
-            ("É", "é", false),
-        ] {
-            assert_eq!(rt; is_word(text, word), same, "{text:?} and {word:?}");
-        }
-    }
-}
