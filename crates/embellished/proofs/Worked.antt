@@ -3,11 +3,16 @@ use Rattle.std.proofs.Common.{◌≡◌, refl, true, false, List, [], ◌∷◌,
 use Rattle.math_tree.specs.declared.kind.Kind.{Kind}
 use Rattle.math_tree.specs.declared.kind.Kind.TheVariants.{Annotation, Mfrac, Mi, Mmultiscripts, Mo, Mprescripts, Mrow, Mspace, Msub, Mtd, Mtr}
 use Rattle.math_tree.specs.declared.node.Head.{Head}
+use Rattle.op_dictionary.specs.BuiltIn.{properties_of}
+use Rattle.op_dictionary.specs.Dictionary.{axis_of, built_in_category, category_of, own_category}
+use Rattle.op_dictionary.specs.declared.operator.Axis.TheVariants.{Block}
 use Rattle.op_dictionary.specs.declared.operator.Form.TheVariants.{Prefix, Infix, Postfix}
+use Rattle.op_dictionary.specs.declared.text.OpText.{OpText}
+use Rattle.op_dictionary.specs.declared.text.OpText.TheVariants.{One}
 use Rattle.embellished.specs.Facts.{core_below, facts_over, form_of_word, is_space_like, truth_of_word}
 use Rattle.embellished.specs.Flow.{flow_by}
-use Rattle.embellished.specs.Forms.{fence_form, form_by_place}
-use Rattle.embellished.specs.Seen.{Kid}
+use Rattle.embellished.specs.Forms.{fence_form, form_at, form_by_place, properties_at, stretch_axis}
+use Rattle.embellished.specs.Seen.{Kid, Seen}
 use Rattle.embellished.specs.Texts.{joined, pieces_of}
 use Rattle.embellished.specs.Validity.{are_base_and_scripts, are_scripts, is_valid, laid_as}
 use Rattle.embellished.specs.declared.facts.Core.{Core}
@@ -112,3 +117,46 @@ module _ (head : Head) (core : Core) where
   pub form-script : form_by_place Msub (kid (other Mi) ∷ kid (operator core) ∷ []) 1 ≡ Postfix
   unfolding form_by_place
   form-script = refl
+
+  -- ---- forms in an embellished row, whose own form is postfix
+
+  abbrev embellished_row : List Kid → Seen
+  embellished_row kids = record { head = head; facts = record { space_like = false; core = Some core; laid = Mrow }; kids = kids; prescripts = 2 }
+
+  abbrev plain : Core
+  plain = record core { form = None }
+
+  -- the child that leads to the row's core has the row's form
+  pub form-led : form_at (embellished_row (kid blank ∷ kid (operator plain) ∷ [])) 1 Postfix ≡ Postfix
+  unfolding form_at
+  form-led = refl
+
+  -- unless an attribute gives it
+  pub form-given : form_at (embellished_row (kid blank ∷ kid (operator (record core { form = Some Prefix })) ∷ [])) 1 Postfix ≡ Prefix
+  unfolding form_at
+  form-given = refl
+
+  -- a child that is no operator is infix
+  pub form-of_no_operator : form_at (embellished_row (kid blank ∷ kid (operator plain) ∷ [])) 0 Postfix ≡ Infix
+  unfolding form_at
+  form-of_no_operator = refl
+
+-- ---- properties and axes, without operator lines
+
+abbrev core_of_text : OpText → Core
+core_of_text text = record { text = text; form = None; stretchy = None; symmetric = None; largeop = None; movablelimits = None }
+
+-- a left parenthesis stretches upward and downward
+pub properties-parenthesis : properties_at (core_of_text (One 0x28)) Prefix []
+    ≡ record { lspace = 0; rspace = 0; stretchy = true; symmetric = true; largeop = false; movablelimits = false }
+unfolding properties_at category_of own_category built_in_category properties_of
+properties-parenthesis = refl
+
+pub axis-parenthesis : stretch_axis (operator (core_of_text (One 0x28))) Prefix [] ≡ Some Block
+unfolding stretch_axis properties_at category_of own_category built_in_category properties_of axis_of
+axis-parenthesis = refl
+
+-- unless its attribute says that it doesn't
+pub axis-of_none : stretch_axis (operator (record (core_of_text (One 0x28)) { stretchy = Some false })) Prefix [] ≡ None
+unfolding stretch_axis properties_at category_of own_category built_in_category properties_of
+axis-of_none = refl

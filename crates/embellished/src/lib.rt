@@ -39,6 +39,3 @@ pub use operator::operator_properties;
 pub use stretch::stretch_axis;
 pub use texts::shown_text;
 pub use view::View;
-
-#[cfg(test)]
-mod tests;
