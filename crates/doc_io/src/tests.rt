@@ -1,10 +1,7 @@
-// Files and outputs of the system, and one walk through inputs and a sink in memory.
+// Files and outputs of the system; inputs and a sink in memory are walked through by cases.
 //
 // `assert!` with `==` in place of `assert_eq!` spares the proofs of the derived `Debug`.
-use crate::{
-    Failed, FileInputs, Inputs, MemoryInputs, MemorySink, ReadRefusal, Sink, StdSink, WriteFault,
-    read_all, write_all,
-};
+use crate::{Failed, FileInputs, Inputs, ReadRefusal, StdSink, WriteFault, read_all, write_all};
 use std::cell::Cell;
 use std::fmt::Display;
 use std::io::ErrorKind;
@@ -99,23 +96,4 @@ fn an_output_that_takes_no_byte_or_breaks_has_failed(rt: HostRuntime) {
             assert!(rt; narrow.room.get() == room);
         }
     }
-}
-
-#[test]
-fn calls_in_memory_fail_by_their_numbers(rt: HostRuntime) -> Result<(), Fail> {
-    let mut inputs = MemoryInputs::make(rt.alloc());
-    inputs.add_file("tree", b"{\"name\":1}")?;
-    inputs.cut_at(3)?;
-    inputs.fail_at(3)?;
-    assert!(rt; inputs.select("tree") == Ok(()));
-    for want in [Ok(3), Err(Failed), Ok(4), Ok(3), Ok(0)] {
-        assert!(rt; inputs.read(&mut [0u8; 4]) == want);
-    }
-    let mut sink = MemorySink::make(rt.alloc(), 5)?;
-    sink.fail_at(2)?;
-    for want in [Ok(4), Err(Failed), Ok(1), Err(Failed)] {
-        assert!(rt; sink.write(b"box ") == want);
-    }
-    assert!(rt; sink.bytes() == b"box b".as_slice());
-    Ok(())
 }
