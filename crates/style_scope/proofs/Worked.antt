@@ -1,0 +1,128 @@
+-- Worked cases: the definitions compute them, and a wrong one is refused at its line.
+use Rattle.std.proofs.Common.{◌≡◌, refl, ℕ, pos, true, false, codes, Some, None}
+use Rattle.fixed_units.specs.Numbers.{rounded}
+use Rattle.font_metrics.specs.Metrics.{MetricsValue, percent_of}
+use Rattle.font_metrics.specs.declared.constants.ConstName.TheVariants.{ScriptPercentScaleDown, ScriptScriptPercentScaleDown}
+use Rattle.math_tree.specs.declared.kind.Kind.{Kind}
+use Rattle.math_tree.specs.declared.kind.Kind.TheVariants.{Mfrac, Mmultiscripts, Mover, Mroot, Mrow, Msqrt, Msub, Msup, Munder}
+use Rattle.style_scope.specs.declared.style.Place.{Place}
+use Rattle.style_scope.specs.declared.style.Style.{Style}
+use Rattle.style_scope.specs.Rules.{by_name, by_place, levels_of, is_compact_in, is_cramped_in}
+use Rattle.style_scope.specs.Sizes.{in_range_of, size_of}
+use Rattle.style_scope.specs.Styles.{initial}
+use Rattle.style_scope.specs.Words.{level_of, number_of}
+
+-- ---- places
+abbrev place : Kind → ℕ → Place
+place parent index = record { parent = parent; index = index; accent = false; accentunder = false; subscript = false }
+
+abbrev block : Style
+block = record initial { display = true }
+
+-- the numerator of a fraction in display style keeps its depth, and is itself not in display style
+pub by_place-numerator : by_place (place Mfrac 0) block ≡ initial
+unfolding by_place levels_of is_compact_in is_cramped_in
+by_place-numerator = refl
+
+-- one level deeper in any other fraction; what stands below is cramped
+pub by_place-denominator : by_place (place Mfrac 1) initial ≡ record initial { depth = 1; cramped = true }
+unfolding by_place levels_of is_compact_in is_cramped_in
+by_place-denominator = refl
+
+pub by_place-superscript : by_place (place Msup 1) block ≡ record initial { depth = 1 }
+unfolding by_place levels_of is_compact_in is_cramped_in
+by_place-superscript = refl
+
+pub by_place-subscript : by_place (place Msub 1) block ≡ record initial { depth = 1; cramped = true }
+unfolding by_place levels_of is_compact_in is_cramped_in
+by_place-subscript = refl
+
+pub by_place-base : by_place (place Msub 0) block ≡ block
+unfolding by_place levels_of is_compact_in is_cramped_in
+by_place-base = refl
+
+-- a root's index is two levels deeper
+pub by_place-index : by_place (place Mroot 1) block ≡ record initial { depth = 2 }
+unfolding by_place levels_of is_compact_in is_cramped_in
+by_place-index = refl
+
+-- an accent keeps the depth, and what is under it is cramped
+pub by_place-accent : by_place (record (place Mover 1) { accent = true }) block ≡ initial
+unfolding by_place levels_of is_compact_in is_cramped_in
+by_place-accent = refl
+
+pub by_place-accented : by_place (record (place Mover 0) { accent = true }) block ≡ record block { cramped = true }
+unfolding by_place levels_of is_compact_in is_cramped_in
+by_place-accented = refl
+
+-- an accent above says nothing of what stands below
+pub by_place-under : by_place (record (place Munder 1) { accent = true }) block ≡ record initial { depth = 1 }
+unfolding by_place levels_of is_compact_in is_cramped_in
+by_place-under = refl
+
+pub by_place-prescript : by_place (record (place Mmultiscripts 3) { subscript = true }) initial ≡ record initial { depth = 1; cramped = true }
+unfolding by_place levels_of is_compact_in is_cramped_in
+by_place-prescript = refl
+
+pub by_place-row : by_place (place Mrow 1) block ≡ block
+unfolding by_place levels_of is_compact_in is_cramped_in
+by_place-row = refl
+
+pub by_name-root : by_name Msqrt block ≡ record block { cramped = true }
+unfolding by_name
+by_name-root = refl
+
+-- ---- levels, below a parent at depth 2
+pub level-set : level_of 2 (codes "001") ≡ Some 1
+unfolding level_of number_of
+level-set = refl
+
+pub level-up : level_of 2 (codes "+1") ≡ Some 3
+unfolding level_of number_of
+level-up = refl
+
+-- no depth is below 0
+pub level-down : level_of 2 (codes "-3") ≡ Some 0
+unfolding level_of number_of
+level-down = refl
+
+pub level-long : level_of 2 (codes "1000") ≡ None
+unfolding level_of number_of
+level-long = refl
+
+pub level-blank : level_of 2 (codes " 1") ≡ None
+unfolding level_of number_of
+level-blank = refl
+
+pub level-sign : level_of 2 (codes "+") ≡ None
+unfolding level_of number_of
+level-sign = refl
+
+-- ---- sizes, where the first scripts have 75 percent and the second ones 50
+pub size-script : (m : MetricsValue) → percent_of m ScriptPercentScaleDown ≡ pos 75 → size_of m (record initial { depth = 1 }) ≡ pos 12288
+unfolding size_of rounded
+size-script m percent = rw percent refl
+
+-- 16384 * 0.5 * 0.71 is 5816.32
+pub size-third_level : (m : MetricsValue) → percent_of m ScriptScriptPercentScaleDown ≡ pos 50 → size_of m (record initial { depth = 3 }) ≡ pos 5816
+unfolding size_of rounded
+size-third_level m percent = rw percent refl
+
+-- a size that was given below grows above: 16384 / 0.75 is 21845.33
+pub size-above : (m : MetricsValue) → percent_of m ScriptPercentScaleDown ≡ pos 75 → size_of m (record initial { base_depth = 1 }) ≡ pos 21845
+unfolding size_of rounded
+size-above m percent = rw percent refl
+
+-- at the depth at which it was given a size is itself, also 0
+pub size-given : (m : MetricsValue) → percent_of m ScriptScriptPercentScaleDown ≡ pos 200 → size_of m (record initial { base = pos 0; base_depth = 9; depth = 9 }) ≡ pos 0
+unfolding size_of rounded
+size-given m percent = rw percent refl
+
+-- 1024 px are in range, and no more
+pub in_range-last : in_range_of (pos 1048576) ≡ Some (pos 1048576)
+unfolding in_range_of
+in_range-last = refl
+
+pub in_range-next : in_range_of (pos 1048577) ≡ None
+unfolding in_range_of
+in_range-next = refl

@@ -1,0 +1,4 @@
+pub mod Sizes
+pub mod Rules
+pub mod Words
+pub mod Styles
