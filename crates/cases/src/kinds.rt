@@ -3,6 +3,7 @@ mod category;
 mod elements;
 mod facts;
 mod fits;
+mod glyph;
 mod half;
 mod length;
 mod metrics;
@@ -37,6 +38,7 @@ pub fn answer(kind: &str, case: Case) -> Result<Answer, Fault> {
         "check" => run::answer_command("check", case),
         "facts" => facts::answer(case),
         "fits" => fits::answer(case),
+        "glyph" => glyph::answer(case),
         "half" => half::answer(case),
         "layout" => run::answer_command("layout", case),
         "length" => length::answer(case),

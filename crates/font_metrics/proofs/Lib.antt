@@ -16,6 +16,7 @@ pub mod Bounds
 pub mod Worked
 pub mod LookBack
 pub mod FileLaws
+pub mod WorkedLookups
 pub mod WorkedPrints
 pub mod ReadBack
 mod Padding

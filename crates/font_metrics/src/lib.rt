@@ -53,6 +53,3 @@ pub use mark::Mark;
 pub use metrics::Metrics;
 pub use read::read_metrics;
 pub use refusal::{MetricsFault, MetricsRefusal};
-
-#[cfg(test)]
-mod tests;

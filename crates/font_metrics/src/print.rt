@@ -129,6 +129,3 @@ fn print_operators(operators: &Extra, lines: &mut PrintedLines) -> Result<(), Me
     }
     Ok(())
 }
-
-#[cfg(test)]
-mod tests;

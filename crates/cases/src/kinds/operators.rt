@@ -3,7 +3,7 @@
 use crate::fault::Fault;
 use crate::fields::Fields;
 use crate::kinds::Case;
-use op_dictionary::{Extra, Form, OpText};
+use op_dictionary::{Axis, Extra, Form, OpText};
 
 /// The operator lines that count: those of the file that the key `metrics` names, else none.
 pub fn lines_in(case: Case, fields: Fields) -> Result<Extra, Fault> {
@@ -49,5 +49,12 @@ pub fn op_text(text: &str) -> OpText {
             OpText::Two(first, second)
         }
         _ => OpText::Other,
+    }
+}
+
+pub fn axis_name(axis: Axis) -> &'static str {
+    match axis {
+        Axis::Block => "block",
+        Axis::Inline => "inline",
     }
 }
