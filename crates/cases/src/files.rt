@@ -2,16 +2,13 @@ use crate::fault::Fault;
 use crate::numbered::Span;
 use doc_io::{Inputs, read_all};
 use fixed_units::List;
-use font_metrics::{Metrics, read_metrics};
+use font_metrics::{MOST_FILE_BYTES, Metrics, read_metrics};
 use indexmap::IndexMap;
 use std::alloc::Global;
 
 /// The most bytes that a file may have: more than any limit of the program that is tried, so that
 /// a rule with too large numbers ends.
 const MOST_BYTES: usize = 67_108_864;
-
-/// The most bytes that a metrics file may have.
-pub const MOST_METRICS_BYTES: usize = 8_388_608;
 
 /// The files that are known, by their names.
 #[derive(Drop)]
@@ -99,7 +96,7 @@ impl KnownFiles {
     /// The metrics of a known file.
     pub fn metrics(&self, alloc: Global, name: &str) -> Result<Metrics, Fault> {
         let bytes = self.bytes(name)?;
-        if bytes.len() <= MOST_METRICS_BYTES {
+        if bytes.len() <= MOST_FILE_BYTES {
             Ok(read_metrics(alloc, bytes)?)
         } else {
             Err(Fault::FileTooLong)

@@ -8,7 +8,7 @@ use Rattle.doc_io.specs.Whole.{ReadsAll}
 use Rattle.doc_io.specs.declared.whole.ReadRefusal.{ReadRefusal}
 use Rattle.doc_io.specs.declared.whole.ReadRefusal.TheVariants as reading
 use Rattle.font_metrics.specs.Metrics.{MetricsValue}
-use Rattle.font_metrics.specs.Reading.{Fault, metrics_of}
+use Rattle.font_metrics.specs.Reading.{Fault, metrics_of, most_file_bytes}
 use Rattle.math_tree.specs.Trees.{TreeValue}
 use Rattle.math_tree.specs.Reading.{tree_of}
 use Rattle.math_tree.specs.declared.fault.TreeFault.{TreeFault}
@@ -17,7 +17,7 @@ use Rattle.serde_json.specs.Read.{read}
 use Rattle.std.specs.Str.{IsUtf8, is_utf8}
 use Rattle.std.proofs.lemmas.Str.{IsUtf8-from_is_utf8, is_utf8-from_IsUtf8}
 use Rattle.commands.specs.Refusals.{of_reading}
-use Rattle.commands.specs.Answer.{metrics_limit, tree_limit, content, of_metrics_file, metrics_in, json_in, of_tree_file, tree_of_json, tree_in}
+use Rattle.commands.specs.Answer.{tree_limit, content, of_metrics_file, metrics_in, json_in, of_tree_file, tree_of_json, tree_in}
 use Rattle.commands.specs.Ends.{IsCut, GivesOr, Answers}
 use Rattle.commands.specs.declared.refusal.Refusal.{Refusal}
 use Rattle.commands.specs.declared.refusal.Refusal.TheVariants.{MetricsLong, TreeLong, TreeJson, ReadFault, Memory}
@@ -124,23 +124,23 @@ metrics_no_fault : (said : Result MetricsValue Fault) → of_metrics_file said �
 metrics_no_fault (Ok metrics) h = cc
 metrics_no_fault (Err fault) h = let e = err_same _ ReadFault h in cc
 
-metrics_short : (bytes : List ℕ) → length bytes ≤ metrics_limit → metrics_in bytes ≡ of_metrics_file (metrics_of bytes)
+metrics_short : (bytes : List ℕ) → length bytes ≤ most_file_bytes → metrics_in bytes ≡ of_metrics_file (metrics_of bytes)
 unfolding metrics_in
-metrics_short bytes short = let no : nat_lt metrics_limit (length bytes) ≡ false = le-ltb metrics_limit (length bytes) short in rw no refl
+metrics_short bytes short = let no : nat_lt most_file_bytes (length bytes) ≡ false = le-ltb most_file_bytes (length bytes) short in rw no refl
 
-pub metrics_long : (bytes : List ℕ) → metrics_limit < length bytes → metrics_in bytes ≡ Err MetricsLong
+pub metrics_long : (bytes : List ℕ) → most_file_bytes < length bytes → metrics_in bytes ≡ Err MetricsLong
 unfolding metrics_in
-metrics_long bytes long = let yes : nat_lt metrics_limit (length bytes) ≡ true = lt-ltb metrics_limit (length bytes) long in rw yes refl
+metrics_long bytes long = let yes : nat_lt most_file_bytes (length bytes) ≡ true = lt-ltb most_file_bytes (length bytes) long in rw yes refl
 
 -- the bytes that were read, as they were handed on
 pub metrics_read : (name bytes shown : List ℕ) (before after : InputsTold) (result : Result MetricsValue Refusal)
-    → ReadsAll before after name metrics_limit (Ok bytes)
+    → ReadsAll before after name most_file_bytes (Ok bytes)
     → shown ≡ bytes → GivesOr (of_metrics_file (metrics_of shown)) result
     → Answers (option_map (λ f. metrics_in (content f name)) before.files) (λ f. f name ≡ None) before after result
 metrics_read name bytes shown before after result reads is gives =
     let whole : metrics_in bytes ≡ of_metrics_file (metrics_of shown) =
     metrics_short bytes reads.short ∙ ap (λ b. of_metrics_file (metrics_of b)) (sym is) in
-    read_whole metrics_in metrics_limit name before after bytes result reads
+    read_whole metrics_in most_file_bytes name before after bytes result reads
     (subst (λ w. GivesOr w result) (sym whole) gives)
     (λ fault. metrics_no_fault (metrics_of shown) (sym whole ∙ fault))
 

@@ -6,7 +6,7 @@ use Rattle.serde_json.specs.Read.{read}
 use Rattle.doc_io.specs.Causes.{Files}
 use Rattle.font_metrics.specs.Metrics.{MetricsValue}
 use Rattle.font_metrics.specs.Print.{print_of as metrics_print}
-use Rattle.font_metrics.specs.Reading.{Fault, metrics_of}
+use Rattle.font_metrics.specs.Reading.{Fault, metrics_of, most_file_bytes}
 use Rattle.font_metrics.specs.Reads.{told}
 use Rattle.math_tree.specs.Built.{is_built}
 use Rattle.math_tree.specs.Print.{print_of as tree_print}
@@ -26,10 +26,7 @@ use Rattle.commands.specs.declared.refusal.Refusal.TheVariants.{MetricsLong, Met
 
 -- ---- the two files
 
--- the most bytes that a metrics file may have, 8 MiB, and a tree file, 4 MiB
-abbrev pub metrics_limit : ℕ
-metrics_limit = 8388608
-
+-- the most bytes that a tree file may have: 4 MiB
 abbrev pub tree_limit : ℕ
 tree_limit = 4194304
 
@@ -45,7 +42,7 @@ of_metrics_file (Err fault) = Err (Metrics (told fault))
 -- the metrics of a file's bytes
 unfoldable pub metrics_in : List ℕ → Result MetricsValue Refusal
 metrics_in bytes =
-    if nat_lt metrics_limit (length bytes) then Err MetricsLong
+    if nat_lt most_file_bytes (length bytes) then Err MetricsLong
     else of_metrics_file (metrics_of bytes)
 
 -- the JSON value of a file's bytes: they are UTF-8, and `serde_json` reads the text

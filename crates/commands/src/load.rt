@@ -1,20 +1,17 @@
 ghost use Rattle.std.specs.Prelude.{◌≡◌, ◌≤◌, None, length};
 ghost use Rattle.std.specs.Option.{option_map};
-ghost use Rattle.commands.specs.Answer.{content, metrics_in, metrics_limit, tree_in, tree_of_json, json_in, of_metrics_file, of_tree_file};
+ghost use Rattle.commands.specs.Answer.{content, metrics_in, tree_in, tree_of_json, json_in, of_metrics_file, of_tree_file};
 ghost use Rattle.commands.specs.Ends.{Answers, GivesOr};
-ghost use Rattle.font_metrics.specs.Reading.{metrics_of};
+ghost use Rattle.font_metrics.specs.Reading.{metrics_of, most_file_bytes};
 ghost use Rattle.math_tree.specs.Reading.{tree_of};
 ghost use Rattle.serde_json.specs.View.{view};
 
 use crate::refusal::Refusal;
 use doc_io::{Inputs, read_all};
-use font_metrics::{Metrics, read_metrics};
+use font_metrics::{MOST_FILE_BYTES, Metrics, read_metrics};
 use math_tree::{Tree, read_tree};
 use serde_json::Value;
 use std::alloc::Global;
-
-/// The most bytes that a metrics file may have: 8 MiB.
-const METRICS_LIMIT: usize = 8_388_608;
 
 /// The most bytes that a tree file may have: 4 MiB.
 const TREE_LIMIT: usize = 4_194_304;
@@ -30,7 +27,7 @@ pub fn load_metrics<I: Inputs>(
         (λ files. files name.now ≡ None)
         (I.told inputs.old) (I.told inputs.new) result }
 {
-    match read_all(alloc, inputs, name, METRICS_LIMIT) {
+    match read_all(alloc, inputs, name, MOST_FILE_BYTES) {
         Ok(bytes) => metrics_of(alloc, bytes.as_slice()),
         Err(refusal) => Err(Refusal::of_reading(refusal, Refusal::MetricsLong)),
     }
@@ -38,7 +35,7 @@ pub fn load_metrics<I: Inputs>(
 
 /// The metrics of a file's bytes.
 fn metrics_of(alloc: Global, bytes: &[u8]) -> Result<Metrics, Refusal>
-    requires { length bytes.now ≤ metrics_limit }
+    requires { length bytes.now ≤ most_file_bytes }
     ensures { GivesOr (of_metrics_file (metrics_of bytes.now)) result }
 {
     Ok(read_metrics(alloc, bytes)?)

@@ -1,4 +1,4 @@
-/// What stretches an element: to where its parent asks it to reach (MathML Core 3.2.4.2,
+/// What stretches an element: to where its parent asks it to reach (MathML Core 3.2.4.3,
 /// "Layout of Operators"). Lengths are in units of 1/1024 px.
 #[derive(Clone, Copy, Debug, PartialEq, Eq)]
 pub enum Pull {

@@ -17,6 +17,10 @@ use Rattle.font_metrics.specs.Lines.{Words, Item, SaysUpem, SaysLine, SaysXHeigh
 use Rattle.font_metrics.specs.Metrics.{MetricsValue, along, with_item_along, is_full, place_of_name}
 use Rattle.font_metrics.specs.Taken.{most_glyphs, most_variants, most_parts}
 
+-- the most bytes that a file may have: 8 MiB
+abbrev pub most_file_bytes : ℕ
+most_file_bytes = 8388608
+
 -- ---- lines and words
 
 -- The lines of a file. A line feed ends a line, with a carriage return just before it if there is

@@ -51,5 +51,5 @@ pub use glyph::{Glyph, GlyphId};
 pub use growth::{Part, Variant};
 pub use mark::Mark;
 pub use metrics::Metrics;
-pub use read::read_metrics;
+pub use read::{MOST_FILE_BYTES, read_metrics};
 pub use refusal::{MetricsFault, MetricsRefusal};

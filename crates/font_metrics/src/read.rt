@@ -1,6 +1,6 @@
 ghost use Rattle.std.specs.Prelude.{◌≤◌, length};
 ghost use Rattle.font_metrics.specs.Reads.{Reads};
-ghost use Rattle.font_metrics.specs.Reading.{metrics_of};
+ghost use Rattle.font_metrics.specs.Reading.{metrics_of, most_file_bytes};
 
 use crate::given::Given;
 use crate::metrics::Metrics;
@@ -9,12 +9,15 @@ use crate::reader::take_first;
 use crate::refusal::{LineRefusal, MetricsRefusal};
 use std::alloc::Global;
 
-/// Reads a metrics file of at most 8,388,608 bytes.
+/// The most bytes that a metrics file may have: 8 MiB.
+pub const MOST_FILE_BYTES: usize = 8_388_608;
+
+/// Reads a metrics file of at most `MOST_FILE_BYTES`.
 ///
 /// Where the file has faults it answers the first: that of the first faulty line, and of this line
 /// the one that is looked for first.
 pub fn read_metrics(alloc: Global, bytes: &[u8]) -> Result<Metrics, MetricsRefusal>
-    requires { length bytes.now ≤ 8388608 }
+    requires { length bytes.now ≤ most_file_bytes }
     ensures reads { Reads (metrics_of bytes.now) result }
 {
     let (first, mut rest) = first_line(bytes);

@@ -3,10 +3,10 @@
 use crate::answer::Answer;
 use crate::fault::Fault;
 use crate::fields::{Fields, text_in};
-use crate::files::{MOST_METRICS_BYTES, is_line_feed};
+use crate::files::is_line_feed;
 use crate::kinds::Case;
 use fixed_units::List;
-use font_metrics::{MetricsRefusal, read_metrics};
+use font_metrics::{MOST_FILE_BYTES, MetricsRefusal, read_metrics};
 use serde_json::Value;
 use std::alloc::Global;
 
@@ -52,7 +52,7 @@ fn add_lines(lines: &[Value], edited: &mut List<u8>) -> Result<(), Fault> {
 
 /// Whether a file's bytes are sound metrics.
 fn answer_to(alloc: Global, file: &[u8]) -> Result<Answer, Fault> {
-    if MOST_METRICS_BYTES < file.len() {
+    if MOST_FILE_BYTES < file.len() {
         return Err(Fault::FileTooLong);
     }
     match read_metrics(alloc, file).err() {

@@ -1,5 +1,6 @@
 use Rattle.std.proofs.Common.{◌≡◌}
-use Rattle.commands.specs.Answer.{metrics_limit, metrics_in}
+use Rattle.commands.specs.Answer.{metrics_in}
+use Rattle.font_metrics.specs.Reading.{most_file_bytes}
 use Rattle.commands.specs.declared.refusal.Refusal.TheVariants.{MetricsLong, ReadFault}
 use Rattle.commands.proofs.Loading.{metrics_read, metrics_long, not_read}
 use Rattle.commands.proofs.load.load_metrics.Goals as goal
@@ -11,4 +12,4 @@ returns-in-Ok g c =
 pub returns-in-Err : goal.returns-in-Err
 returns-in-Err g c =
     let own : ¬ (MetricsLong ≡ ReadFault) = λ e. cc in
-    not_read metrics_in metrics_limit _ _ _ _ MetricsLong _ c.of_reading.ensures c.in-Err.ensures.reads metrics_long own
+    not_read metrics_in most_file_bytes _ _ _ _ MetricsLong _ c.of_reading.ensures c.in-Err.ensures.reads metrics_long own
