@@ -20,6 +20,15 @@ facts: fixed_units math_tree op_dictionary embellished serde_json anyhow
 """
 
 
+def copy_proofs(source, target):
+    """Copies the proofs, which end with .txt here: the gate takes no .antt file outside a crate."""
+    shutil.copytree(source, target)
+    for folder, _, names in os.walk(target):
+        for name in names:
+            path = os.path.join(folder, name)
+            os.rename(path, path.removesuffix(".txt") + ".antt")
+
+
 def main():
     with tempfile.TemporaryDirectory() as folder:
         with open(os.path.join(folder, "crates.txt"), "w") as file:
@@ -28,7 +37,7 @@ def main():
             source = os.path.join(HERE, "..", "crates", name)
             shutil.copytree(source, os.path.join(folder, "crates", name))
         program = os.path.join(folder, "crates", "facts")
-        shutil.copytree(os.path.join(HERE, "facts", "proofs"), os.path.join(program, "proofs"))
+        copy_proofs(os.path.join(HERE, "facts", "proofs"), os.path.join(program, "proofs"))
         os.makedirs(os.path.join(program, "src"))
         shutil.copy(os.path.join(HERE, "facts", "main.txt"), os.path.join(program, "src", "main.rt"))
         subprocess.run(["rt", "run"], cwd=program, check=True)
