@@ -1,3 +1,4 @@
 pub mod Bounds
 pub mod Gaps
+pub mod LimitBounds
 pub mod Worked

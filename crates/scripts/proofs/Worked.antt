@@ -10,6 +10,9 @@ use Rattle.op_dictionary.specs.declared.operator.Axis.TheVariants.{Inline as Sid
 use Rattle.row_stretch.specs.declared.parts.KidPull.{KidPull}
 use Rattle.row_stretch.specs.Questions.{planned, asks_from}
 use Rattle.scripts.specs.Beside.{spot, sub_x_of, sup_x_of, ending_at_of, sub_of, sup_of, sub_sup_of}
+use Rattle.scripts.specs.declared.parts.LimitCase.TheVariants.{Large, Plain}
+use Rattle.scripts.specs.LimitGaps.{above_of, below_of, distance_of, extra_of}
+use Rattle.scripts.specs.Limits.{lean_of, middle_of, leaning_of, under_x_of, over_x_of, under_limit_of, over_limit_of, whole_of, attached_of, spot_in_of, limits_of, under_over_of}
 use Rattle.scripts.specs.Lengths.{sub_lengths_of, sup_lengths_of, pair_lengths_of}
 use Rattle.scripts.specs.Questions.{first_limit_asks_of, second_limit_asks_of}
 use Rattle.scripts.specs.Shifts.{sub_shift_of, sup_shift_of, lack_of, rise_of, moved_apart_of, pair_shifts_of}
@@ -40,6 +43,12 @@ box width ascent descent ink_ascent ink_descent = record {
   ink_descent = ink_descent;
   italic = pos 0;
   accent = halved width;
+}
+
+-- and those of limits
+abbrev limited : MetricsValue
+limited = record sample {
+  constants = (6, pos 512) ∷ (18, pos 100) ∷ (19, pos 200) ∷ (20, pos 100) ∷ (21, pos 600) ∷ (43, pos 100) ∷ (45, pos 40) ∷ [];
 }
 
 -- the digit 1 at 12 px, a sum sign and x at 16 px, a space of 10 px above the baseline
@@ -118,3 +127,56 @@ first-pulled = refl
 second-pulled : second_limit_asks_of (arrow ∷ plain ∷ arrow ∷ []) (Block (pos 5) (pos 3)) (sum ∷ one ∷ []) ≡ record { kid = 2; pull = Inline (pos 16000) } ∷ []
 unfolding asks_from planned
 second-pulled = refl
+
+-- ---- limits of a sum sign of display size: the underscript lies 8704 and the larger of 9600 and 9760
+-- below it
+abbrev large_sum : MathBox
+large_sum = box (pos 22400) (pos 16896) (pos 8704) (pos 16896) (pos 8704)
+
+sum-limit_under : (under_over_of limited large_sum (Some one) None Large false false (pos 16384)).under ≡ spot (pos 8128) (pos 18464)
+unfolding under_limit_of below_of distance_of extra_of under_x_of middle_of lean_of whole_of attached_of spot_in_of limits_of raised joined constant_of scale_of rounded halved
+sum-limit_under = refl
+
+-- the hat is wider than the letter, which moves right
+abbrev hat : MathBox
+hat = box (pos 10240) (pos 14400) (pos 4800) (pos 11520) (neg_ℤ (pos 8000))
+
+letter-hat : under_over_of limited letter None (Some hat) Plain true false (pos 16384) ≡ record {
+  frame = record {
+    width = pos 10240;
+    ascent = pos 14592;
+    descent = pos 4800;
+    ink_ascent = pos 11712;
+    ink_descent = pos 128;
+    italic = pos 0;
+    accent = pos 5120;
+  };
+  base = spot (pos 480) (pos 0);
+  under = spot (pos 0) (pos 0);
+  over = spot (pos 0) (neg_ℤ (pos 192));
+}
+unfolding over_limit_of above_of distance_of extra_of over_x_of leaning_of middle_of lean_of whole_of attached_of spot_in_of limits_of raised joined constant_of scale_of rounded halved
+letter-hat = refl
+
+-- over a letter, a digit that is no accent leaves 1600 and counts 640 more above
+letter-digit : (under_over_of limited letter None (Some one) Plain false false (pos 16384)).frame.ascent ≡ pos 20208
+unfolding over_limit_of above_of distance_of extra_of over_x_of leaning_of middle_of lean_of whole_of attached_of spot_in_of limits_of raised joined constant_of scale_of rounded halved
+letter-digit = refl
+
+-- an integral sign that leans by 4800 moves its limits apart by as much
+integral-limits : under_over_of limited integral (Some one) (Some one) Large false false (pos 16384) ≡ record {
+  frame = record {
+    width = pos 14400;
+    ascent = pos 36400;
+    descent = pos 27568;
+    ink_ascent = pos 33760;
+    ink_descent = pos 23968;
+    italic = pos 0;
+    accent = pos 7200;
+  };
+  base = spot (pos 0) (pos 0);
+  under = spot (pos 1728) (pos 23968);
+  over = spot (pos 6528) (neg_ℤ (pos 25600));
+}
+unfolding under_limit_of over_limit_of above_of below_of distance_of extra_of under_x_of over_x_of leaning_of middle_of lean_of whole_of attached_of spot_in_of limits_of raised joined constant_of scale_of rounded halved
+integral-limits = refl

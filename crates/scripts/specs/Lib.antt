@@ -1,5 +1,7 @@
 pub mod Beside
 pub mod Laws
 pub mod Lengths
+pub mod LimitGaps
+pub mod Limits
 pub mod Questions
 pub mod Shifts

@@ -23,3 +23,23 @@ pub struct Shifts {
     pub up: i64,
     pub down: i64,
 }
+
+/// As what the limits of a base are laid out.
+#[derive(Clone, Copy, Debug, PartialEq, Eq)]
+pub enum LimitCase {
+    /// As limits of a large operator.
+    Large,
+    /// Over and under a base that stretches to the sides.
+    Stretchy,
+    /// As bars or accents.
+    Plain,
+}
+
+/// A base with limits that is laid out. The place of a limit that isn't there is (0, 0).
+#[derive(Clone, Copy, Debug, PartialEq, Eq)]
+pub struct Limits {
+    pub frame: MathBox,
+    pub base: Spot,
+    pub under: Spot,
+    pub over: Spot,
+}

@@ -1,0 +1,42 @@
+use Rattle.std.proofs.Common.{◌^◌, arith, lit<, lit≤}
+use Rattle.std.proofs.lemmas.Int.{to_z-of_z}
+use Rattle.fixed_units.specs.Boxes.{raised}
+use Rattle.fixed_units.proofs.Within.{widened, sum_in, fits_i64}
+use Rattle.scripts.specs.Limits.{over_limit_of}
+use Rattle.scripts.proofs.limits.over_limit.Goals as goal
+
+pub overflow_add-result : goal.overflow_add-result
+unfolding raised
+overflow_add-result c =
+    let height = c.distance-height.ensures.within in
+    let extra = c.extra.ensures.within in
+    let ascent = sum_in c.requires.over_fits.ascent height in
+    let f = fits_i64 height (lit< tt) in
+    let g = fits_i64 ascent (lit< tt) in
+    let h = fits_i64 extra (lit< tt) in
+    let i = fits_i64 (sum_in ascent extra) (lit< tt) in
+    grind (arith, to_z-of_z)
+
+pub returns-clause-value : goal.returns-clause-value
+unfolding over_limit_of raised
+returns-clause-value c =
+    let height = c.distance-height.ensures.within in
+    let extra = c.extra.ensures.within in
+    let ascent = sum_in c.requires.over_fits.ascent height in
+    let e = fits_i64 c.over_x.ensures.within (lit< tt) in
+    let f = fits_i64 height (lit< tt) in
+    let g = fits_i64 ascent (lit< tt) in
+    let h = fits_i64 extra (lit< tt) in
+    let i = fits_i64 (sum_in ascent extra) (lit< tt) in
+    grind (arith, to_z-of_z)
+
+pub returns-clause-within : goal.returns-clause-within
+unfolding raised
+returns-clause-within c =
+    let height = c.distance-height.ensures.within in
+    let e = fits_i64 c.over_x.ensures.within (lit< tt) in
+    let f = fits_i64 height (lit< tt) in
+    let x = widened (2 ^ 36) c.over_x.ensures.within (lit≤ tt) in
+    let y = widened (2 ^ 36) height (lit≤ tt) in
+    let w = widened (2 ^ 36) c.requires.over_fits.width (lit≤ tt) in
+    record { x = grind (arith, to_z-of_z); height = grind (arith, to_z-of_z); width = grind (arith, to_z-of_z) }
