@@ -79,6 +79,16 @@ def facts(reference, _known, value):
     ])
 
 
+def facts_file(reference, known, value):
+    """The same of the element that a known file holds."""
+    content = known.content(text_in(value))
+    try:
+        element = reference.jsontext.read_json(content)
+    except reference.jsontext.NoReading:
+        raise LineFault(NOT_AN_ELEMENT) from None
+    return facts(reference, known, element)
+
+
 def only_child(reference, value):
     """An element that stands as only child of a `math`."""
     try:
@@ -181,6 +191,7 @@ KINDS = {
     "properties": properties,
     "shown": shown,
     "facts": facts,
+    "factsfile": facts_file,
     "tree": tree,
     "treefile": tree_file,
     "metrics": metrics,

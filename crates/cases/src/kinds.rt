@@ -37,6 +37,7 @@ pub fn answer(kind: &str, case: Case) -> Result<Answer, Fault> {
         "category" => category::answer(case),
         "check" => run::answer_command("check", case),
         "facts" => facts::answer(case),
+        "factsfile" => facts::answer_file(case),
         "fits" => fits::answer(case),
         "glyph" => glyph::answer(case),
         "half" => half::answer(case),

@@ -11,8 +11,8 @@ use std::{fs, io};
 /// The files of the system, by their paths. Of their content nothing is told but what the readers
 /// that `R` opens tell, and those of a real system tell nothing: trust begins here.
 ///
-/// Each error of the system raises one count by one: `missing` where the file isn't found, else
-/// `faults`. A directory opens like a file, and reading it is a fault.
+/// Each `Failed` raises one count by one: `missing` where the file isn't found, else `faults`. A
+/// directory opens like a file, and reading it is a fault.
 #[derive(Drop)]
 pub struct FileInputs<'a, R: Files> {
     rt: &'a R,
@@ -117,7 +117,7 @@ impl<'a, R: Files> Inputs for FileInputs<'a, R> {
 /// A writer of the system, as standard output, of whose content nothing is told but what the writer
 /// itself tells, and standard output tells nothing.
 ///
-/// Each error of the system raises the count by one, and so does a write that took no byte.
+/// Each `Failed` raises the count by one: an error of the system, or a write that took no byte.
 #[derive(Drop)]
 pub struct StdSink<W: Write + Drop> {
     out: W,

@@ -53,10 +53,12 @@ fn standard_output_takes_a_piece(rt: HostRuntime) {
 }
 
 // Prints nothing: it takes three bytes a call while it has room. Then it takes none, or it breaks.
+// Where it is interrupted, its next call fails all the same, once.
 #[derive(Drop)]
 struct Narrow {
     room: Cell<usize>,
     breaks: bool,
+    interrupted: Cell<bool>,
 }
 
 impl Print for Narrow {
@@ -73,6 +75,9 @@ impl Print for Narrow {
     }
 
     fn write_some(&self, bytes: &[u8]) -> io::Result<usize> {
+        if self.interrupted.replace(false) {
+            return Err(io::Error::from(ErrorKind::Interrupted));
+        }
         let room = self.room.get();
         if room == 0 && self.breaks {
             return Err(io::Error::from(ErrorKind::BrokenPipe));
@@ -89,9 +94,16 @@ fn an_output_that_takes_no_byte_or_breaks_has_failed(rt: HostRuntime) {
         let narrow = Narrow {
             room: Cell::new(8),
             breaks,
+            interrupted: Cell::new(true),
         };
         let mut out = StdSink::make(io::writer(&narrow));
-        for (want, room) in [(Ok(()), 4), (Ok(()), 0), (Err(WriteFault), 0)] {
+        for (want, room) in [
+            // An interrupted call isn't tried again.
+            (Err(WriteFault), 8),
+            (Ok(()), 4),
+            (Ok(()), 0),
+            (Err(WriteFault), 0),
+        ] {
             assert!(rt; write_all(&mut out, b"box ") == want);
             assert!(rt; narrow.room.get() == room);
         }

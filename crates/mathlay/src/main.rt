@@ -5,7 +5,8 @@
 //! `commands::run`, which does all that the program does, and ends with the number of its status.
 //!
 //! - Models: the words and the exit status of a POSIX program.
-//! - Proved: the exit status is that of a run of the words (`specs/Exit.antt`).
+//! - Proved: of the words that it is given, `exit_code` ends with the status of a run
+//!   (`specs/Exit.antt`). That it is given those of the environment is tested.
 //! - Knows nothing of: what the words mean.
 //! - Change what is answered: `crates/commands`.
 #![tactic(auto)]

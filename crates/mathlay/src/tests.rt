@@ -45,9 +45,10 @@ impl Env for Made {
 
 #[test]
 fn words_lead_to_an_exit_status(rt: HostRuntime) -> Result<(), Fail> {
-    let rows: [(&'static [&'static [u8]], usize, u8, &[u8]); 8] = [
+    let rows: [(&'static [&'static [u8]], usize, u8, &[u8]); 9] = [
         (&[b"mathlay", b"layout", b"m", b"t"], 100, 0, EMPTY_BOX),
         (&[b"mathlay", b"layout", b"m"], 100, 2, USAGE),
+        (&[b"mathlay", b"layout", b"m", b"t", b"t"], 100, 2, USAGE),
         // words that are no text
         (&[b"mathlay", b"layout", b"m", b"\xff"], 100, 2, USAGE),
         // not even the program's name

@@ -1,4 +1,5 @@
-//! `facts`: what an element is among operators, and the forms of its children.
+//! `facts`: what an element is among operators, and the forms of its children. `factsfile`: the
+//! same of an element that a file holds.
 
 use crate::answer::Answer;
 use crate::fault::Fault;
@@ -7,6 +8,7 @@ use crate::kinds::elements::{add_code, form_letter, truth_letter};
 use embellished::{Core, Facts, NodeView, View, fences_of, form_within, known_of};
 use math_tree::{Kind, Node, read_part};
 use op_dictionary::{Form, OpText};
+use serde_json::Value;
 use std::alloc::{AllocError, Global};
 use std::fmt::Write;
 
@@ -14,8 +16,21 @@ use std::fmt::Write;
 const MOST_CHILDREN: usize = 65_535;
 
 pub fn answer(case: Case) -> Result<Answer, Fault> {
-    let element = read_part(case.alloc, case.value)?;
-    answer_of(case.alloc, &element)
+    answer_to(case.alloc, case.value)
+}
+
+pub fn answer_file(case: Case) -> Result<Answer, Fault> {
+    let name = case.value.as_str().ok_or(Fault::WrongValue)?;
+    match Value::from_slice(case.alloc, case.files.bytes(name)?) {
+        Ok(value) => answer_to(case.alloc, &value),
+        Err(error) if error.is_memory() => Err(Fault::Memory),
+        Err(_) => Err(Fault::NotAnElement),
+    }
+}
+
+fn answer_to(alloc: Global, value: &Value) -> Result<Answer, Fault> {
+    let element = read_part(alloc, value)?;
+    answer_of(alloc, &element)
 }
 
 fn answer_of(alloc: Global, element: &Node) -> Result<Answer, Fault> {
