@@ -1,0 +1,1 @@
+"""What the companion tools share: fonts, metrics files, MathML, marks and pictures."""

@@ -1,0 +1,175 @@
+"""Fonts with a MATH table, read through fontTools: names, ink and outlines of their glyphs, in design units."""
+
+import logging
+import re
+import struct
+from contextlib import contextmanager
+from dataclasses import dataclass
+from functools import cached_property
+from io import BytesIO
+from math import ceil, floor
+from pathlib import Path
+
+from companion.command import Fault, one_line, read
+from companion.metrics import FIT_NAME
+
+try:
+    from fontTools.pens.boundsPen import BoundsPen
+    from fontTools.pens.svgPathPen import SVGPathPen
+    from fontTools.ttLib import TTFont
+except ImportError:
+    TTFont = None
+
+NO_FONT_TOOLS = "fontTools is missing: install Debian's python3-fonttools, and run Debian's own /usr/bin/python3"
+
+MISSING = "missing"
+EMPTY = "invisible"
+
+
+@contextmanager
+def reading(path):
+    """fontTools raises whatever its parsing meets: all of it says that the file can't be read."""
+    try:
+        yield
+    except Fault:
+        raise
+    except Exception as fault:
+        told = f"{type(fault).__name__}: {fault}" if str(fault) else type(fault).__name__
+        raise Fault(f"{path}: can't be read as a font: {one_line(told)}") from None
+
+
+@dataclass
+class MathFont:
+    """A font and its MATH table. `names` gives each glyph the name that it has in a metrics file, one to one."""
+
+    path: str
+    font: object
+    names: dict
+
+    @property
+    def upem(self):
+        """Design units an em."""
+        with reading(self.path):
+            return self.font["head"].unitsPerEm
+
+    @property
+    def math(self):
+        """The MATH table."""
+        return self.font["MATH"].table
+
+    @cached_property
+    def characters(self):
+        """The glyph of each character, by code; nothing where the font has no Unicode map."""
+        return self.font.getBestCmap() or {}
+
+    def told(self, *numbers):
+        """What the font's table of names tells under these numbers, in ASCII."""
+        texts = [self.font["name"].getDebugName(number) for number in numbers] if "name" in self.font else []
+        return one_line(" ".join(text for text in texts if text)).encode("ascii", "replace").decode()
+
+    @property
+    def title(self):
+        """The full name and the version, or else the file's name."""
+        return self.told(4, 5) or Path(self.path).name
+
+    @property
+    def copyright(self):
+        """The line on copyright."""
+        return self.told(0)
+
+    def advance(self, glyph):
+        """How wide a glyph is."""
+        return self.font["hmtx"][glyph][0]
+
+    def bounds(self, glyph):
+        """The ink of a glyph as (left, bottom, right, top), or none. A part of a unit counts as a whole one."""
+        with reading(self.path):
+            pen = BoundsPen(self.outlines)
+            self.outlines[glyph].draw(pen)
+        if pen.bounds is None:
+            return None
+        left, bottom, right, top = pen.bounds
+        return floor(left), floor(bottom), ceil(right), ceil(top)
+
+    def path_of(self, glyph):
+        """The outline of a glyph as an SVG path, y growing upward."""
+        with reading(self.path):
+            pen = SVGPathPen(self.outlines, ntos=lambda number: f"{number:.2f}".rstrip("0").rstrip("."))
+            self.outlines[glyph].draw(pen)
+        return pen.getCommands()
+
+    @cached_property
+    def outlines(self):
+        """What draws each glyph, by its name in the font."""
+        return self.font.getGlyphSet()
+
+
+def open_font(path):
+    """The font of a file; of a collection, its first font that has a MATH table. Raises a Fault."""
+    if TTFont is None:
+        raise Fault(NO_FONT_TOOLS)
+    logging.getLogger("fontTools").setLevel(logging.CRITICAL + 1)
+    data = read(path)
+    with reading(path):
+        check_whole(path, data)
+        fonts = [TTFont(BytesIO(data), fontNumber=number, lazy=True) for number in range(fonts_in(data))]
+        found = next((font for font in fonts if "MATH" in font), None)
+        if found is None:
+            raise Fault(f"{path}: the font has no MATH table")
+        return MathFont(str(path), found, fit_names(found.getGlyphOrder()))
+
+
+def fonts_in(data):
+    """How many fonts a file holds."""
+    return struct.unpack_from(">L", data, 8)[0] if data[:4] == b"ttcf" else 1
+
+
+def check_whole(path, data):
+    """Raises a Fault where a file ends before its tables do."""
+    try:
+        ends = table_ends(path, data)
+    except struct.error:
+        raise Fault(f"{path}: is cut off: it ends before its list of tables does") from None
+    if max(ends, default=0) > len(data):
+        raise Fault(f"{path}: is cut off: it has {len(data)} bytes of {max(ends)}")
+
+
+def table_ends(path, data):
+    """Where the tables of a file end, or all of a compressed one; raises a Fault where it is no font."""
+    if data[:4] in (b"wOFF", b"wOF2"):
+        return [struct.unpack_from(">L", data, 8)[0]]
+    if data[:4] == b"ttcf":
+        places = struct.unpack_from(f">{fonts_in(data)}L", data, 12)
+        return [end for place in places for end in ends_of_font(data, place)]
+    if data[:4] in (b"\0\1\0\0", b"OTTO", b"true"):
+        return ends_of_font(data, 0)
+    raise Fault(f"{path}: isn't an OpenType font")
+
+
+def ends_of_font(data, place):
+    """Where each table ends of the font whose list of tables stands at this place of the file."""
+    count = struct.unpack_from(">H", data, place + 4)[0]
+    entries = [struct.unpack_from(">LL", data, place + 12 + 16 * at + 8) for at in range(count)]
+    return [offset + length for offset, length in entries]
+
+
+def fit_names(order):
+    """The name in a metrics file of each glyph of a font, in the font's order. The first glyph is the one that shows
+    what the font lacks. A name that doesn't fit the format, or that is taken, is changed until it fits and is free."""
+    names, taken = {}, {MISSING, EMPTY}
+    for place, glyph in enumerate(order):
+        if place == 0:
+            names[glyph] = MISSING
+        elif FIT_NAME.fullmatch(glyph) and glyph not in taken:
+            names[glyph] = glyph
+            taken.add(glyph)
+    for place, glyph in enumerate(order):
+        if glyph not in names:
+            stem = re.sub(r"[^A-Za-z0-9_.-]", "_", glyph, flags=re.ASCII)[:48] or "glyph"
+            name, number = f"{stem}.{place}", place
+            while name in taken:
+                number += len(order)
+                name = f"{stem}.{number}"
+            names[glyph] = name
+            taken.add(name)
+    return {glyph: names[glyph] for glyph in order}
