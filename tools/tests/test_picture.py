@@ -1,0 +1,184 @@
+"""Pictures of what a program writes. The program is a small one of the test's own: it writes lines that are given to it."""
+
+import re
+import shlex
+import sys
+from xml.etree import ElementTree
+
+import picture
+from companion.command import Fault
+from companion.marks import Box, Built, Glyph, pieces_of, read_marks
+from companion.metrics import Drawn, Part
+from companion.metrics import Glyph as Measured
+from tests.common import InFolder, make_font, needs_font_tools, run
+
+# Of each glyph its advance, and its ink as left, bottom, right and top; 1,024 units an em.
+GLYPHS = {
+    ".notdef": (512, (0, 0, 400, 600)),
+    "one": (512, (40, 0, 480, 680)),
+    "paren.bot": (500, (50, 0, 350, 600)), "paren.ext": (500, (50, 0, 150, 400)), "paren.top": (500, (50, 0, 350, 600)),
+    "fix": (300, (0, -10, 90, 290)), "bracket.ext": (300, (0, 20, 90, 220)),
+    "left": (301, (0, 500, 301, 600)), "line": (101, (0, 550, 101, 600)), "middle": (401, (0, 500, 401, 700)),
+    "right": (301, (0, 500, 301, 600)),
+}
+METRICS = """mathlay-metrics 1
+upem 1024
+line 900 300
+xheight 512
+""" + "".join(f"glyph {name.replace('.notdef', 'missing')} {advance} {top} {-bottom}\n"
+             for name, (advance, (_, bottom, _, top)) in GLYPHS.items()) + """glyph invisible 0 0 0
+vassembly one paren.bot FIX 0 200 600
+vassembly one paren.ext EXT 200 200 400
+vassembly one paren.top FIX 200 0 600
+vassembly fix fix FIX 80 80 300
+vassembly fix bracket.ext EXT 80 80 200
+hassembly middle left FIX 0 50 301
+hassembly middle line EXT 50 50 101
+hassembly middle middle FIX 50 50 401
+hassembly middle line EXT 50 50 101
+hassembly middle right FIX 50 0 301
+"""
+
+# Three assemblies, and where their pieces stand by hand. A unit is 16 units at size 16,384, 1 at 1,024 and 1/2 at 512.
+UPRIGHT = ("built 0 8193 16384 block one 2 2474", [
+    # 9600 - 2474 = 7126 above the first; 6400 - 2474 = 3926 above each extender
+    ("paren.bot", 0, 8193), ("paren.ext", 0, 1067), ("paren.ext", 0, -2859), ("paren.top", 0, -6785)])
+SUNK = ("built 100 0 1024 block fix 5 60", [
+    # 300 - 60 = 240, then 200 - 60 = 140 each; the ink of the first ends 10 below, that of the others 20 above their baseline
+    ("fix", 100, -10), ("bracket.ext", 100, -220), ("bracket.ext", 100, -360), ("bracket.ext", 100, -500),
+    ("bracket.ext", 100, -640), ("bracket.ext", 100, -780)])
+SIDEWAYS = ("built 50 -30 512 inline middle 2 10", [
+    # halves go up: 301/2 is 151, 101/2 is 51, 401/2 is 201; each less 10
+    ("left", 50, -30), ("line", 191, -30), ("line", 232, -30), ("middle", 273, -30), ("line", 464, -30), ("line", 505, -30),
+    ("right", 546, -30)])
+ASSEMBLIES = (UPRIGHT, SUNK, SIDEWAYS)
+
+SVG = "{http://www.w3.org/2000/svg}"
+
+
+class Pieces(InFolder):
+    def drawn(self):
+        from companion.metrics import read_drawn
+        return read_drawn(self.file("f.metrics", METRICS))
+
+    def test_three_assemblies_stand_where_the_format_says(self):
+        for line, pieces in ASSEMBLIES:
+            [built] = read_marks(line + "\n")
+            self.assertEqual([(piece.name, piece.x, piece.y) for piece in pieces_of(built, self.drawn())], pieces)
+
+    def test_an_extender_that_is_not_repeated(self):
+        [built] = read_marks("built 0 8193 16384 block one 0 800\n")
+        self.assertEqual([(piece.name, piece.y) for piece in pieces_of(built, self.drawn())],
+                         [("paren.bot", 8193), ("paren.top", 8193 - 8800)])
+
+    def test_lengths_are_rounded_to_the_nearest_unit_and_ties_up(self):
+        drawn = Drawn(1000, {}, {})
+        self.assertEqual([drawn.scale(value, 500) for value in (-3, -1, 0, 1, 3)], [-1, 0, 0, 1, 2])
+        self.assertEqual(drawn.scale(301, 512), 154)
+
+    def test_lines(self):
+        self.assertEqual(read_marks("box 1 math 0 -1 2 3 4 5 6\nglyph 1 2 3 one\n"),
+                         [Box(1, "math", 0, -1, 2, 3, 4, 5, 6), Glyph(1, 2, 3, "one")])
+        for line in ("glyph 1 2 3", "glyph 1 2 x one", "triangle 1", "rule 1 2 3 4 5", "built 1 2 3 block a 2"):
+            with self.assertRaisesRegex(Fault, "neither a box nor a mark"):
+                read_marks(line)
+        with self.assertRaisesRegex(Fault, "no assembly of one along the inline axis"):
+            pieces_of(Built(0, 0, 1, "inline", "one", 1, 1), self.drawn())
+
+    def test_what_is_read_of_metrics(self):
+        drawn = self.drawn()
+        self.assertEqual((drawn.upem, drawn.glyphs["fix"]), (1024, Measured("fix", 300, 290, 10)))
+        self.assertEqual(drawn.parts["v", "fix"], [Part("fix", False, 80, 80, 300), Part("bracket.ext", True, 80, 80, 200)])
+
+
+@needs_font_tools
+class Pictures(InFolder):
+    def setUp(self):
+        super().setUp()
+        self.font = str(self.folder / "font.ttf")
+        make_font(self.font, GLYPHS, {0x31: "one"})
+        self.metrics = self.file("f.metrics", METRICS)
+        self.tree = self.file("tree.json", '{"name":"math"}')
+
+    def program(self, text, status=0):
+        """A command that writes this text and ends with this status."""
+        script = self.file("program.py", f"import sys\nsys.stdout.write({text!r})\nsys.exit({status})\n")
+        return f"{shlex.quote(sys.executable)} {shlex.quote(script)}"
+
+    def draw(self, text, *words):
+        """The picture of what a program wrote, as an element."""
+        status, written, errors = run(picture, self.metrics, self.font, self.tree, "--program", self.program(text), *words)
+        self.assertEqual((status, errors), (0, ""))
+        return ElementTree.fromstring(written)
+
+    def test_pieces_of_three_assemblies(self):
+        for line, pieces in ASSEMBLIES:
+            svg = self.draw(f"box 1 math 0 0 100 0 0 0 0\n{line}\n")
+            found = [(use.get("href"), *map(int, re.match(r"translate\((\S+) (\S+)\)", use.get("transform")).groups()))
+                     for use in svg.iter(f"{SVG}use")]
+            self.assertEqual(found, [(f"#g-{name}", x, y) for name, x, y in pieces])
+
+    def test_glyphs_rules_and_frame(self):
+        svg = self.draw("box 1 math 0 0 8192 14400 4800 10880 0\nglyph 0 0 16384 one\nglyph 5 0 16384 invisible\n"
+                        "rule 9000 -100 50 40\nrule 0 0 0 40\n", "--zoom", "1")
+        # 2,048 units of margin round the box, and on the right round the rule's end at 9,050
+        self.assertEqual(svg.get("viewBox"), "-2048 -16448 13146 23296")
+        self.assertEqual((svg.get("width"), svg.get("height")), ("12.837891", "22.75"))
+        [use] = svg.iter(f"{SVG}use")
+        self.assertEqual((use.get("href"), use.get("transform")), ("#g-one", "translate(0 0) scale(16 -16)"))
+        [rule] = svg.iter(f"{SVG}rect")
+        self.assertEqual([rule.get(name) for name in ("x", "y", "width", "height")], ["9000", "-100", "50", "40"])
+        [outline] = svg.iter(f"{SVG}path")
+        self.assertEqual((outline.get("id"), outline.get("d")), ("g-one", "M40 0V680H480V0Z"))
+
+    def test_ink_outside_the_box_is_in_the_picture(self):
+        svg = self.draw("box 1 math 0 0 0 0 0 0 0\nglyph -1000 0 1024 fix\n")
+        # the ink is from -1000 to -910 and from 290 above to 10 below
+        self.assertEqual(svg.get("viewBox"), "-3048 -2338 5096 4396")
+
+    def test_boxes_on_top(self):
+        svg = self.draw("box 1 math 0 0 8192 14400 4800 10880 0\nbox 2 mn 10 20 30 -40 10 0 0\n", "--boxes")
+        self.assertEqual([text.text for text in svg.iter(f"{SVG}text")], ["1", "2"])
+        [frame] = svg.iter(f"{SVG}rect")
+        self.assertEqual([frame.get(name) for name in ("x", "y", "width", "height")], ["0", "-14400", "8192", "19200"])
+
+    def test_a_page_of_two(self):
+        program = self.program("box 1 math 0 0 1 1 1 1 1\nglyph 0 0 16384 one\n")
+        other = self.file("a&b.json", "{}")
+        status, written, _ = run(picture, "--html", self.metrics, self.font, self.tree, other, "--program", program)
+        self.assertEqual((status, written.count(b"<svg"), written.count(b"a&amp;b.json")), (0, 2, 1))
+        self.assertEqual(set(re.findall(rb'id="([^"]*)"', written)), {b"f1-one", b"f2-one"})
+        self.assert_refused(run(picture, self.metrics, self.font, self.tree, other, "--program", program), "say --html")
+
+    def test_missing_glyphs_are_told(self):
+        program = self.program("box 1 math 0 0 1 1 1 1 1\nglyph 0 0 16384 missing\n")
+        status, written, errors = run(picture, self.metrics, self.font, self.tree, "--program", program)
+        self.assertEqual((status, b"#g-missing" in written), (0, True))
+        self.assertEqual(errors, f"picture: {self.tree}: glyphs of characters that the metrics don't name, drawn as `missing`: 1\n")
+
+    def test_refusals_of_the_program(self):
+        target = self.folder / "out.svg"
+        for text, status, told in (("tree later\n", 4, "status 4, it refuses the tree: tree later"),
+                                   ("metrics 3 9\n", 3, "it refuses the metrics: metrics 3 9"), ("", 7, "it had no memory: it wrote nothing"),
+                                   ("", 1, "none of its refusals"), ("hello\n", 0, "neither a box nor a mark: hello")):
+            outcome = run(picture, self.metrics, self.font, self.tree, "--program", self.program(text, status), "-o", target)
+            self.assert_refused(outcome, told)
+        self.assertFalse(target.exists())
+
+    def test_programs_that_are_none(self):
+        for command, told in (("/nowhere/program", "No such file"), ("'", "No closing quotation"), (" ", "names no program")):
+            self.assert_refused(run(picture, self.metrics, self.font, self.tree, "--program", command), told)
+
+    def test_metrics_of_another_font(self):
+        program = self.program("box 1 math 0 0 1 1 1 1 1\nglyph 0 0 16384 two\n")
+        self.assert_refused(run(picture, self.metrics, self.font, self.tree, "--program", program), "has no glyph two")
+        wide = self.file("wide.metrics", METRICS.replace("upem 1024", "upem 1000"))
+        self.assert_refused(run(picture, wide, self.font, self.tree, "--program", program), "don't go together")
+        for text, told in (("glyph a 1 x 2\n", "line 1 isn't one"), ("", "has no line upem")):
+            self.assert_refused(run(picture, self.file("bad", text), self.font, self.tree, "--program", program), told)
+
+    def test_words(self):
+        self.assertEqual(run(picture, "--help")[0], 0)
+        for words in (("a", "b"), ("a", "b", "c", "--zoom", "0"), ("a", "b", "c", "--zoom", "nan")):
+            status, _, errors = run(picture, *words)
+            self.assertEqual((status, errors.count("\n")), (2, 1))
