@@ -13,8 +13,8 @@ called `missing`. U+2061 to U+2064, which show nothing, are a glyph `invisible` 
 
 With --operators, FILE's `operator` lines are added; tools/operators.txt has the operator dictionary of MathML Core.
 
-What the format can't hold is left out and told on standard error, a line for each kind of thing. Needs fontTools: Debian's
-package python3-fonttools, and /usr/bin/python3.
+What the format can't hold is left out or cut, and told on standard error in a line for each kind of thing. Needs fontTools:
+Debian's package python3-fonttools, and /usr/bin/python3.
 """
 
 import re
@@ -35,18 +35,19 @@ OPERATOR = re.compile(r"operator ([0-9A-Fa-f]{4,6})(?:\+([0-9A-Fa-f]{4,6}))? (pr
 
 
 class Losses(Counter):
-    """What was left out or cut, with how often."""
+    """What was left out or changed, with how often."""
 
     def cut(self, value, bounds, what):
         """The value, brought within the bounds."""
         least, most = bounds
         if least <= value <= most:
             return value
-        self[f"{what} brought within {least} and {most}"] += 1
+        self[f"brought within {least} and {most}: {what}"] += 1
         return min(max(value, least), most)
 
     def lines(self):
-        return [f"{count} {what}" if count > 1 else what for what, count in self.items()]
+        """A line for each kind of thing that happened."""
+        return [f"{what} ({count})" if count > 1 else what for what, count in self.items() if count]
 
 
 def main(argv=None):
@@ -69,7 +70,7 @@ def work(words):
     if len(data) > MOST_BYTES:
         raise Fault(f"{words.font}: makes {len(data)} bytes of metrics; the format has at most {MOST_BYTES}")
     for line in losses.lines():
-        command.warn("font_metrics", f"{words.font}: left out: {line}")
+        command.warn("font_metrics", f"{words.font}: {line}")
     return data
 
 
@@ -80,9 +81,10 @@ def read_operators(path):
         if not line.strip() or line.startswith("#"):
             continue
         found = OPERATOR.fullmatch(" ".join(line.split()))
-        if found is None or not all(is_scalar(code, found[2] is not None) for code in found.group(1, 2) if code):
+        codes = [int(code, 16) for code in found.group(1, 2) if code] if found else []
+        if not codes or not all(is_scalar(code, len(codes)) for code in codes):
             raise Fault(f"{path}: line {number} isn't an operator line")
-        pair = (found[1].upper(), (found[2] or "").upper(), found[3])
+        pair = (*codes, found[3])
         if pair in seen:
             raise Fault(f"{path}: line {number} has an operator and form that stood before")
         seen.add(pair)
@@ -90,10 +92,9 @@ def read_operators(path):
     return lines
 
 
-def is_scalar(code, of_pair):
-    """Whether a code is one of a character, of those that a pair may have."""
-    value = int(code, 16)
-    return value <= (0xFFFF if of_pair else 0x10FFFF) and not 0xD800 <= value <= 0xDFFF
+def is_scalar(code, count):
+    """Whether a code is that of a character, and one that an operator of so many characters may have."""
+    return code <= (0x10FFFF if count == 1 else 0xFFFF) and not 0xD800 <= code <= 0xDFFF
 
 
 def metrics_of(font, losses):
@@ -114,7 +115,7 @@ def metrics_of(font, losses):
     used = glyphs_used(font, characters, stretches, losses)
     add_glyphs(metrics, font, used, losses)
     add_references(metrics, font, characters, stretches, set(used))
-    tell_of_rest(font, used, losses)
+    count_kerns(font, used, losses)
     return metrics
 
 
@@ -136,7 +137,7 @@ def xheight_of(font, losses):
     glyph = font.characters.get(ord("x"))
     ink = font.bounds(glyph) if glyph else None
     if ink is None or ink[3] <= 0:
-        losses["height of an x, which the font doesn't tell: 0"] += 1
+        losses["the font tells no height of an x: 0 is written"] += 1
         return 0
     return losses.cut(ink[3], LENGTHS, "height of an x")
 
@@ -145,7 +146,7 @@ def constants_of(font, losses):
     """The constants by name, in the format's order."""
     table = font.math.MathConstants
     if table is None:
-        losses["constants, which the font lacks"] += 1
+        losses["the font has no constants"] += 1
         return {}
     values = {name: getattr(table, name, None) for name in CONSTANTS}
     return {name: losses.cut(getattr(value, "Value", value), (0, 200) if name in SCALE_DOWNS else SIGNED, name)
@@ -169,15 +170,15 @@ def stretches_of(font, losses, bases):
 def stretch_of(construction, losses):
     """The variants and the parts of a glyph along an axis, by the font's names."""
     variants = [(record.VariantGlyph, record.AdvanceMeasurement) for record in construction.MathGlyphVariantRecord or []]
-    losses["variants past the 64th of a glyph"] += max(0, len(variants) - MOST_VARIANTS)
+    losses["left out: variants past the 64th of a glyph"] += max(0, len(variants) - MOST_VARIANTS)
     assembly = construction.GlyphAssembly
     parts = [Part(record.glyph, bool(record.PartFlags & EXTENDER), record.StartConnectorLength, record.EndConnectorLength,
                   record.FullAdvance) for record in (assembly.PartRecords if assembly else [])]
     if len(parts) > MOST_PARTS:
-        losses["assemblies of more than 16 parts"] += 1
+        losses["left out: assemblies of more than 16 parts"] += 1
         parts = []
     elif parts and assembly.ItalicsCorrection and assembly.ItalicsCorrection.Value:
-        losses["italics corrections of assemblies"] += 1
+        losses["left out: italics corrections of assemblies"] += 1
     return Stretch(variants[:MOST_VARIANTS], parts)
 
 
@@ -190,7 +191,7 @@ def glyphs_used(font, characters, stretches, losses):
     first, *others = font.names
     ordered = [first, *(glyph for glyph in others if glyph in used)]
     room = MOST_GLYPHS - 1
-    losses[f"glyphs past the {MOST_GLYPHS:,} that the format holds"] += max(0, len(ordered) - room)
+    losses[f"left out: glyphs past the {MOST_GLYPHS:,} that the format holds"] += max(0, len(ordered) - room)
     return ordered[:room]
 
 
@@ -230,13 +231,11 @@ def add_references(metrics, font, characters, stretches, kept):
             [Part(font.names[part.name], part.extender, part.start, part.end, part.full) for part in stretch.parts if whole])
 
 
-def tell_of_rest(font, used, losses):
-    """Counts what the font has and the format has no line for."""
+def count_kerns(font, used, losses):
+    """Counts the glyphs that have corner kerns, for which the format has no line."""
     info = font.math.MathGlyphInfo
     if info and info.MathKernInfo:
-        losses["glyphs' corner kerns"] += len(set(info.MathKernInfo.MathKernCoverage.glyphs) & set(used))
-    for what in [what for what, count in losses.items() if count == 0]:
-        del losses[what]
+        losses["left out: corner kerns of glyphs"] += len(set(info.MathKernInfo.MathKernCoverage.glyphs) & set(used))
 
 
 if __name__ == "__main__":

@@ -70,7 +70,7 @@ class OfAFont(InFolder):
                      "operator 10000+0021 infix A block", "operator 110000 infix A block", "op", "operator 003D infix A"):
             lines = self.file("ops", "\n" + text + "\n")
             self.assert_refused(run(font_metrics, font, "--operators", lines), "line 2 isn't an operator line")
-        twice = self.file("ops", "operator 002b infix A block\noperator 002B infix B block\n")
+        twice = self.file("ops", "operator 002b infix A block\noperator 0002B infix B block\n")
         self.assert_refused(run(font_metrics, font, "--operators", twice), "line 2 has an operator and form that stood before")
 
     def test_no_math_table(self):
@@ -111,8 +111,8 @@ class OfAFont(InFolder):
         self.assertEqual(status, 0)
         self.assertEqual(written.count(b"vvariant"), 64)
         self.assertNotIn(b"vassembly", written)
-        told = [line.split("left out: ")[1] for line in errors.splitlines()]
-        self.assertEqual(told, ["6 variants past the 64th of a glyph", "assemblies of more than 16 parts", "glyphs' corner kerns"])
+        self.assertEqual([line.removeprefix(f"font_metrics: {font}: left out: ") for line in errors.splitlines()], [
+            "variants past the 64th of a glyph (6)", "assemblies of more than 16 parts", "corner kerns of glyphs"])
 
     def test_most_glyphs_that_a_font_file_can_count(self):
         """The number of glyphs has 16 bits in a font file: 65,535 is the most."""
@@ -129,7 +129,7 @@ class Glyphs(unittest.TestCase):
         losses = font_metrics.Losses()
         used = font_metrics.glyphs_used(font, {}, {("v", "g1"): Stretch([(name, 1) for name in order], [])}, losses)
         self.assertEqual(used, order[:65_534])
-        self.assertEqual(losses.lines(), ["2 glyphs past the 65,535 that the format holds"])
+        self.assertEqual(losses.lines(), ["left out: glyphs past the 65,535 that the format holds (2)"])
 
     def test_what_names_a_glyph_that_is_left_out_goes_too(self):
         metrics = SimpleNamespace(characters={}, stretches={})
@@ -150,7 +150,7 @@ class Glyphs(unittest.TestCase):
     def test_cut_values(self):
         losses = font_metrics.Losses()
         self.assertEqual([losses.cut(value, (0, 9), "things") for value in (-1, 0, 9, 10)], [0, 0, 9, 9])
-        self.assertEqual(losses.lines(), ["2 things brought within 0 and 9"])
+        self.assertEqual(losses.lines(), ["brought within 0 and 9: things (2)"])
 
 
 class OperatorDictionary(unittest.TestCase):
