@@ -1,10 +1,11 @@
-ghost use Rattle.std.specs.Prelude.{◌≡◌, chars, string_bytes, IfOk, OnOk};
+ghost use Rattle.std.specs.Prelude.{◌≡◌, chars, string_bytes, encode_utf8_all, IfOk, OnOk};
 ghost use Rattle.embellished.specs.Texts.{joined, shown, two, op_text, with_piece};
+ghost use Rattle.unicode_normalization.specs.Forms.{nfc};
 
 use fixed_units::Memory;
 use op_dictionary::OpText;
 use std::alloc::Global;
-use unicode_normalization::to_nfc;
+use unicode_normalization::{IsNormalized, is_nfc_quick, to_nfc};
 
 /// The text that an element shows: without white space at its ends, with one space for each run of
 /// white space inside, and in Unicode's normal form C.
@@ -15,8 +16,18 @@ use unicode_normalization::to_nfc;
 pub fn shown_text(alloc: Global, text: &str) -> Result<String, Memory>
     ensures { IfOk result (λ made. string_bytes made ≡ shown text.now) }
 {
-    let joined = joined(alloc, text)?;
-    Ok(to_nfc(alloc, joined.as_str())?)
+    composed(alloc, joined(alloc, text)?)
+}
+
+/// The text in normal form C: itself, where a look at its characters shows that it is so already.
+fn composed(alloc: Global, text: String) -> Result<String, Memory>
+    ensures { IfOk result (λ made.
+        string_bytes made ≡ encode_utf8_all (nfc (chars (string_bytes text)))) }
+{
+    match is_nfc_quick(text.as_str().chars()) {
+        IsNormalized::Yes => Ok(text),
+        IsNormalized::No | IsNormalized::Maybe => Ok(to_nfc(alloc, text.as_str())?),
+    }
 }
 
 fn joined(alloc: Global, text: &str) -> Result<String, Memory>

@@ -20,8 +20,8 @@ covering_in a d axis false p q r = (widened (9 * 2 ^ 30) p (lit≤ tt), widened 
 -- an ascent, and what it leaves of a size
 rest_in : (ascent size : ℤ) → IsWithin (13 * 2 ^ 58 + 2 ^ 32) ascent → IsWithin (2 ^ 28) size → IsInReach (ascent, size -ℤ ascent)
 rest_in ascent size p q = record {
-  ascent = widened (2 ^ 62) p (lit≤ tt);
-  descent = widened (2 ^ 62) (difference_in q p) (lit≤ tt);
+  ascent = widened (7 * 2 ^ 59) p (lit≤ tt);
+  descent = widened (7 * 2 ^ 59) (difference_in q p) (lit≤ tt);
   total = record { low = let l = q.low in omega (arith, signed); high = let h = q.high in omega (arith, signed) };
 }
 
@@ -39,8 +39,8 @@ module _ (span : Span) (axis : ℤ) (above : IsWithin (9 * 2 ^ 30) span.0) (belo
 
   span_in : IsInReach span
   span_in = record {
-    ascent = widened (2 ^ 62) above (lit≤ tt);
-    descent = widened (2 ^ 62) below (lit≤ tt);
+    ascent = widened (7 * 2 ^ 59) above (lit≤ tt);
+    descent = widened (7 * 2 ^ 59) below (lit≤ tt);
     total = widened (2 ^ 35) (sum_in above below) (lit≤ tt);
   }
 
@@ -91,7 +91,7 @@ target_in (Inline width) symmetric least most axis p sizes r =
     let q : IsWithin (2 ^ 28) least = record { low = omega (arith, signed, sizes.low); high = sizes.high } in
     let w = max_in q (width_in width most least p sizes) in
     record {
-      ascent = widened (2 ^ 62) w (lit≤ tt);
-      descent = widened (2 ^ 62) (natural_in 0) (lit≤ tt);
+      ascent = widened (7 * 2 ^ 59) w (lit≤ tt);
+      descent = widened (7 * 2 ^ 59) (natural_in 0) (lit≤ tt);
       total = widened (2 ^ 35) (sum_in w (natural_in 0)) (lit≤ tt);
     }

@@ -1,5 +1,5 @@
 -- How high and how deep a stretched operator is to be (MathML Core 3.2.4.3, "Layout of operators").
-use Rattle.std.specs.Prelude.{ℤ, pos, ◌+ℤ◌, ◌-ℤ◌, ◌*ℤ◌, ◌≤ℤ◌, ◌^◌, int_lt, int_le, Bool, if◌then◌else◌, Option, Some, None, IfSome}
+use Rattle.std.specs.Prelude.{◌*◌, ℤ, pos, ◌+ℤ◌, ◌-ℤ◌, ◌*ℤ◌, ◌≤ℤ◌, ◌^◌, int_lt, int_le, Bool, if◌then◌else◌, Option, Some, None, IfSome}
 use Rattle.std.specs.Int.{int_max, int_min}
 use Rattle.fixed_units.specs.Numbers.{IsWithin, rounded, halved}
 use Rattle.fixed_units.specs.Boxes.{farthest}
@@ -75,6 +75,6 @@ pub record AreSizes (least : ℤ) (most : Option ℤ) : Type 0 where
 
 -- how far a target reaches: whatever share of it lies above the axis, it isn't long
 pub record IsInReach (span : Span) : Type 0 where
-  pub ascent : IsWithin (2 ^ 62) span.0
-  pub descent : IsWithin (2 ^ 62) span.1
+  pub ascent : IsWithin (7 * 2 ^ 59) span.0
+  pub descent : IsWithin (7 * 2 ^ 59) span.1
   pub total : IsWithin (2 ^ 35) (total span)

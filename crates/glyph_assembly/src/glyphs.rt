@@ -52,7 +52,8 @@ pub fn glyph_reach(metrics: &Metrics, glyph: GlyphId, axis: Axis, size: i64) -> 
     requires glyph { glyph.0 < length metrics.now.glyphs }
     requires size_low { pos 0 ≤ℤ size }
     requires size_high { size ≤ℤ pos (2 ^ 20) }
-    ensures { result ≡ reach_at metrics.now glyph.0 axis size }
+    ensures value { result ≡ reach_at metrics.now glyph.0 axis size }
+    ensures within { IsWithin (2 ^ 33) result }
 {
     let glyph = metrics.glyph(glyph);
     match axis {

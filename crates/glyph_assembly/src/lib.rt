@@ -2,7 +2,8 @@
 //!
 //! `shape` takes a glyph, an axis and the length to be reached, and gives the glyph's own form, one
 //! of its variants or an assembly of parts, with its box. `display_variant` gives the form of a
-//! large operator in display style.
+//! large operator in display style. `glyph_frame` and `glyph_reach` give the box and the reach of
+//! one glyph, and `target` what a stretched operator is to cover.
 //!
 //! - Models: MathML Core 5.3 ("Size variants for operators"); OpenType MATH, "MathVariants table".
 //! - Proved: each call is its definition, exactly (`specs/Shaping.antt`). An assembly has the least
@@ -23,6 +24,7 @@ mod shaping; // shape, display_variant
 mod sums; // Sums, over the parts of an assembly
 mod targets; // target
 
+pub use glyphs::{glyph_frame, glyph_reach};
 pub use shapes::{Shape, Shaped};
 pub use shaping::{display_variant, shape};
 pub use targets::target;

@@ -17,7 +17,7 @@ reach_is c =
     let target = back64 c.requires.target_in (lit< tt) in
     let size = back64 (size_in c.args.size c.requires.size_low c.requires.size_high) (lit< tt) in
     let fits : FitsSigned w64 c.glyph_reach.result = search rules in
-    let reach = to_z-of_z w64 c.glyph_reach.result fits ∙ c.glyph_reach.ensures ∙ ap (reach_at c.args.metrics.now c.args.glyph.0 c.args.axis) size in
+    let reach = to_z-of_z w64 c.glyph_reach.result fits ∙ c.glyph_reach.ensures.value ∙ ap (reach_at c.args.metrics.now c.args.glyph.0 c.args.axis) size in
     λ k. int_le (target k) (reach k)
 
 found_is : (c : After-first_reaching) → c.first_reaching.result

@@ -1,0 +1,4 @@
+pub mod Words
+pub mod Leaves
+pub mod Spelling
+pub mod Between

@@ -1,0 +1,5 @@
+pub mod Letters
+pub mod Lengths
+pub mod Space
+pub mod Token
+pub mod Operator
