@@ -90,7 +90,7 @@ impl Metrics {
         ensures value { result ≡ line_ascent_of self.now size }
         ensures within { IsWithin (2 ^ 32) result }
     {
-        self.scale(i64::from(self.needs.line.0), size)
+        self.length_at(self.needs.line.0, size)
     }
 
     /// The descent of a line of text at a font size, in units.
@@ -100,7 +100,7 @@ impl Metrics {
         ensures value { result ≡ line_descent_of self.now size }
         ensures within { IsWithin (2 ^ 32) result }
     {
-        self.scale(i64::from(self.needs.line.1), size)
+        self.length_at(self.needs.line.1, size)
     }
 
     /// One ex at a font size, in units.
@@ -110,7 +110,7 @@ impl Metrics {
         ensures value { result ≡ ex_of self.now size }
         ensures within { IsWithin (2 ^ 32) result }
     {
-        self.scale(i64::from(self.needs.x_height), size)
+        self.length_at(self.needs.x_height, size)
     }
 
     /// The least overlap of an assembly's connectors, in design units; 0 where absent.
@@ -196,6 +196,16 @@ impl Metrics {
         ensures within { IsWithin (2 ^ 16) result }
     {
         self.given_value(name).unwrap_or(0)
+    }
+
+    /// Design units that aren't negative, at a font size, in units.
+    fn length_at(&self, units: u16, size: i64) -> i64
+        requires size_low { pos 0 ≤ℤ size }
+        requires size_high { size ≤ℤ pos (2 ^ 20) }
+        ensures value { result ≡ scale_of self.now (pos units) size }
+        ensures within { IsWithin (2 ^ 32) result }
+    {
+        self.scale(i64::from(units), size)
     }
 
     /// The operator lines of the file, in file order.
