@@ -1,5 +1,5 @@
 -- Lines of a text, and words of a line, cut off at the front.
-use Rattle.std.proofs.Common.{◌≡◌, ◌&&◌, nat_le, length-drop, Ok, Err, ℕ, suc, ◌==◌, if◌then◌else◌, ◌+◌, ◌-◌, Bool, true, false, cond, not, nat_eq, nat_lt, List, [], ◌∷◌, length, take, drop, position, Option, Some, None, refl, ap, sym, ◌∙◌, arith}
+use Rattle.std.proofs.Common.{subst, lit<, ◌≡◌, ◌<◌, ◌≤◌, ◌&&◌, nat_le, length-drop, Ok, Err, ℕ, suc, ◌==◌, if◌then◌else◌, ◌+◌, ◌-◌, Bool, true, false, cond, not, nat_eq, nat_lt, List, [], ◌∷◌, length, take, drop, position, Option, Some, None, refl, ap, sym, ◌∙◌, arith}
 use Rattle.std.proofs.lemmas.Bool.Decides.{nat_tests, Decides-ltb}
 use Rattle.std.proofs.lemmas.List.Splits.{slice_split-cons_no, slice_split_first}
 use Rattle.std.proofs.lemmas.Option.{none-some, same_Some}
@@ -8,15 +8,15 @@ use Rattle.std.specs.Str.Lines.{lines, lines_of_parts, strip_carriage_return}
 use Rattle.font_metrics.specs.declared.keyword.Keyword.{Keyword}
 use Rattle.font_metrics.specs.declared.keyword.Keyword.TheVariants.{Unknown}
 use Rattle.font_metrics.specs.declared.given.Given.{Given}
-use Rattle.font_metrics.specs.Lines.{Words, keyword_of, item_in}
+use Rattle.font_metrics.specs.Lines.{Words, Item, keyword_of, item_in}
 use Rattle.font_metrics.specs.Metrics.{NamedGlyph}
-use Rattle.font_metrics.specs.Reading.{lines_of, words_of, is_foreign, is_comment, allowed, put, after, after_words, is_version}
+use Rattle.font_metrics.specs.Reading.{lines_of, words_of, is_foreign, is_comment, allowed, put, after, after_fields, after_words, is_version, most_words}
 use Rattle.std.specs.Char.{is_digit}
 use Rattle.std.specs.Str.Parse.{digits_value}
-use Rattle.std.proofs.lemmas.List.{take_all}
+use Rattle.std.proofs.lemmas.List.{take_all, length-take-le}
 use Rattle.op_dictionary.specs.declared.text.OpText.TheVariants.{Two}
-use Rattle.font_metrics.specs.declared.fault.LineFault.TheVariants.{ForeignByte, NotANumber, OutOfRange}
-use Rattle.font_metrics.specs.Faults.{◌>>=◌, or_fault, fault_if}
+use Rattle.font_metrics.specs.declared.fault.LineFault.TheVariants.{ForeignByte, UnknownWord, FieldCount, NotANumber, OutOfRange}
+use Rattle.font_metrics.specs.Faults.{Step, ◌>>=◌, or_fault, fault_if}
 use Rattle.font_metrics.specs.Words.{plus, value_of_digits, numeral_of, code_of, is_in_pair, pair_in, text_of_codes}
 use Rattle.font_metrics.proofs.Steps.{free}
 
@@ -90,30 +90,69 @@ next_line [] i h = absurd (none-some i h)
 next_line (b ∷ bs) i h =
     ap lines_of_parts (one_passes is_feed (b ∷ bs) 0 i h) ∙ more_parts (take i (b ∷ bs)) (drop (i + 1) (b ∷ bs))
 
--- ---- the words of a line beyond the eighth make no difference
+-- ---- words behind more than any line has make no difference
 
-same_item : (glyphs : List NamedGlyph) (keyword : Keyword) (a b c d e f h : List ℕ) (more : Words)
-    → item_in glyphs keyword (a ∷ b ∷ c ∷ d ∷ e ∷ f ∷ h ∷ []) ≡ item_in glyphs keyword (a ∷ b ∷ c ∷ d ∷ e ∷ f ∷ h ∷ more)
-same_item glyphs Unknown a b c d e f h more = refl
-same_item glyphs keyword a b c d e f h more = refl
+-- the most fields of a kind of line
+abbrev pub most_fields : ℕ
+most_fields = 6
 
-pub after_words-take : (g : Given) (words : Words) → after_words g (take 8 words) ≡ after_words g words
-after_words-take g [] = refl
-after_words-take g (w ∷ []) = refl
-after_words-take g (w ∷ a ∷ []) = refl
-after_words-take g (w ∷ a ∷ b ∷ []) = refl
-after_words-take g (w ∷ a ∷ b ∷ c ∷ []) = refl
-after_words-take g (w ∷ a ∷ b ∷ c ∷ d ∷ []) = refl
-after_words-take g (w ∷ a ∷ b ∷ c ∷ d ∷ e ∷ []) = refl
-after_words-take g (w ∷ a ∷ b ∷ c ∷ d ∷ e ∷ f ∷ []) = refl
-after_words-take g (w ∷ a ∷ b ∷ c ∷ d ∷ e ∷ f ∷ h ∷ more) =
-    ap (λ step. step >>= λ item. allowed g item >>= λ free. Ok (put g item)) (same_item g.glyphs (keyword_of w) a b c d e f h more)
+refused : Keyword → Step Item
+refused Unknown = Err UnknownWord
+refused keyword = Err FieldCount
 
-pub is_version-take : (words : Words) → is_version (take 8 words) ≡ is_version words
-is_version-take [] = refl
-is_version-take (w ∷ []) = refl
-is_version-take (w ∷ a ∷ []) = refl
-is_version-take (w ∷ a ∷ b ∷ more) = refl
+too_many_fields : (glyphs : List NamedGlyph) (keyword : Keyword) (fields : Words) → most_fields < length fields
+    → item_in glyphs keyword fields ≡ refused keyword
+unfolding refused
+too_many_fields glyphs keyword [] more = absurd (omega arith)
+too_many_fields glyphs keyword (a ∷ []) more = absurd (omega arith)
+too_many_fields glyphs keyword (a ∷ b ∷ []) more = absurd (omega arith)
+too_many_fields glyphs keyword (a ∷ b ∷ c ∷ []) more = absurd (omega arith)
+too_many_fields glyphs keyword (a ∷ b ∷ c ∷ d ∷ []) more = absurd (omega arith)
+too_many_fields glyphs keyword (a ∷ b ∷ c ∷ d ∷ e ∷ []) more = absurd (omega arith)
+too_many_fields glyphs keyword (a ∷ b ∷ c ∷ d ∷ e ∷ f ∷ []) more = absurd (omega arith)
+too_many_fields glyphs Unknown (a ∷ b ∷ c ∷ d ∷ e ∷ f ∷ g ∷ fields) more = refl
+too_many_fields glyphs keyword (a ∷ b ∷ c ∷ d ∷ e ∷ f ∷ g ∷ fields) more = refl
+
+fields-take : (g : Given) (keyword : Keyword) (count : ℕ) (fields : Words) → most_fields < count
+    → after_fields g keyword (take count fields) ≡ after_fields g keyword fields
+fields-take g keyword count fields most = by (nat_le (length fields) count) refl
+  where
+    by : (b : Bool) → nat_le (length fields) count ≡ b
+        → after_fields g keyword (take count fields) ≡ after_fields g keyword fields
+    by true e =
+        let few : length fields ≤ count = grind (arith, nat_tests) in
+        ap (after_fields g keyword) (take_all count fields few)
+    by false e =
+        let many : count < length fields = grind (arith, nat_tests) in
+        let size : length (take count fields) ≡ count = length-take-le count fields (omega (arith, many)) in
+        ap (λ step. step >>= λ item. allowed g item >>= λ free. Ok (put g item))
+        (too_many_fields g.glyphs keyword (take count fields) (omega (arith, most, size))
+        ∙ sym (too_many_fields g.glyphs keyword fields (omega (arith, most, many))))
+
+pub most_words_are : most_words ≡ 38
+unfolding most_words
+most_words_are = refl
+
+by_count : (P : ℕ → Type 0) → P 38 → P most_words
+by_count P h = subst P (sym most_words_are) h
+
+words-take_of : (g : Given) (count : ℕ) (words : Words) → most_fields < count
+    → after_words g (take (suc count) words) ≡ after_words g words
+words-take_of g count [] most = refl
+words-take_of g count (word ∷ fields) most = fields-take g (keyword_of word) count fields most
+
+pub words-take : (g : Given) (words : Words) → after_words g (take most_words words) ≡ after_words g words
+words-take g words =
+    by_count (λ n. after_words g (take n words) ≡ after_words g words) (words-take_of g 37 words (lit< tt))
+
+version-take_of : (count : ℕ) (words : Words) → is_version (take (suc (suc (suc count))) words) ≡ is_version words
+version-take_of count [] = refl
+version-take_of count (w ∷ []) = refl
+version-take_of count (w ∷ a ∷ []) = refl
+version-take_of count (w ∷ a ∷ b ∷ more) = refl
+
+pub version-take : (words : Words) → is_version (take most_words words) ≡ is_version words
+version-take words = by_count (λ n. is_version (take n words) ≡ is_version words) (version-take_of 35 words)
 
 -- a slice to the end is all that is left
 pub rest_all : {X : Type 0} (xs : List X) (i : ℕ) → take (length xs - i) (drop i xs) ≡ drop i xs

@@ -7,11 +7,10 @@ use Rattle.font_metrics.specs.declared.fault.LineFault.{LineFault}
 use Rattle.font_metrics.specs.declared.refusal.LineRefusal.{LineRefusal}
 use Rattle.font_metrics.specs.declared.refusal.LineRefusal.TheVariants.{Fault as FaultyLine, Memory as NoMemory}
 use Rattle.font_metrics.specs.declared.given.Given.{Given}
-use Rattle.font_metrics.specs.Faults.{Step, ◌>>=◌}
+use Rattle.font_metrics.specs.Faults.{Step}
 use Rattle.font_metrics.specs.Metrics.{MetricsValue}
-use Rattle.font_metrics.specs.Reading.{Fault, fault_at, fault_or, nothing, after, first_in, after_first, kept, given_from, first_fault_behind, finished, numbered, metrics_or, lines_of, metrics_of}
+use Rattle.font_metrics.specs.Reading.{Fault, fault_at, fault_or, nothing, after, after_first, kept, given_from, given_by, first_fault_behind, finished, numbered, metrics_or, lines_of, metrics_of}
 use Rattle.font_metrics.specs.Reads.{Reads, Takes, refusal_at}
-use Rattle.font_metrics.proofs.Ranges.{first_gives}
 
 -- what follows a line, where it isn't faulty
 abbrev pub continued : ℕ → Step Given → (Given → Result MetricsValue Fault) → Result MetricsValue Fault
@@ -29,51 +28,54 @@ pub given_from-push : (g : Given) (lines : List (List ℕ)) (line : List ℕ)
 given_from-push g [] line = refl
 given_from-push g (l ∷ ls) line = given_from-push (kept g (after g l)) ls line
 
-one_by_one : (first : List ℕ) (before lines : List (List ℕ))
+one_by_one : (first : List ℕ) (start : Given) (before lines : List (List ℕ)) → kept nothing (after_first first) ≡ start
     → metrics_or (first_fault_behind (first ∷ before) lines) (first ∷ (before ++ lines))
-    ≡ from_line (length (first ∷ before)) (given_from nothing before) lines
-one_by_one first before [] =
-    ap (λ l. numbered (length (first ∷ l) + 1) (finished (given_from nothing l))) (append-nil before)
-one_by_one first before (line ∷ lines) =
-    by (after (given_from nothing before) line) refl (one_by_one first (before ++ line ∷ []) lines)
+    ≡ from_line (length (first ∷ before)) (given_from start before) lines
+one_by_one first start before [] begins =
+    ap (λ l. numbered (length (first ∷ l) + 1) (finished (given_by (first ∷ l)))) (append-nil before)
+    ∙ ap (λ g. numbered (length (first ∷ before) + 1) (finished (given_from g before))) begins
+one_by_one first start before (line ∷ lines) begins =
+    by (after (given_by (first ∷ before)) line) refl (one_by_one first start (before ++ line ∷ []) lines begins)
   where
-    by : (s : Step Given) → after (given_from nothing before) line ≡ s
+    same : given_by (first ∷ before) ≡ given_from start before
+    same = ap (λ g. given_from g before) begins
+
+    by : (s : Step Given) → after (given_by (first ∷ before)) line ≡ s
         → metrics_or (first_fault_behind (first ∷ (before ++ line ∷ [])) lines) (first ∷ ((before ++ line ∷ []) ++ lines))
-        ≡ from_line (length (first ∷ (before ++ line ∷ []))) (given_from nothing (before ++ line ∷ [])) lines
+        ≡ from_line (length (first ∷ (before ++ line ∷ []))) (given_from start (before ++ line ∷ [])) lines
         → metrics_or
         (fault_or (length (first ∷ before) + 1) s (first_fault_behind (first ∷ (before ++ line ∷ [])) lines))
         (first ∷ (before ++ line ∷ lines))
-        ≡ continued (length (first ∷ before) + 1) s (λ next. from_line (length (first ∷ before) + 1) next lines)
-    by (Err fault) e more = refl
+        ≡ continued (length (first ∷ before) + 1) (after (given_from start before) line)
+        (λ next. from_line (length (first ∷ before) + 1) next lines)
+    by (Err fault) e more =
+        ap (λ s. continued (length (first ∷ before) + 1) s (λ next. from_line (length (first ∷ before) + 1) next lines))
+        (sym e ∙ ap (λ g. after g line) same)
     by (Ok next) e more =
+        let step : after (given_from start before) line ≡ Ok next = ap (λ g. after g line) (sym same) ∙ e in
         ap (λ l. metrics_or (first_fault_behind (first ∷ (before ++ line ∷ [])) lines) (first ∷ l))
         (sym (append_assoc before (line ∷ []) lines))
         ∙ more
-        ∙ ap (λ n. from_line n (given_from nothing (before ++ line ∷ [])) lines) (length_push (first ∷ before) line)
+        ∙ ap (λ n. from_line n (given_from start (before ++ line ∷ [])) lines) (length_push (first ∷ before) line)
         ∙ ap (λ g. from_line (length (first ∷ before) + 1) g lines)
-        (given_from-push nothing before line ∙ ap (kept (given_from nothing before)) e)
+        (given_from-push start before line ∙ ap (kept (given_from start before)) step)
+        ∙ ap (λ s. continued (length (first ∷ before) + 1) s (λ next. from_line (length (first ∷ before) + 1) next lines))
+        (sym step)
 
 pub from_first : (bytes first : List ℕ) (lines : List (List ℕ)) → lines_of bytes ≡ first ∷ lines
     → metrics_of bytes ≡ continued 1 (after_first first) (λ next. from_line 1 next lines)
 unfolding metrics_of
 from_first bytes first lines h =
     ap (λ l. metrics_or (first_fault_behind [] l) l) h
-    ∙ by (after_first first) refl (one_by_one first [] lines)
+    ∙ by (after_first first) refl (λ start. one_by_one first start [] lines)
   where
     by : (s : Step Given) → after_first first ≡ s
-        → metrics_or (first_fault_behind (first ∷ []) lines) (first ∷ lines) ≡ from_line 1 nothing lines
+        → ((start : Given) → kept nothing (after_first first) ≡ start
+        → metrics_or (first_fault_behind (first ∷ []) lines) (first ∷ lines) ≡ from_line 1 start lines)
         → metrics_or (fault_or 1 s (first_fault_behind (first ∷ []) lines)) (first ∷ lines)
         ≡ continued 1 s (λ next. from_line 1 next lines)
     by (Err fault) e more = refl
-    by (Ok next) e more = more ∙ ap (λ g. from_line 1 g lines) (sym (first_gives first next e))
-
-pub first_stops : (line : List ℕ) (fault : LineFault) → Err fault ≡ first_in line → after_first line ≡ Err fault
-unfolding after_first
-first_stops line fault h = ap (λ (s : Step (Unit {0})). s >>= λ first. Ok nothing) (sym h)
-
-pub first_goes : (line : List ℕ) (u : Unit {0}) → Ok u ≡ first_in line → after_first line ≡ Ok nothing
-unfolding after_first
-first_goes line u h = ap (λ (s : Step (Unit {0})). s >>= λ first. Ok nothing) (sym h)
+    by (Ok next) e more = more next (ap (kept nothing) e)
 
 -- a line's refusal is that of the file
 pub stopped : (said : Result MetricsValue Fault) (number : ℕ) (s : Step Given) (new : Given)

@@ -1,5 +1,5 @@
 -- What lines give lies in its ranges.
-use Rattle.std.proofs.Common.{◌≡◌, sym, subst, ℕ, ◌+◌, ◌<◌, ◌≤◌, Bool, true, false, if◌then◌else◌, List, [], ◌∷◌, ◌++◌, length, is_some, IfSome, Ok, arith}
+use Rattle.std.proofs.Common.{◌≡◌, subst, ℕ, ◌+◌, ◌<◌, ◌≤◌, Bool, true, false, if◌then◌else◌, List, [], ◌∷◌, ◌++◌, length, is_some, IfSome, Ok, arith}
 use Rattle.std.proofs.lemmas.List.{length_push}
 use Rattle.std.proofs.lemmas.List.Elements.{All-nil, All-weaker}
 use Rattle.std.specs.List.{IsDistinct}
@@ -226,8 +226,9 @@ nothing_given = record {
   operators = record { texts = All-nil _; distinct = tt };
 }
 
-pub first_gives : (line : List ℕ) (next : Given) → after_first line ≡ Ok next → next ≡ nothing
+-- the first line begins from what keeps them
+pub first_keeps : (line : List ℕ) (next : Given) → after_first line ≡ Ok next → IsGiven next
 unfolding after_first
-first_gives line next e =
+first_keeps line next e =
     let first = had (first_in line) _ next e in
-    sym (same_Ok nothing next first.2)
+    subst IsGiven (same_Ok nothing next first.2) nothing_given

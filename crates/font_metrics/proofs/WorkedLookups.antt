@@ -1,8 +1,7 @@
 -- Worked look-ups: what metrics answer at a font size, computed.
-use Rattle.std.proofs.Common.{◌≡◌, refl, ℕ, ℤ, pos, negsuc, List, [], ◌∷◌, codes, Some, None}
+use Rattle.std.proofs.Common.{◌≡◌, refl, ℕ, ℤ, pos, negsuc, List, [], ◌∷◌, codes, None}
 use Rattle.fixed_units.specs.Numbers.{rounded}
-use Rattle.font_metrics.specs.Constants.{place_of_constant}
-use Rattle.font_metrics.specs.Metrics.{MetricsValue, NamedGlyph, missing_place, place_of_letter, glyph_at, name_at, variants_of, scale_of, constant_of, percent_of, overlap_of, line_ascent_of, line_descent_of, ex_of}
+use Rattle.font_metrics.specs.Metrics.{MetricsValue, NamedGlyph, missing_place, place_of_letter, glyph_at, name_at, variants_of, scale_of, constant_of, percent_of, overlap_of, line_ascent_of, ex_of}
 use Rattle.font_metrics.specs.declared.constants.ConstName.TheVariants.{ScriptPercentScaleDown, ScriptScriptPercentScaleDown, RadicalDegreeBottomRaisePercent, MathLeading, AxisHeight, RadicalKernAfterDegree}
 use Rattle.font_metrics.specs.declared.growth.Variant.{Variant}
 use Rattle.op_dictionary.specs.declared.operator.Axis.TheVariants.{Block, Inline}

@@ -40,6 +40,10 @@ is_empty (b ∷ bs) = false
 unfoldable pub words_of : List ℕ → Words
 words_of line = filter (λ word. not (is_empty word)) (slice_split is_blank line)
 
+-- more words than a line of any kind has: what stands behind so many makes no difference
+unfoldable pub most_words : ℕ
+most_words = 38
+
 -- a line that begins with `#`
 abbrev pub is_comment : List ℕ → Bool
 is_comment [] = false
@@ -133,7 +137,7 @@ first_in line = do
   plain ← fault_if (is_foreign line) ForeignByte
   fault_if (not (is_version (words_of line))) WrongFirstLine
 
--- it gives nothing
+-- what the other lines begin from
 unfoldable pub after_first : List ℕ → Step Given
 after_first line = do
   first ← first_in line
@@ -153,7 +157,7 @@ given_from given (line ∷ lines) = given_from (kept given (after given line)) l
 -- what lines from the first one on have given
 abbrev pub given_by : List (List ℕ) → Given
 given_by [] = nothing
-given_by (first ∷ lines) = given_from nothing lines
+given_by (first ∷ lines) = given_from (kept nothing (after_first first)) lines
 
 -- the fault of a line with these lines before it
 abbrev pub step_behind : List (List ℕ) → List ℕ → Step Given

@@ -1,7 +1,7 @@
 ghost use Rattle.std.specs.Prelude.{◌≡◌, ◌<◌, ◌≤◌, ◌≢◌, [], ◌∷◌, length, take, not};
 ghost use Rattle.std.specs.Str.Lines.{lines, strip_carriage_return};
 ghost use Rattle.font_metrics.specs.Lines.{lent};
-ghost use Rattle.font_metrics.specs.Reading.{lines_of, words_of, is_blank, is_comment, is_plain, is_foreign, is_empty};
+ghost use Rattle.font_metrics.specs.Reading.{lines_of, words_of, is_blank, is_comment, is_plain, is_foreign, is_empty, most_words};
 
 use arrayvec::ArrayVec;
 
@@ -60,12 +60,12 @@ fn has_bytes(word: &[u8]) -> bool
     !word.is_empty()
 }
 
-/// One more than the longest line has, so that a line of too many words shows.
-pub const MOST_WORDS: usize = 8;
+/// More than a line of any kind has, so that a line of too many words shows.
+pub const MOST_WORDS: usize = 38;
 
-/// The words of a line, which blanks part: the first eight of them. It takes no memory.
+/// The words of a line, which blanks part: the first `MOST_WORDS` of them. It takes no memory.
 pub fn words(line: &[u8]) -> ArrayVec<&[u8], MOST_WORDS>
-    ensures { lent result.items ≡ take 8 (words_of line.now) }
+    ensures { lent result.items ≡ take most_words (words_of line.now) }
 {
     let mut words = ArrayVec::new();
     let parts = line

@@ -5,7 +5,6 @@ ghost use Rattle.font_metrics.specs.Reading.{metrics_of, most_file_bytes};
 use crate::given::Given;
 use crate::metrics::Metrics;
 use crate::pieces::first_line;
-use crate::reader::take_first;
 use crate::refusal::{LineRefusal, MetricsRefusal};
 use std::alloc::Global;
 
@@ -22,10 +21,10 @@ pub fn read_metrics(alloc: Global, bytes: &[u8]) -> Result<Metrics, MetricsRefus
 {
     let (first, mut rest) = first_line(bytes);
     let mut number = 1;
-    if let Err(fault) = take_first(first) {
-        return Err(LineRefusal::Fault(fault).at(number));
-    }
-    let mut given = Given::nothing(alloc);
+    let mut given = match Given::begun(alloc, first) {
+        Ok(given) => given,
+        Err(fault) => return Err(LineRefusal::Fault(fault).at(number)),
+    };
     while !rest.is_empty() {
         let (line, more) = first_line(rest);
         number += 1;

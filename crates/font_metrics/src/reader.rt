@@ -1,7 +1,7 @@
 ghost use Rattle.std.specs.Prelude.{◌≡◌, ◌≤◌, length};
 ghost use Rattle.font_metrics.specs.Taken.{most_glyphs};
 ghost use Rattle.font_metrics.specs.Lines.{lent};
-ghost use Rattle.font_metrics.specs.Reading.{after, after_words, after_fields, first_in, is_first, is_version, needed};
+ghost use Rattle.font_metrics.specs.Reading.{after, after_first, after_words, after_fields, first_in, is_first, is_version, needed};
 ghost use Rattle.font_metrics.specs.Reads.{Takes};
 
 use crate::fault::{LineFault, fault_if};
@@ -14,6 +14,15 @@ use crate::texts::is_text;
 use std::alloc::Global;
 
 impl Given {
+    /// What the first line gives, from which the other lines begin. It takes no memory.
+    #[tactic(auto, unfolding(crate::specs::Reading::after_first))]
+    pub fn begun(alloc: Global, line: &[u8]) -> Result<Given, LineFault>
+        ensures { result ≡ after_first line.now }
+    {
+        take_first(line)?;
+        Ok(Given::nothing(alloc))
+    }
+
     /// Takes a line behind the first, without its line feed.
     #[tactic(auto, unfolding(crate::specs::Reading::after))]
     pub fn take(&mut self, alloc: Global, line: &[u8]) -> Result<(), LineRefusal>
@@ -71,7 +80,7 @@ impl Given {
 }
 
 /// Whether the first line is the format's.
-pub fn take_first(line: &[u8]) -> Result<(), LineFault>
+fn take_first(line: &[u8]) -> Result<(), LineFault>
     ensures { result ≡ first_in line.now }
 {
     fault_if(is_foreign(line), LineFault::ForeignByte)?;

@@ -6,7 +6,7 @@ use Rattle.font_metrics.specs.Faults.{step_map}
 use Rattle.font_metrics.specs.Lines.{Words}
 use Rattle.font_metrics.specs.Metrics.{MetricsValue, place_of_name}
 use Rattle.font_metrics.specs.Print.{version_words, upem_words, line_words, x_height_words, overlap_lines, constant_words, glyph_words, character_words, growth_lines, operator_words, line_text, print_of, PrintReadsBack}
-use Rattle.font_metrics.specs.Reading.{lines_of, nothing, is_foreign, words_of, after, after_first, kept, given_from, first_fault_behind, needed_of, metrics_with, finished, metrics_or, metrics_of}
+use Rattle.font_metrics.specs.Reading.{lines_of, nothing, is_foreign, words_of, after, after_first, kept, given_from, given_by, fault_or, first_fault_behind, needed_of, metrics_with, finished, numbered, metrics_or, metrics_of}
 use Rattle.font_metrics.specs.Taken.{IsTaken, IsVariant, IsPart, most_variants, most_parts}
 use Rattle.font_metrics.proofs.Forward.{given_from-push}
 use Rattle.font_metrics.proofs.ReadBack.Feeds.{are_words, lines-printed}
@@ -28,21 +28,28 @@ follows-given given end (words ∷ ws) (next, takes, h) =
     ap (λ step. given_from (kept given step) (joined ws)) takes.1 ∙ follows-given next end ws h
 
 follows-faultless : (first : List ℕ) (before : List (List ℕ)) (given end : Given) (ws : List Words)
-    → given_from nothing before ≡ given → Follows given ws end
+    → given_by (first ∷ before) ≡ given → Follows given ws end
     → first_fault_behind (first ∷ before) (joined ws) ≡ None
 follows-faultless first before given end [] e h = refl
 follows-faultless first before given end (words ∷ ws) e (next, takes, h) =
     let line = join_with_byte 32 words in
-    let step : after (given_from nothing before) line ≡ Ok next = ap (λ g. after g line) e ∙ takes.1 in
-    let more : given_from nothing (before ++ line ∷ []) ≡ next =
-    given_from-push nothing before line ∙ ap (kept (given_from nothing before)) step in
+    let step : after (given_by (first ∷ before)) line ≡ Ok next = ap (λ g. after g line) e ∙ takes.1 in
+    let more : given_by (first ∷ (before ++ line ∷ [])) ≡ next =
+    given_from-push (kept nothing (after_first first)) before line ∙ ap (kept (given_by (first ∷ before))) step in
     rw step (follows-faultless first (before ++ line ∷ []) next end ws more h)
 
 read-whole : (first : List ℕ) (ws : List Words) (given : Given) (m : MetricsValue) → after_first first ≡ Ok nothing
     → Follows nothing ws given → finished given ≡ Ok m
     → metrics_or (first_fault_behind [] (first ∷ joined ws)) (first ∷ joined ws) ≡ Ok m
 read-whole first ws given m start h whole =
-    rw (start, follows-faultless first [] nothing given ws refl h, follows-given nothing given ws h, whole) refl
+    let begins : given_by (first ∷ []) ≡ nothing = ap (kept nothing) start in
+    let all : given_by (first ∷ joined ws) ≡ given =
+    ap (λ g. given_from g (joined ws)) begins ∙ follows-given nothing given ws h in
+    let faultless : first_fault_behind (first ∷ []) (joined ws) ≡ None = follows-faultless first [] nothing given ws begins h in
+    ap (λ s. metrics_or (fault_or 1 s (first_fault_behind (first ∷ []) (joined ws))) (first ∷ joined ws)) start
+    ∙ ap (λ o. metrics_or o (first ∷ joined ws)) faultless
+    ∙ ap (λ g. numbered (length (first ∷ joined ws) + 1) (finished g)) all
+    ∙ ap (numbered (length (first ∷ joined ws) + 1)) whole
 
 version-taken : after_first (join_with_byte 32 version_words) ≡ Ok nothing
 unfolding after_first is_foreign words_of

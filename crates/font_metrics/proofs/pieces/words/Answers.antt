@@ -6,7 +6,8 @@ use Rattle.std.proofs.lemmas.Option.{none-some}
 use Rattle.std.specs.Iterator.Adapters.{take_source, take_count, filter_source, filter_callee}
 use Rattle.font_metrics.specs.Lines.{lent}
 use Rattle.std.specs.Slice.Iter.{split_rest, split_done, split_callee}
-use Rattle.font_metrics.specs.Reading.{is_blank, is_empty, words_of}
+use Rattle.font_metrics.specs.Reading.{is_blank, is_empty, words_of, most_words}
+use Rattle.font_metrics.proofs.Cuts.{most_words_are}
 use Rattle.font_metrics.proofs.pieces.words.Goals as goal
 
 pub returns : goal.returns
@@ -15,7 +16,7 @@ returns c =
     let ran = c.in-Ok.ensures.ran in
     ap lent (ran.3 ∙ ap (λ l. l ++ ran.1) c.new-words.ensures)
     ∙ items_from_drains ran.1 (ran.4.1.0, ran.4.1.1, λ _. (ran.4.0, ran.4.1.2))
-    (YieldsList-from_take 8
+    (YieldsList-from_take most_words
     (YieldsList-from_filter _ (λ word. not (is_empty word))
     (YieldsList-from_slice_split _ is_blank c.args.line.now
     (ap (λ t. split_rest (filter_source (take_source t))) ran.2 ∙ ap (λ t. split_rest (filter_source t)) c.take-parts.ensures.source ∙ ap split_rest c.filter.ensures.source ∙ c.split.ensures.rest)
@@ -24,21 +25,25 @@ returns c =
     (λ x r q k. search (rules, tests)))
     (ap (λ t. filter_callee (take_source t)) ran.2 ∙ ap filter_callee c.take-parts.ensures.source ∙ c.filter.ensures.closure)
     (λ x r q k. search (rules, tests)))
-    (ap take_count ran.2 ∙ c.take-parts.ensures.count))
+    (ap take_count ran.2 ∙ c.take-parts.ensures.count ∙ sym most_words_are))
 
--- a ninth word would be one behind the eight that are taken
+-- no word stands behind those that are taken
 past_take : {X : Type 0} (n : ℕ) (xs : List X) → slice_get (take n xs) n ≡ None
 past_take zero xs = refl
 past_take (suc n) [] = refl
 past_take (suc n) (x ∷ xs) = past_take n xs
 
+no_further : {X : Type 0} (n : ℕ) (xs : List X) (x : X) → Some x ≡ slice_get (take n xs) n → ⊥
+no_further n xs x h = none-some x (sym (past_take n xs) ∙ sym h)
+
 pub unreachable-requires : goal.unreachable-requires
 unfolding words_of
 unreachable-requires c =
     let more = c.in-Err.ensures.one_more in
-    let size = sym (ap length (more.6 ∙ ap (λ l. l ++ more.1) c.new-words.ensures)) ∙ c.in-Err.ensures.full in
-    let ninth = nth_from_yields_List (Some more.2) more.3 8 (more.1, more.5, size)
-    (YieldsList-from_take 8
+    let size = sym (ap length (more.6 ∙ ap (λ l. l ++ more.1) c.new-words.ensures)) ∙ c.in-Err.ensures.full ∙ sym most_words_are in
+    no_further most_words (words_of c.args.line.now) more.2.now
+    (nth_from_yields_List (Some more.2) more.3 most_words (more.1, more.5, size)
+    (YieldsList-from_take most_words
     (YieldsList-from_filter _ (λ word. not (is_empty word))
     (YieldsList-from_slice_split _ is_blank c.args.line.now
     (ap (λ t. split_rest (filter_source (take_source t))) more.4 ∙ ap (λ t. split_rest (filter_source t)) c.take-parts.ensures.source ∙ ap split_rest c.filter.ensures.source ∙ c.split.ensures.rest)
@@ -47,5 +52,4 @@ unreachable-requires c =
     (λ x r q k. search (rules, tests)))
     (ap (λ t. filter_callee (take_source t)) more.4 ∙ ap filter_callee c.take-parts.ensures.source ∙ c.filter.ensures.closure)
     (λ x r q k. search (rules, tests)))
-    (ap take_count more.4 ∙ c.take-parts.ensures.count)) in
-    none-some _ (sym (past_take 8 _) ∙ sym ninth)
+    (ap take_count more.4 ∙ c.take-parts.ensures.count ∙ sym most_words_are)))

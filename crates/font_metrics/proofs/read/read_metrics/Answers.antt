@@ -3,10 +3,9 @@ use Rattle.std.specs.Str.Lines.{lines}
 use Rattle.font_metrics.specs.declared.refusal.LineRefusal.TheVariants.{Fault as FaultyLine}
 use Rattle.font_metrics.specs.Reading.{nothing, after, after_first, finished, numbered, metrics_of}
 use Rattle.font_metrics.specs.Reads.{Reads}
-use Rattle.font_metrics.specs.Whole.{IsGiven}
 use Rattle.font_metrics.proofs.Finish.{ends_with, ends_without}
-use Rattle.font_metrics.proofs.Forward.{first_stops, first_goes, continued, from_line, from_first, stopped, more, ended, none_left, lacks}
-use Rattle.font_metrics.proofs.Ranges.{after_keeps, nothing_given}
+use Rattle.font_metrics.proofs.Forward.{continued, from_line, from_first, stopped, more, ended, none_left, lacks}
+use Rattle.font_metrics.proofs.Ranges.{after_keeps, first_keeps}
 use Rattle.font_metrics.proofs.read.read_metrics.Goals as goal
 
 pub returns-in-Err : goal.returns-in-Err
@@ -17,7 +16,7 @@ returns-in-Err c =
           subst (λ r. Reads (metrics_of c.args.bytes.now) (Err r)) (sym c.at.ensures)
           (stopped _ 1 (after_first first) nothing _ (FaultyLine c.in-Err.fault)
           (from_first c.args.bytes.now first (lines c.first_line.result.1.now) c.first_line.ensures.line)
-          (first_stops first c.in-Err.fault c.in-Err.ensures));
+          (sym c.in-Err.ensures));
     }
 
 pub loop-rest-init : goal.loop-rest-init
@@ -27,9 +26,8 @@ loop-rest-init c =
     record {
       says =
           from_first c.args.bytes.now first rest c.first_line.ensures.line
-          ∙ ap (λ s. continued 1 s (λ next. from_line 1 next rest)) (first_goes first c.in_default.field-0 c.in_default.ensures)
-          ∙ ap (λ g. from_line 1 g rest) (sym c.nothing-given.ensures);
-      given = subst IsGiven (sym c.nothing-given.ensures) nothing_given;
+          ∙ ap (λ s. continued 1 s (λ next. from_line 1 next rest)) (sym c.in-Ok.ensures);
+      given = first_keeps first c.in-Ok.given (sym c.in-Ok.ensures);
       small = let bound = c.first_line.ensures.bound in omega (arith, bound, c.requires);
     }
 
@@ -43,8 +41,8 @@ loop-rest-preserved c =
       says =
           c.loop-rest.invariant.says
           ∙ more c.loop-rest.rest.now line left n c.loop-rest.given some c.first_line-in-loop-rest.ensures.line
-          ∙ ap (λ s. continued (n + 1) s (λ next. from_line (n + 1) next (lines left))) c.in_default-take.ensures;
-      given = after_keeps c.loop-rest.given line c.take.new.self c.loop-rest.invariant.given c.in_default-take.ensures;
+          ∙ ap (λ s. continued (n + 1) s (λ next. from_line (n + 1) next (lines left))) c.in_default.ensures;
+      given = after_keeps c.loop-rest.given line c.take.new.self c.loop-rest.invariant.given c.in_default.ensures;
       small =
           let shorter = c.first_line-in-loop-rest.ensures.rest some in
           let small = c.loop-rest.invariant.small in
@@ -65,8 +63,8 @@ returns-in-Err-take c =
           c.in-Err-take.ensures);
     }
 
-pub returns-in-Ok : goal.returns-in-Ok
-returns-in-Ok c =
+pub returns-in-Ok-needed : goal.returns-in-Ok-needed
+returns-in-Ok-needed c =
     let n = c.loop-rest.number in
     let g = c.loop-rest.given in
     let at_end : c.is_empty.result ≡ true = search rules in
@@ -74,7 +72,7 @@ returns-in-Ok c =
     record {
       reads =
           c.loop-rest.invariant.says ∙ ended c.loop-rest.rest.now n g none
-          ∙ ap (numbered (n + 1)) (sym (ends_with g c.in-Ok.needs c.in-Ok.ensures));
+          ∙ ap (numbered (n + 1)) (sym (ends_with g c.in-Ok-needed.needs c.in-Ok-needed.ensures));
     }
 
 pub returns-in-Err-needed : goal.returns-in-Err-needed

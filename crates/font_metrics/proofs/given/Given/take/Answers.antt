@@ -2,7 +2,7 @@ use Rattle.std.proofs.Common.{◌∙◌, ap, sym, subst}
 use Rattle.font_metrics.specs.Lines.{lent}
 use Rattle.font_metrics.specs.Reading.{after_words, words_of}
 use Rattle.font_metrics.specs.Reads.{Takes}
-use Rattle.font_metrics.proofs.Cuts.{after_words-take, behind}
+use Rattle.font_metrics.proofs.Cuts.{words-take, behind}
 use Rattle.font_metrics.proofs.given.Given.take.Goals as goal
 
 pub returns : goal.returns
@@ -11,7 +11,7 @@ returns c =
     let line = c.args.line.now in
     let words = ap lent c.as_slice.ensures.value ∙ c.words-words.ensures in
     subst (λ s. Takes s c.take_words.new.self c.take_words.result)
-    (ap (after_words g) words ∙ after_words-take g (words_of line)
+    (ap (after_words g) words ∙ words-take g (words_of line)
     ∙ sym (behind g line c.is_foreign.result c.is_comment.result c.in_ok-fault_if.field-0 c.is_foreign.ensures
     (sym c.fault_if.ensures ∙ c.in_ok-fault_if.was) c.is_comment.ensures c.if-is_comment.false))
     c.take_words.ensures
