@@ -21,7 +21,7 @@ moved_apart_keeps_gap : (font : PairLengths) (shifts : Shifts) (sub sup : MathBo
 unfolding moved_apart_of
 moved_apart_keeps_gap font shifts sub sup = let made = lack_makes_up font shifts sub sup in omega (arith, signed)
 
-pair_keeps_gap : (m : MetricsValue) (size : ℤ) (cramped : Bool) (base sub sup : MathBox)
+pub pair_keeps_gap : (m : MetricsValue) (size : ℤ) (cramped : Bool) (base sub sup : MathBox)
     → (pair_lengths_of m size).gap ≤ℤ (ink_bottom (pair_shifts_of m size cramped base sub sup) sup -ℤ ink_top (pair_shifts_of m size cramped base sub sup) sub)
 unfolding pair_shifts_of
 pair_keeps_gap m size cramped base sub sup = moved_apart_keeps_gap (pair_lengths_of m size) _ sub sup

@@ -27,4 +27,5 @@ mod spacing; // how far limits move up and down
 pub use asking::{limit_wave_one, limit_wave_two};
 pub use beside::{sub, sub_sup, sup};
 pub use limits::under_over;
-pub use parts::{LimitCase, Limits, Scripted, Spot};
+pub use parts::{LimitCase, Limits, Scripted, Shifts, Spot};
+pub use shifts::pair_shifts;

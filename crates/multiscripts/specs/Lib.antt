@@ -1,0 +1,4 @@
+pub mod Along
+pub mod Heights
+pub mod Laws
+pub mod Placing
