@@ -1,4 +1,5 @@
 pub mod Bounds
 pub mod Gaps
 pub mod LimitBounds
+pub mod LimitLaws
 pub mod Worked

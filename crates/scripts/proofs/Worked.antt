@@ -10,7 +10,7 @@ use Rattle.op_dictionary.specs.declared.operator.Axis.TheVariants.{Inline as Sid
 use Rattle.row_stretch.specs.declared.parts.KidPull.{KidPull}
 use Rattle.row_stretch.specs.Questions.{planned, asks_from}
 use Rattle.scripts.specs.Beside.{spot, sub_x_of, sup_x_of, ending_at_of, sub_of, sup_of, sub_sup_of}
-use Rattle.scripts.specs.declared.parts.LimitCase.TheVariants.{Large, Plain}
+use Rattle.scripts.specs.declared.parts.LimitCase.TheVariants.{Large, Stretchy, Plain}
 use Rattle.scripts.specs.LimitGaps.{above_of, below_of, distance_of, extra_of}
 use Rattle.scripts.specs.Limits.{lean_of, middle_of, leaning_of, under_x_of, over_x_of, under_limit_of, over_limit_of, whole_of, attached_of, spot_in_of, limits_of, under_over_of}
 use Rattle.scripts.specs.Lengths.{sub_lengths_of, sup_lengths_of, pair_lengths_of}
@@ -180,3 +180,67 @@ integral-limits : under_over_of limited integral (Some one) (Some one) Large fal
 }
 unfolding under_limit_of over_limit_of above_of below_of distance_of extra_of under_x_of over_x_of leaning_of middle_of lean_of whole_of attached_of spot_in_of limits_of raised joined constant_of scale_of rounded halved
 integral-limits = refl
+
+-- ---- with constants of stretched stacks and underbars too: shifts of 4800 up and 9600 down, gaps of
+-- 1024, and under a bar a gap of 1600 and 640 more below
+abbrev stacked : MetricsValue
+stacked = record sample {
+  constants = (28, pos 300) ∷ (29, pos 600) ∷ (30, pos 64) ∷ (31, pos 64) ∷ (46, pos 100) ∷ (48, pos 40) ∷ [];
+}
+
+-- over a stretched arrow, whose ink lies above the baseline, the gap decides, and under it the shift
+abbrev stretched : MathBox
+stretched = box (pos 20000) (pos 14400) (pos 4800) (pos 5600) (neg_ℤ (pos 2592))
+
+arrow-limits : under_over_of stacked stretched (Some one) (Some one) Stretchy false false (pos 16384) ≡ record {
+  frame = record {
+    width = pos 20000;
+    ascent = pos 17424;
+    descent = pos 13200;
+    ink_ascent = pos 14784;
+    ink_descent = pos 9600;
+    italic = pos 0;
+    accent = pos 10000;
+  };
+  base = spot (pos 0) (pos 0);
+  under = spot (pos 6928) (pos 9600);
+  over = spot (pos 6928) (neg_ℤ (pos 6624));
+}
+unfolding under_limit_of over_limit_of above_of below_of distance_of extra_of under_x_of over_x_of leaning_of middle_of lean_of whole_of attached_of spot_in_of limits_of raised joined constant_of scale_of rounded halved
+arrow-limits = refl
+
+-- under a letter a digit leaves 1600 and counts 640 more below
+letter-under : under_over_of stacked letter (Some one) None Plain false false (pos 16384) ≡ record {
+  frame = record {
+    width = pos 9280;
+    ascent = pos 14400;
+    descent = pos 14128;
+    ink_ascent = pos 7168;
+    ink_descent = pos 9888;
+    italic = pos 0;
+    accent = pos 4640;
+  };
+  base = spot (pos 0) (pos 0);
+  under = spot (pos 1568) (pos 9888);
+  over = spot (pos 0) (pos 0);
+}
+unfolding under_limit_of below_of distance_of extra_of under_x_of middle_of lean_of whole_of attached_of spot_in_of limits_of raised joined constant_of scale_of rounded halved
+letter-under = refl
+
+-- as an accent it touches the ink of the letter
+letter-accentunder : under_over_of stacked letter (Some one) None Plain false true (pos 16384) ≡ record {
+  frame = record {
+    width = pos 9280;
+    ascent = pos 14400;
+    descent = pos 11888;
+    ink_ascent = pos 7168;
+    ink_descent = pos 8288;
+    italic = pos 0;
+    accent = pos 4640;
+  };
+  base = spot (pos 0) (pos 0);
+  under = spot (pos 1568) (pos 8288);
+  over = spot (pos 0) (pos 0);
+}
+unfolding under_limit_of below_of distance_of extra_of under_x_of middle_of lean_of whole_of attached_of spot_in_of limits_of raised joined constant_of scale_of rounded halved
+letter-accentunder = refl

@@ -1,16 +1,57 @@
-//! What holds of all scripts.
+//! What holds of all scripts and limits.
 //!
 //! A law is proved where it is a contract, so each function here has one and computes nothing.
-ghost use Rattle.std.specs.Prelude.{ℤ, Bool, ◌≤ℤ◌};
+ghost use Rattle.std.specs.Prelude.{ℤ, Bool, true, Option, Some, ◌≤ℤ◌};
+ghost use Rattle.fixed_units.specs.Boxes.{IsUnion};
 ghost use Rattle.fixed_units.specs.declared.boxes.MathBox.{MathBox};
 ghost use Rattle.font_metrics.specs.Metrics.{MetricsValue};
 ghost use Rattle.scripts.specs.Beside.{sub_sup_of};
-ghost use Rattle.scripts.specs.Laws.{ink_gap};
+ghost use Rattle.scripts.specs.Laws.{ink_gap, KeepGaps, boxes_of, StandInside, IsCentred, AccentsMeet};
 ghost use Rattle.scripts.specs.Lengths.{pair_lengths_of};
+ghost use Rattle.scripts.specs.LimitGaps.{above_of, below_of};
+ghost use Rattle.scripts.specs.Limits.{under_over_of};
+ghost use Rattle.scripts.specs.declared.parts.LimitCase.{LimitCase};
+ghost use Rattle.scripts.specs.declared.parts.LimitCase.TheVariants.{Plain, Stretchy};
 
 /// The ink of a subscript and of the superscript above it keeps the least gap, however the move is
 /// shared between them.
 pub fn the_ink_of_two_scripts_keeps_the_least_gap()
     ensures { (m : MetricsValue) (base : MathBox) (large cramped : Bool) (sub sup : MathBox) (size : ℤ) →
         (pair_lengths_of m size).gap ≤ℤ ink_gap sub sup (sub_sup_of m base large cramped sub sup size) }
+{}
+
+/// The ink of limits keeps its gaps to that of their base; that of an accent doesn't sink into it.
+pub fn the_ink_of_limits_keeps_its_gaps()
+    ensures { (m : MetricsValue) (base : MathBox) (under over : Option MathBox) (case : LimitCase) (accent accentunder : Bool) (size : ℤ) →
+        KeepGaps (above_of m case accent size) (below_of m case accentunder size) base under over
+        (under_over_of m base under over case accent accentunder size) }
+{}
+
+/// The box of limits reaches as far up and down as the farthest of its base and the limits.
+pub fn the_box_of_limits_is_a_union()
+    ensures { (m : MetricsValue) (base : MathBox) (under over : Option MathBox) (case : LimitCase) (accent accentunder : Bool) (size : ℤ) →
+        IsUnion (boxes_of m base under over case accent accentunder size)
+        (under_over_of m base under over case accent accentunder size).frame }
+{}
+
+/// A base and its limits begin and end inside their box.
+pub fn limits_stand_inside()
+    ensures { (m : MetricsValue) (base : MathBox) (under over : Option MathBox) (case : LimitCase) (accent accentunder : Bool) (size : ℤ) →
+        StandInside base under over (under_over_of m base under over case accent accentunder size) }
+{}
+
+/// An underscript stands in the middle of its base, to the unit, but for that of a large operator.
+pub fn underscripts_stand_in_the_middle()
+    ensures plain { (m : MetricsValue) (base under : MathBox) (over : Option MathBox) (accent accentunder : Bool) (size : ℤ) →
+        let limits = under_over_of m base (Some under) over Plain accent accentunder size in
+        IsCentred base under limits.base limits.under }
+    ensures stretchy { (m : MetricsValue) (base under : MathBox) (over : Option MathBox) (accent accentunder : Bool) (size : ℤ) →
+        let limits = under_over_of m base (Some under) over Stretchy accent accentunder size in
+        IsCentred base under limits.base limits.under }
+{}
+
+/// An accent stands with its own accent over that of its base.
+pub fn accents_meet()
+    ensures { (m : MetricsValue) (base over : MathBox) (under : Option MathBox) (accentunder : Bool) (size : ℤ) →
+        AccentsMeet base over (under_over_of m base under (Some over) Plain true accentunder size) }
 {}

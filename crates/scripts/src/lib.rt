@@ -2,13 +2,14 @@
 //!
 //! `sub`, `sup` and `sub_sup` take the boxes of a base and of its scripts and give the box of the
 //! whole and the places of the scripts, `under_over` those of limits. `limit_wave_one` and
-//! `limit_wave_two` say what an element with limits asks of its children.
+//! `limit_wave_two` say what an element with limits asks of its children. `pair_shifts` is for
+//! `multiscripts`, which moves many pairs.
 //!
 //! - Models: MathML Core 3.4.1, "Subscripts and Superscripts", and 3.4.2, "Underscripts and
 //!   Overscripts"; the constants are those of OpenType MATH.
 //! - Proved: each call is its definition (`specs/Beside.antt`, `specs/Limits.antt`,
-//!   `specs/Questions.antt`), exactly; the ink of two scripts keeps its least gap (`laws`). `sub`,
-//!   `sup`, `sub_sup` and `under_over` take no memory.
+//!   `specs/Questions.antt`), exactly; the ink of two scripts keeps its least gap, limits keep theirs
+//!   and stand inside their box (`laws`). `sub`, `sup`, `sub_sup` and `under_over` take no memory.
 //! - Knows nothing of: trees, styles, other elements. It sees boxes and numbers. How far scripts and
 //!   limits move up and down is found apart from where they stand along the line.
 //! - Change a shift: `specs/Shifts.antt`, then `src/shifts.rt`, then `rt check`; of a limit:
