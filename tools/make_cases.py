@@ -1,11 +1,13 @@
 #!/usr/bin/env python3
-"""Writes crates/cases/stdout: what must come of each case of crates/cases/stdin.
+"""Writes what must come of each case: crates/NAME/stdout of crates/NAME/stdin, for each program of cases.
 
     python3 tools/make_cases.py REFERENCE [--check]
 
 The expected values aren't the product's: they come from the modules of the folder REFERENCE, a second program of the
 same behaviour that was written on its own, and from a small model of inputs and sinks in memory (cases/runs.py).
-With --check nothing is written: the first line that differs from crates/cases/stdout is told, and the status is 1.
+A program of cases sees the files of its own folder data/ alone. The sample is written in crates/cases/data and copied
+from there into the data/ of the others.
+With --check nothing is written: the first line that differs from a stored file is told, and the status is 1.
 """
 
 import argparse
@@ -17,7 +19,10 @@ from cases.faults import UNKNOWN_KIND, LineFault, Undetermined
 from cases.source import Known, take_line
 from cases.values import value_of
 
-CASES = Path(__file__).resolve().parent.parent / "crates" / "cases"
+CRATES = Path(__file__).resolve().parent.parent / "crates"
+SAMPLE = "sample.metrics"
+# The crate whose data/ has the sample that is written by hand.
+OWNER = "cases"
 
 
 class Parser(argparse.ArgumentParser):
@@ -30,11 +35,13 @@ class Parser(argparse.ArgumentParser):
 def main():
     parser = Parser(description=__doc__, formatter_class=argparse.RawDescriptionHelpFormatter)
     parser.add_argument("reference", metavar="REFERENCE", help="the folder of the second program")
-    parser.add_argument("--check", action="store_true", help="compare with crates/cases/stdout, and write nothing")
+    parser.add_argument("--check", action="store_true", help="compare with the stored files, and write nothing")
     words = parser.parse_args()
+    keep = check if words.check else write
     try:
-        expected = outcome_of((CASES / "stdin").read_bytes(), reference.load(words.reference))
-        return check(expected) if words.check else write(expected)
+        modules = reference.load(words.reference)
+        differing = [keep(path, content) for path, content in made_files(modules)]
+        return int(any(differing))
     except ImportError as fault:
         parser.error(f"{words.reference} isn't the second program: {fault}")
     except Undetermined as fault:
@@ -43,10 +50,19 @@ def main():
         parser.error(f"{fault.filename}: {fault.strerror}")
 
 
-def outcome_of(source, modules):
-    """The whole output for a whole input."""
-    known = Known(CASES / "data")
-    lines = source.split(b"\n")
+def made_files(modules):
+    """Each file that is made, with its content: the samples first, since the cases behind them load these."""
+    for name in kinds.PROGRAMS:
+        if name != OWNER:
+            yield CRATES / name / "data" / SAMPLE, (CRATES / OWNER / "data" / SAMPLE).read_bytes()
+    for name in kinds.PROGRAMS:
+        yield CRATES / name / "stdout", outcome_of(modules, name)
+
+
+def outcome_of(modules, name):
+    """The whole output of a program for its whole input."""
+    known = Known(CRATES / name / "data")
+    lines = (CRATES / name / "stdin").read_bytes().split(b"\n")
     if lines[-1] == b"":
         lines.pop()
     out = []
@@ -54,39 +70,41 @@ def outcome_of(source, modules):
         try:
             case = take_line(known, line)
             if case is not None:
-                out += [line, *answer_to(modules, known, *case)]
+                out += [line, *answer_to(modules, kinds.PROGRAMS[name], known, *case)]
         except LineFault as fault:
             out.append(b"line %d: %s" % (number, str(fault).encode()))
         except Undetermined as fault:
-            raise Undetermined(f"line {number}: {fault}") from None
+            raise Undetermined(f"{name}, line {number}: {fault}") from None
     return b"".join(line + b"\n" for line in out)
 
 
-def answer_to(modules, known, kind, text):
+def answer_to(modules, program, known, kind, text):
     """The lines of what comes of a case."""
     value = value_of(modules, text)
-    if kind in kinds.RUNS:
-        return kinds.RUNS[kind](modules, known, value)
-    if kind in kinds.ONE_ANSWER:
-        return [b"= " + kinds.ONE_ANSWER[kind](modules, known, value).encode()]
+    if kind in program.runs:
+        return program.runs[kind](modules, known, value)
+    if kind in program.one_answer:
+        return [b"= " + program.one_answer[kind](modules, known, value).encode()]
     raise LineFault(UNKNOWN_KIND)
 
 
-def write(expected):
-    (CASES / "stdout").write_bytes(expected)
-    return 0
+def write(path, content):
+    """Stores a file, which then doesn't differ."""
+    path.parent.mkdir(exist_ok=True)
+    path.write_bytes(content)
+    return False
 
 
-def check(expected):
-    """Tells the first line that differs."""
-    stored = (CASES / "stdout").read_bytes()
-    if stored == expected:
-        return 0
-    theirs, ours = stored.split(b"\n"), expected.split(b"\n")
+def check(path, content):
+    """Tells the first line in which a stored file differs, and whether it does."""
+    stored = path.read_bytes() if path.exists() else b""
+    if stored == content:
+        return False
+    theirs, ours = stored.split(b"\n"), content.split(b"\n")
     place = next((n for n, (a, b) in enumerate(zip(theirs, ours)) if a != b), min(len(theirs), len(ours)))
     here = [lines[place].decode("utf-8", "replace") if place < len(lines) else "nothing" for lines in (theirs, ours)]
-    print(f"stdout, line {place + 1}: has {here[0]!r}, expected {here[1]!r}")
-    return 1
+    print(f"{path.relative_to(CRATES)}, line {place + 1}: has {here[0]!r}, expected {here[1]!r}")
+    return True
 
 
 if __name__ == "__main__":

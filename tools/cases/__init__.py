@@ -1,1 +1,1 @@
-"""An interpreter of its own for the cases of crates/cases/stdin; see docs/CASES.md."""
+"""An interpreter of its own for the cases of each program of cases; see docs/CASES.md."""

@@ -1,9 +1,20 @@
-"""The kinds of case, each with the function that carries it out."""
+"""The kinds of case of each program, each with the function that carries it out."""
 
-from . import answers, fonts, numbers, runs
+from dataclasses import dataclass, field
 
-# One answer each. A module for another crate's calls adds its own, as **MODULE.KINDS.
-ONE_ANSWER = {**answers.KINDS, **fonts.KINDS, **numbers.KINDS}
+from . import answers, fonts, layouts, numbers, runs
 
-# How a run ended, and what it wrote.
-RUNS = {**runs.KINDS}
+
+@dataclass
+class Kinds:
+    """Kinds with one answer each, and kinds that tell how a run ended, and what it wrote."""
+
+    one_answer: dict
+    runs: dict = field(default_factory=dict)
+
+
+# The programs are crates. A module for another crate's calls adds its own, as **MODULE.KINDS.
+PROGRAMS = {
+    "cases": Kinds({**answers.KINDS, **fonts.KINDS, **numbers.KINDS}, runs.KINDS),
+    "layout_cases": Kinds({**layouts.KINDS}),
+}

@@ -1,4 +1,4 @@
-"""The lines of crates/cases/stdin: the files that they make known, and the cases."""
+"""The lines of a program's stdin: the files that they make known, and the cases."""
 
 import re
 from dataclasses import dataclass, field

@@ -16,42 +16,48 @@ mod shown;
 mod tree;
 mod word;
 
-use crate::answer::Answer;
-use crate::fault::Fault;
-use crate::files::KnownFiles;
-use serde_json::Value;
-use std::alloc::Global;
+use case_format::{Answer, Case, Fault, Kinds};
 
-/// A case: its value, and the files that are known to it.
-#[derive(Clone, Copy)]
-pub struct Case<'a> {
-    pub alloc: Global,
-    pub value: &'a Value,
-    pub files: &'a KnownFiles,
+/// The kinds for the crates below layout, and for whole runs.
+pub struct Foundations;
+
+impl Kinds for Foundations {
+    fn answer(&self, kind: &str, case: Case) -> Result<Answer, Fault> {
+        match kind {
+            "check" => Ok(Answer::Run(run::answer_command("check", case)?)),
+            "layout" => Ok(Answer::Run(run::answer_command("layout", case)?)),
+            "run" => Ok(Answer::Run(run::answer(case)?)),
+            _ => one_answer(kind, case),
+        }
+    }
 }
 
-/// Carries out a case of the kind of this name.
-pub fn answer(kind: &str, case: Case) -> Result<Answer, Fault> {
+/// The one answer to a case.
+fn one_answer(kind: &str, case: Case) -> Result<Answer, Fault> {
+    let mut words = String::new(case.alloc);
+    add_answer(kind, case, &mut words)?;
+    Ok(Answer::One(words))
+}
+
+/// Adds the words of the one answer to a case.
+fn add_answer(kind: &str, case: Case, words: &mut String) -> Result<(), Fault> {
     match kind {
-        "axis" => axis::answer(case),
-        "category" => category::answer(case),
-        "check" => run::answer_command("check", case),
-        "facts" => facts::answer(case),
-        "factsfile" => facts::answer_file(case),
-        "fits" => fits::answer(case),
-        "glyph" => glyph::answer(case),
-        "half" => half::answer(case),
-        "layout" => run::answer_command("layout", case),
-        "length" => length::answer(case),
-        "metrics" => metrics::answer(case),
-        "properties" => properties::answer(case),
-        "resolve" => resolve::answer(case),
-        "round" => round::answer(case),
-        "run" => run::answer(case),
-        "shown" => shown::answer(case),
-        "tree" => tree::answer(case),
-        "treefile" => tree::answer_file(case),
-        "word" => word::answer(case),
+        "axis" => axis::answer(case, words),
+        "category" => category::answer(case, words),
+        "facts" => facts::answer(case, words),
+        "factsfile" => facts::answer_file(case, words),
+        "fits" => fits::answer(case, words),
+        "glyph" => glyph::answer(case, words),
+        "half" => half::answer(case, words),
+        "length" => length::answer(case, words),
+        "metrics" => metrics::answer(case, words),
+        "properties" => properties::answer(case, words),
+        "resolve" => resolve::answer(case, words),
+        "round" => round::answer(case, words),
+        "shown" => shown::answer(case, words),
+        "tree" => tree::answer(case, words),
+        "treefile" => tree::answer_file(case, words),
+        "word" => word::answer(case, words),
         _ => Err(Fault::UnknownKind),
     }
 }

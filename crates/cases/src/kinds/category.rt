@@ -1,19 +1,17 @@
 //! `category`: the category of an operator in the dictionary.
 
-use crate::answer::Answer;
-use crate::fault::Fault;
-use crate::fields::Fields;
-use crate::kinds::Case;
 use crate::kinds::operators::{form_in, lines_in, op_text};
+use case_format::{Case, Fault, Fields};
 use op_dictionary::{Category, category};
 
-pub fn answer(case: Case) -> Result<Answer, Fault> {
+pub fn answer(case: Case, words: &mut String) -> Result<(), Fault> {
     let fields = Fields::of_value(case.value, &["text", "form", "fixed", "metrics"])?;
     let text = op_text(fields.text("text")?);
     let form = form_in(fields)?;
     let fixed = fields.flag("fixed")?;
     let lines = lines_in(case, fields)?;
-    Answer::one(case.alloc, name_of(category(text, form, fixed, &lines)))
+    words.push_str(name_of(category(text, form, fixed, &lines)))?;
+    Ok(())
 }
 
 fn name_of(category: Category) -> &'static str {

@@ -1,8 +1,24 @@
-//! What the kinds on elements share: the words that stand for letters, forms and truth values.
+//! What the kinds on elements share: an element of a value, and the words that stand for letters,
+//! forms and truth values.
 
+use case_format::Fault;
+use math_tree::{Node, TreeRefusal, read_part};
 use op_dictionary::Form;
-use std::alloc::AllocError;
+use serde_json::Value;
+use std::alloc::{AllocError, Global};
 use std::fmt::Write;
+
+/// The element that a value is.
+pub fn element_of(alloc: Global, value: &Value) -> Result<Node, Fault> {
+    read_part(alloc, value).map_err(fault_of)
+}
+
+fn fault_of(refusal: TreeRefusal) -> Fault {
+    match refusal {
+        TreeRefusal::Fault(_) => Fault::NotAnElement,
+        TreeRefusal::Memory => Fault::Memory,
+    }
+}
 
 /// Adds a character's code.
 pub fn add_code(letter: char, words: &mut String) -> Result<(), AllocError> {

@@ -1,12 +1,10 @@
 //! `facts`: what an element is among operators, and the forms of its children. `factsfile`: the
 //! same of an element that a file holds.
 
-use crate::answer::Answer;
-use crate::fault::Fault;
-use crate::kinds::Case;
-use crate::kinds::elements::{add_code, form_letter, truth_letter};
+use crate::kinds::elements::{add_code, element_of, form_letter, truth_letter};
+use case_format::{Case, Fault};
 use embellished::{Core, Facts, NodeView, View, fences_of, form_within, known_of};
-use math_tree::{Kind, Node, read_part};
+use math_tree::{Kind, Node};
 use op_dictionary::{Form, OpText};
 use serde_json::Value;
 use std::alloc::{AllocError, Global};
@@ -15,37 +13,32 @@ use std::fmt::Write;
 /// The most children that a view shows.
 const MOST_CHILDREN: usize = 65_535;
 
-pub fn answer(case: Case) -> Result<Answer, Fault> {
-    answer_to(case.alloc, case.value)
+pub fn answer(case: Case, words: &mut String) -> Result<(), Fault> {
+    add_answer(case.alloc, case.value, words)
 }
 
-pub fn answer_file(case: Case) -> Result<Answer, Fault> {
+pub fn answer_file(case: Case, words: &mut String) -> Result<(), Fault> {
     let name = case.value.as_str().ok_or(Fault::WrongValue)?;
     match Value::from_slice(case.alloc, case.files.bytes(name)?) {
-        Ok(value) => answer_to(case.alloc, &value),
+        Ok(value) => add_answer(case.alloc, &value, words),
         Err(error) if error.is_memory() => Err(Fault::Memory),
         Err(_) => Err(Fault::NotAnElement),
     }
 }
 
-fn answer_to(alloc: Global, value: &Value) -> Result<Answer, Fault> {
-    let element = read_part(alloc, value)?;
-    answer_of(alloc, &element)
+fn add_answer(alloc: Global, value: &Value, words: &mut String) -> Result<(), Fault> {
+    let element = element_of(alloc, value)?;
+    add_element(alloc, &element, words)
 }
 
-fn answer_of(alloc: Global, element: &Node) -> Result<Answer, Fault> {
+fn add_element(alloc: Global, element: &Node, words: &mut String) -> Result<(), Fault> {
     if MOST_CHILDREN < element.children.len() {
         return Err(Fault::NotAnElement);
     }
     let known = known_of(alloc, element)?;
     let view = NodeView::make(alloc, element, known.facts, &known.kids)?;
-    words_of(alloc, &view)
-}
-
-fn words_of<V: View>(alloc: Global, view: &V) -> Result<Answer, Fault> {
-    let mut words = String::new(alloc);
-    add_words(view, &mut words)?;
-    Ok(Answer::One(words))
+    add_words(&view, words)?;
+    Ok(())
 }
 
 /// The kind, whether it is space-like, its core, its children's forms, and how many of them stand

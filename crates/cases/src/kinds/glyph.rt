@@ -1,22 +1,18 @@
 //! `glyph`: what metrics say of a character's glyph, in design units.
 
-use crate::answer::Answer;
-use crate::fault::Fault;
-use crate::fields::Fields;
-use crate::kinds::Case;
 use crate::kinds::operators::axis_name;
+use case_format::{Case, Fault, Fields};
 use font_metrics::{Glyph, GlyphId, Metrics, Part, Variant};
 use op_dictionary::Axis;
 use std::alloc::AllocError;
 use std::fmt::Write;
 
-pub fn answer(case: Case) -> Result<Answer, Fault> {
+pub fn answer(case: Case, words: &mut String) -> Result<(), Fault> {
     let fields = Fields::of_value(case.value, &["metrics", "letter"])?;
     let letter = letter_in(fields)?;
-    let metrics = case.files.metrics(case.alloc, fields.text("metrics")?)?;
-    let mut words = String::new(case.alloc);
-    add_words(&metrics, metrics.glyph_of(letter), &mut words)?;
-    Ok(Answer::One(words))
+    let metrics = case.metrics(fields)?;
+    add_words(&metrics, metrics.glyph_of(letter), words)?;
+    Ok(())
 }
 
 /// The one character of the key `letter`.

@@ -1,12 +1,12 @@
 //! `half`: half of a number, rounded down.
 
-use crate::answer::Answer;
-use crate::fault::Fault;
-use crate::kinds::Case;
+use case_format::{Case, Fault};
 use fixed_units::half;
+use std::fmt::Write;
 
-pub fn answer(case: Case) -> Result<Answer, Fault> {
+pub fn answer(case: Case, words: &mut String) -> Result<(), Fault> {
     let number = case.value.as_i64().ok_or(Fault::WrongValue)?;
     let half = half(number);
-    Ok(Answer::One(format!(in case.alloc; "{half}")?))
+    write!(words, "{half}")?;
+    Ok(())
 }

@@ -1,24 +1,24 @@
 //! `length`: which length a text is.
 
-use crate::answer::Answer;
-use crate::fault::Fault;
-use crate::kinds::Case;
+use case_format::{Case, Fault};
 use fixed_units::{LengthText, Unit, read_length};
-use std::alloc::Global;
+use std::alloc::AllocError;
+use std::fmt::Write;
 
-pub fn answer(case: Case) -> Result<Answer, Fault> {
+pub fn answer(case: Case, words: &mut String) -> Result<(), Fault> {
     let text = case.value.as_str().ok_or(Fault::WrongValue)?;
     match read_length(text) {
-        Some(length) => of_length(case.alloc, length),
-        None => Answer::one(case.alloc, "none"),
+        Some(length) => add_length(length, words)?,
+        None => words.push_str("none")?,
     }
+    Ok(())
 }
 
 /// The millionths and the unit.
-fn of_length(alloc: Global, length: LengthText) -> Result<Answer, Fault> {
+fn add_length(length: LengthText, words: &mut String) -> Result<(), AllocError> {
     let number = length.millionths;
     let unit = word_of(length.unit);
-    Ok(Answer::One(format!(in alloc; "{number} {unit}")?))
+    write!(words, "{number} {unit}")
 }
 
 fn word_of(unit: Unit) -> &'static str {

@@ -1,24 +1,21 @@
 //! `metrics`: whether a metrics file is sound, as it is or with other lines in place of one.
 
-use crate::answer::Answer;
-use crate::fault::Fault;
-use crate::fields::{Fields, text_in};
-use crate::files::is_line_feed;
-use crate::kinds::Case;
+use case_format::{Case, Fault, Fields, is_line_feed, text_in};
 use fixed_units::List;
 use font_metrics::{MOST_FILE_BYTES, MetricsRefusal, read_metrics};
 use serde_json::Value;
 use std::alloc::Global;
+use std::fmt::Write;
 
-pub fn answer(case: Case) -> Result<Answer, Fault> {
+pub fn answer(case: Case, words: &mut String) -> Result<(), Fault> {
     let fields = Fields::of_value(case.value, &["file", "line", "lines"])?;
     let file = case.files.bytes(fields.text("file")?)?;
     if !fields.has("line") && !fields.has("lines") {
-        return answer_to(case.alloc, file);
+        return add_reading(case.alloc, file, words);
     }
     let mut edited = List::make(case.alloc);
     add_edited(file, fields, &mut edited)?;
-    answer_to(case.alloc, edited.as_slice())
+    add_reading(case.alloc, edited.as_slice(), words)
 }
 
 /// Adds the file with other lines in place of one.
@@ -51,16 +48,16 @@ fn add_lines(lines: &[Value], edited: &mut List<u8>) -> Result<(), Fault> {
 }
 
 /// Whether a file's bytes are sound metrics.
-fn answer_to(alloc: Global, file: &[u8]) -> Result<Answer, Fault> {
+fn add_reading(alloc: Global, file: &[u8], words: &mut String) -> Result<(), Fault> {
     if MOST_FILE_BYTES < file.len() {
         return Err(Fault::FileTooLong);
     }
     match read_metrics(alloc, file).err() {
-        None => Answer::one(alloc, "ok"),
+        None => Ok(words.push_str("ok")?),
         Some(MetricsRefusal::Fault(fault)) => {
             let line = fault.line;
             let kind = fault.kind;
-            Ok(Answer::One(format!(in alloc; "fault {line} {kind}")?))
+            Ok(write!(words, "fault {line} {kind}")?)
         }
         Some(MetricsRefusal::Memory) => Err(Fault::Memory),
     }

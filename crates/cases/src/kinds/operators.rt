@@ -1,21 +1,19 @@
 //! What the kinds on operators share.
 
-use crate::fault::Fault;
-use crate::fields::Fields;
-use crate::kinds::Case;
+use case_format::{Case, Fault, Fields};
 use op_dictionary::{Axis, Extra, Form, OpText};
 
 /// The operator lines that count: those of the file that the key `metrics` names, else none.
 pub fn lines_in(case: Case, fields: Fields) -> Result<Extra, Fault> {
     let mut lines = Extra::make(case.alloc);
     if fields.has("metrics") {
-        add_lines_of(case, fields.text("metrics")?, &mut lines)?;
+        add_lines_of(case, fields, &mut lines)?;
     }
     Ok(lines)
 }
 
-fn add_lines_of(case: Case, name: &str, lines: &mut Extra) -> Result<(), Fault> {
-    let metrics = case.files.metrics(case.alloc, name)?;
+fn add_lines_of(case: Case, fields: Fields, lines: &mut Extra) -> Result<(), Fault> {
+    let metrics = case.metrics(fields)?;
     add_lines(metrics.extra(), lines)
 }
 
@@ -23,7 +21,7 @@ fn add_lines(of_file: &Extra, lines: &mut Extra) -> Result<(), Fault> {
     for index in 0..of_file.count() {
         let line = of_file.line(index);
         if !lines.has(line.text, line.form) {
-            lines.add(line)?;
+            lines.add(line).map_err(|_| Fault::Memory)?;
         }
     }
     Ok(())

@@ -1,27 +1,26 @@
 //! `properties`: the properties of an operator in a form.
 
-use crate::answer::Answer;
-use crate::fault::Fault;
-use crate::fields::Fields;
-use crate::kinds::Case;
-use crate::kinds::elements::truth_letter;
+use crate::kinds::elements::{element_of, truth_letter};
 use crate::kinds::operators::{form_in, lines_in};
+use case_format::{Case, Fault, Fields};
 use embellished::{Core, known_of, operator_properties};
-use math_tree::{Kind, Node, read_part};
+use math_tree::{Kind, Node};
 use op_dictionary::Properties;
-use std::alloc::Global;
+use std::alloc::{AllocError, Global};
+use std::fmt::Write;
 
-pub fn answer(case: Case) -> Result<Answer, Fault> {
+pub fn answer(case: Case, words: &mut String) -> Result<(), Fault> {
     let fields = Fields::of_value(case.value, &["element", "form", "metrics"])?;
     let form = form_in(fields)?;
     let core = core_in(case, fields)?;
     let lines = lines_in(case, fields)?;
-    answer_of(case.alloc, operator_properties(&core, form, &lines))
+    add_properties(operator_properties(&core, form, &lines), words)?;
+    Ok(())
 }
 
 /// The core of the key `element`.
 fn core_in(case: Case, fields: Fields) -> Result<Core, Fault> {
-    let element = read_part(case.alloc, fields.value("element")?)?;
+    let element = element_of(case.alloc, fields.value("element")?)?;
     core_of(case.alloc, &element)
 }
 
@@ -35,7 +34,7 @@ fn core_of(alloc: Global, element: &Node) -> Result<Core, Fault> {
 }
 
 /// The two spaces, and a letter for each truth value.
-fn answer_of(alloc: Global, properties: Properties) -> Result<Answer, Fault> {
+fn add_properties(properties: Properties, words: &mut String) -> Result<(), AllocError> {
     let lspace = properties.lspace;
     let rspace = properties.rspace;
     let stretchy = truth_letter(properties.stretchy);
@@ -43,5 +42,5 @@ fn answer_of(alloc: Global, properties: Properties) -> Result<Answer, Fault> {
     let largeop = truth_letter(properties.largeop);
     let movablelimits = truth_letter(properties.movablelimits);
     let letters = format_args!("{stretchy}{symmetric}{largeop}{movablelimits}");
-    Ok(Answer::One(format!(in alloc; "{lspace} {rspace} {letters}")?))
+    write!(words, "{lspace} {rspace} {letters}")
 }

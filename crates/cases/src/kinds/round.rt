@@ -2,16 +2,14 @@
 ghost use Rattle.std.specs.Prelude.{◌^◌, pos, ◌<ℤ◌};
 ghost use Rattle.fixed_units.specs.Numbers.{IsWithin};
 
-use crate::answer::Answer;
-use crate::fault::Fault;
-use crate::fields::Fields;
-use crate::kinds::Case;
+use case_format::{Case, Fault, Fields};
 use fixed_units::{Ratio, round};
+use std::fmt::Write;
 
 /// The largest number of a ratio, below or above.
 const MOST: i64 = 4_611_686_018_427_387_904;
 
-pub fn answer(case: Case) -> Result<Answer, Fault> {
+pub fn answer(case: Case, words: &mut String) -> Result<(), Fault> {
     let fields = Fields::of_value(case.value, &["num", "den"])?;
     let num = fields.number("num")?;
     let den = fields.number("den")?;
@@ -22,7 +20,8 @@ pub fn answer(case: Case) -> Result<Answer, Fault> {
         return Err(Fault::OutOfRange("num"));
     }
     let nearest = nearest(i128::from(num), i128::from(den));
-    Ok(Answer::One(format!(in case.alloc; "{nearest}")?))
+    write!(words, "{nearest}")?;
+    Ok(())
 }
 
 // What is divided by one or more grows no larger, so that the result fits.

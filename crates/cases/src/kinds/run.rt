@@ -2,10 +2,7 @@
 //! with a metrics file and a tree.
 ghost use Rattle.std.specs.Prelude.{◌≡◌, ◌<◌};
 
-use crate::answer::{Answer, Ended};
-use crate::fault::Fault;
-use crate::fields::{Fields, count_in, text_in};
-use crate::kinds::Case;
+use case_format::{Case, Ended, Fault, Fields, count_in, text_in};
 use commands::{Status, run};
 use doc_io::{MemoryInputs, MemorySink};
 use fixed_units::Steps;
@@ -29,14 +26,14 @@ const AMPLE: usize = 67_108_864;
 /// The name of the file that holds a command's tree. No known file has this name.
 const TREE: &str = "the tree";
 
-pub fn answer(case: Case) -> Result<Answer, Fault> {
+pub fn answer(case: Case) -> Result<Ended, Fault> {
     let fields = Fields::of_value(case.value, &KEYS)?;
     let mut words = Vec::new(case.alloc);
     add_words(case.alloc, fields, &mut words)?;
     answer_to(case, fields, words.as_slice())
 }
 
-pub fn answer_command(command: &str, case: Case) -> Result<Answer, Fault> {
+pub fn answer_command(command: &str, case: Case) -> Result<Ended, Fault> {
     let fields = Fields::of_value(case.value, &["metrics", "tree", "sum"])?;
     let mut words = Vec::new(case.alloc);
     add_command(case.alloc, command, fields, &mut words)?;
@@ -52,7 +49,7 @@ fn add_words(alloc: Global, fields: Fields, words: &mut Vec<String>) -> Result<(
 }
 
 /// What comes of these words over a case's files.
-fn answer_to(case: Case, fields: Fields, words: &[String]) -> Result<Answer, Fault> {
+fn answer_to(case: Case, fields: Fields, words: &[String]) -> Result<Ended, Fault> {
     let mut inputs = MemoryInputs::make(case.alloc);
     add_files(case, fields, &mut inputs)?;
     set_calls(fields, &mut inputs)?;
@@ -93,7 +90,7 @@ fn add_command(
 }
 
 /// What comes of these words over the two files of a command.
-fn answer_command_to(case: Case, fields: Fields, words: &[String]) -> Result<Answer, Fault> {
+fn answer_command_to(case: Case, fields: Fields, words: &[String]) -> Result<Ended, Fault> {
     let mut inputs = MemoryInputs::make(case.alloc);
     add_metrics(case, fields, &mut inputs)?;
     add_tree(case.alloc, fields, &mut inputs)?;
@@ -118,16 +115,16 @@ fn end_of_run(
     fields: Fields,
     words: &[String],
     inputs: &mut MemoryInputs,
-) -> Result<Answer, Fault> {
+) -> Result<Ended, Fault> {
     let summed = fields.flag_or_false("sum")?;
     let mut written = MemorySink::make(alloc, room_in(fields)?)?;
     set_failures(fields, &mut written)?;
     let status = run_counted::<Brand>(alloc, words, inputs, &mut written, Blank::new(1));
-    Ok(Answer::Run(Ended {
-        status,
+    Ok(Ended {
+        status: status.number(),
         written,
         summed,
-    }))
+    })
 }
 
 /// The room of the sink.

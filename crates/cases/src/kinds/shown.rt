@@ -1,18 +1,15 @@
 //! `shown`: the text that an element with a text shows.
 
-use crate::answer::Answer;
-use crate::fault::Fault;
-use crate::kinds::Case;
 use crate::kinds::elements::add_code;
+use case_format::{Case, Fault};
 use embellished::shown_text;
 use std::alloc::AllocError;
 
-pub fn answer(case: Case) -> Result<Answer, Fault> {
+pub fn answer(case: Case, words: &mut String) -> Result<(), Fault> {
     let text = case.value.as_str().ok_or(Fault::WrongValue)?;
     let shown = shown_text(case.alloc, text)?;
-    let mut words = String::new(case.alloc);
-    add_codes(shown.as_str(), &mut words)?;
-    Ok(Answer::One(words))
+    add_codes(shown.as_str(), words)?;
+    Ok(())
 }
 
 /// The codes of the characters, joined by `+`, or a word for none.

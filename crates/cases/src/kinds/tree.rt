@@ -1,32 +1,32 @@
 //! `tree`: whether a value is a tree. `treefile`: whether a file is one, however long it is.
 
-use crate::answer::Answer;
-use crate::fault::Fault;
-use crate::kinds::Case;
+use case_format::{Case, Fault};
 use math_tree::{TreeRefusal, read_tree};
 use serde_json::Value;
 use std::alloc::Global;
+use std::fmt::Write;
 
-pub fn answer(case: Case) -> Result<Answer, Fault> {
-    answer_to(case.alloc, case.value)
+pub fn answer(case: Case, words: &mut String) -> Result<(), Fault> {
+    add_reading(case.alloc, case.value, words)
 }
 
-pub fn answer_file(case: Case) -> Result<Answer, Fault> {
+pub fn answer_file(case: Case, words: &mut String) -> Result<(), Fault> {
     let name = case.value.as_str().ok_or(Fault::WrongValue)?;
     match Value::from_slice(case.alloc, case.files.bytes(name)?) {
-        Ok(value) => answer_to(case.alloc, &value),
+        Ok(value) => add_reading(case.alloc, &value, words),
         Err(error) if error.is_memory() => Err(Fault::Memory),
-        Err(_) => Answer::one(case.alloc, "json"),
+        Err(_) => Ok(words.push_str("json")?),
     }
 }
 
-fn answer_to(alloc: Global, value: &Value) -> Result<Answer, Fault> {
+/// How a value is read as a tree.
+fn add_reading(alloc: Global, value: &Value, words: &mut String) -> Result<(), Fault> {
     match read_tree(alloc, value).map(|tree| tree.next_id()) {
-        Ok(next_id) => Ok(Answer::One(format!(in alloc; "ok {next_id}")?)),
+        Ok(next_id) => Ok(write!(words, "ok {next_id}")?),
         Err(TreeRefusal::Fault(fault)) => {
             let element = fault.element;
             let kind = fault.kind;
-            Ok(Answer::One(format!(in alloc; "fault {element} {kind}")?))
+            Ok(write!(words, "fault {element} {kind}")?)
         }
         Err(TreeRefusal::Memory) => Err(Fault::Memory),
     }

@@ -1,6 +1,5 @@
 use doc_io::ReadRefusal;
 use font_metrics::MetricsRefusal;
-use math_tree::TreeRefusal;
 use std::alloc::{AllocError, AllocFailed};
 use thiserror::Error;
 
@@ -67,12 +66,6 @@ impl From<fixed_units::Memory> for Fault {
     }
 }
 
-impl From<op_dictionary::Memory> for Fault {
-    fn from(_: op_dictionary::Memory) -> Self {
-        Fault::Memory
-    }
-}
-
 impl From<serde_json::Error> for Fault {
     fn from(error: serde_json::Error) -> Self {
         if error.is_memory() {
@@ -98,15 +91,6 @@ impl From<MetricsRefusal> for Fault {
         match refusal {
             MetricsRefusal::Fault(_) => Fault::NotMetrics,
             MetricsRefusal::Memory => Fault::Memory,
-        }
-    }
-}
-
-impl From<TreeRefusal> for Fault {
-    fn from(refusal: TreeRefusal) -> Self {
-        match refusal {
-            TreeRefusal::Fault(_) => Fault::NotAnElement,
-            TreeRefusal::Memory => Fault::Memory,
         }
     }
 }

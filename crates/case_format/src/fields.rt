@@ -1,4 +1,9 @@
+ghost use Rattle.std.specs.Prelude.{◌≤ℤ◌, IfOk};
+ghost use Rattle.fixed_units.specs.Boxes.{IsStored};
+
+use crate::boxes::box_of;
 use crate::fault::Fault;
+use fixed_units::{MathBox, fits};
 use serde_json::{Map, Value};
 
 /// The members of a case's value.
@@ -42,6 +47,30 @@ impl<'a> Fields<'a> {
     /// The whole number of a key.
     pub fn number(self, key: &'static str) -> Result<i64, Fault> {
         self.value(key)?.as_i64().ok_or(Fault::WrongType(key))
+    }
+
+    /// The whole number of a key, which has to lie from one to another.
+    pub fn within(self, key: &'static str, low: i64, high: i64) -> Result<i64, Fault>
+        ensures { IfOk result (λ number. (low ≤ℤ number) × (number ≤ℤ high)) }
+    {
+        let number = self.number(key)?;
+        if low <= number && number <= high {
+            Ok(number)
+        } else {
+            Err(Fault::OutOfRange(key))
+        }
+    }
+
+    /// The box of a key, seven whole numbers that can be stored.
+    pub fn stored_box(self, key: &'static str) -> Result<MathBox, Fault>
+        ensures { IfOk result (λ frame. IsStored frame) }
+    {
+        let frame = box_of(self.value(key)?).ok_or(Fault::WrongType(key))?;
+        if fits(&frame) {
+            Ok(frame)
+        } else {
+            Err(Fault::OutOfRange(key))
+        }
     }
 
     /// The whole number of a key, which isn't negative.

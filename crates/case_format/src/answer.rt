@@ -1,13 +1,10 @@
-use crate::fault::Fault;
-use commands::Status;
 use doc_io::MemorySink;
-use std::alloc::Global;
 use std::io::{self, Write};
 
 /// What came of a case.
 #[derive(Drop)]
 pub enum Answer {
-    /// One answer.
+    /// One answer in these words, which have no line feed.
     One(String),
     /// How a run ended, and what it wrote.
     Run(Ended),
@@ -16,18 +13,14 @@ pub enum Answer {
 /// How a run ended, and what it wrote.
 #[derive(Drop)]
 pub struct Ended {
-    pub status: Status,
+    /// The number of its exit status.
+    pub status: u8,
     pub written: MemorySink,
     /// Whether only the sum of what it wrote is told.
     pub summed: bool,
 }
 
 impl Answer {
-    /// One answer in these words.
-    pub fn one(alloc: Global, words: &str) -> Result<Answer, Fault> {
-        Ok(Answer::One(String::from_str(alloc, words)?))
-    }
-
     /// Writes its lines.
     pub fn write<W: Write>(&self, output: &mut W) -> io::Result<()> {
         match self {
@@ -39,7 +32,7 @@ impl Answer {
 
 impl Ended {
     fn write<W: Write>(&self, output: &mut W) -> io::Result<()> {
-        writeln!(output, "status {}", self.status.number())?;
+        writeln!(output, "status {}", self.status)?;
         if self.summed {
             write_sum(self.written.bytes(), output)
         } else {

@@ -1,7 +1,7 @@
 use crate::answer::Answer;
 use crate::fault::Fault;
 use crate::files::KnownFiles;
-use crate::kinds::{Case, answer};
+use crate::kinds::{Case, Kinds};
 use crate::lines::Line;
 use doc_io::Inputs;
 use serde_json::Value;
@@ -10,20 +10,22 @@ use std::io::{self, BufRead, Write};
 
 /// What is known while the lines of the input are gone through.
 #[derive(Drop)]
-pub struct Session<I: Inputs> {
+pub struct Session<'a, I: Inputs, K: Kinds> {
     alloc: Global,
     /// The files of data/.
     inputs: I,
+    kinds: &'a K,
     files: KnownFiles,
     /// Whether each line so far could be read.
     all_read: bool,
 }
 
-impl<I: Inputs + Drop> Session<I> {
-    pub fn new(alloc: Global, inputs: I) -> Session<I> {
+impl<'a, I: Inputs + Drop, K: Kinds> Session<'a, I, K> {
+    pub fn new(alloc: Global, inputs: I, kinds: &'a K) -> Session<'a, I, K> {
         Session {
             alloc,
             inputs,
+            kinds,
             files: KnownFiles::new(alloc),
             all_read: true,
         }
@@ -99,6 +101,6 @@ impl<I: Inputs + Drop> Session<I> {
             value,
             files: &self.files,
         };
-        answer(kind, case)
+        self.kinds.answer(kind, case)
     }
 }
