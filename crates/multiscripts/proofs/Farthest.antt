@@ -48,10 +48,10 @@ none_farther m size cramped base (pair ∷ pairs) zero l = kept _ (map (alone_of
 none_farther m size cramped base (pair ∷ pairs) (suc i) l = reached (alone_of m size cramped base) _ pairs i (omega arith)
 
 -- ---- what is found at a place
-item_at : {A : Type 0} (xs : List A) (i : ℕ) (d x : A) → slice_get xs i ≡ Some x → get_or xs i d ≡ x
+pub item_at : {A : Type 0} (xs : List A) (i : ℕ) (d x : A) → slice_get xs i ≡ Some x → get_or xs i d ≡ x
 item_at xs i d x is = let e = slice_get-get_or xs i d (slice_get_within xs i x is) in cc
 
-listed : {A : Type 0} (n i : ℕ) (f : ℕ → A) (x : A) → i < n → slice_get (list_to n f) i ≡ Some x → x ≡ f i
+pub listed : {A : Type 0} (n i : ℕ) (f : ℕ → A) (x : A) → i < n → slice_get (list_to n f) i ≡ Some x → x ≡ f i
 listed n i f x l is = let e = slice_get-list_to n i f l in cc
 
 -- ---- the laws

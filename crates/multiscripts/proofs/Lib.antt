@@ -1,4 +1,5 @@
 pub mod Farthest
+pub mod Leaning
 pub mod Moves
 pub mod OnePair
 pub mod Pairs

@@ -1,5 +1,5 @@
 -- What holds of all multiscripts, in terms of where their boxes and their ink lie.
-use Rattle.std.specs.Prelude.{ℕ, ℤ, pos, ◌+ℤ◌, ◌-ℤ◌, ◌≤ℤ◌, ◌≡◌, [], ◌∷◌, true, false, List, slice_get, Some}
+use Rattle.std.specs.Prelude.{ℕ, ◌<◌, ℤ, pos, ◌+ℤ◌, ◌-ℤ◌, ◌≤ℤ◌, ◌≡◌, [], ◌∷◌, true, false, List, slice_get, Some}
 use Rattle.fixed_units.specs.declared.boxes.MathBox.{MathBox}
 use Rattle.multiscripts.specs.declared.parts.Multi.{Multi}
 use Rattle.multiscripts.specs.declared.parts.Pair.{Pair}
@@ -35,6 +35,22 @@ abbrev pub PrescriptsEndTogether : List Pair → Multi → Type 0
 PrescriptsEndTogether pairs multi =
     (place : ℕ) (pair : Pair) (sub sup : Spot) → StandAt pairs multi place pair sub sup → pair.before ≡ true
     → end_of sub pair.sub ≡ end_of sup pair.sup
+
+-- all pairs ahead of a place are prescripts
+abbrev pub AllBefore : List Pair → ℕ → Type 0
+AllBefore pairs place = (earlier : ℕ) (other : Pair) → earlier < place → slice_get pairs earlier ≡ Some other → other.before ≡ true
+
+-- the scripts of the first pair behind the base stand apart by its italic correction
+abbrev pub FirstPairLeans : MathBox → List Pair → Multi → Type 0
+FirstPairLeans base pairs multi =
+    (place : ℕ) (pair : Pair) (sub sup : Spot) → StandAt pairs multi place pair sub sup → pair.before ≡ false
+    → AllBefore pairs place → sup.x ≡ sub.x +ℤ base.italic
+
+-- those of each later one begin together
+abbrev pub LaterPairsDont : List Pair → Multi → Type 0
+LaterPairsDont pairs multi =
+    (place earlier : ℕ) (pair other : Pair) (sub sup : Spot) → StandAt pairs multi place pair sub sup → pair.before ≡ false
+    → earlier < place → slice_get pairs earlier ≡ Some other → other.before ≡ false → sup.x ≡ sub.x
 
 -- ---- one pair
 

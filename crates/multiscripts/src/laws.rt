@@ -6,7 +6,7 @@ ghost use Rattle.fixed_units.specs.Boxes.{IsUnion};
 ghost use Rattle.fixed_units.specs.declared.boxes.MathBox.{MathBox};
 ghost use Rattle.font_metrics.specs.Metrics.{MetricsValue};
 ghost use Rattle.multiscripts.specs.Heights.{all_shifts_of, moved};
-ghost use Rattle.multiscripts.specs.Laws.{AllKeepGap, PrescriptsEndTogether, behind, IsLaidOutAs};
+ghost use Rattle.multiscripts.specs.Laws.{AllKeepGap, PrescriptsEndTogether, FirstPairLeans, LaterPairsDont, behind, IsLaidOutAs};
 ghost use Rattle.multiscripts.specs.Placing.{multi_of};
 ghost use Rattle.multiscripts.specs.declared.parts.Pair.{Pair};
 ghost use Rattle.scripts.specs.Beside.{sub_sup_of};
@@ -30,6 +30,15 @@ pub fn the_box_is_a_union()
 pub fn prescripts_end_together()
     ensures { (m : MetricsValue) (base : MathBox) (large cramped : Bool) (pairs : List Pair) (size : ℤ) →
         PrescriptsEndTogether pairs (multi_of m base large cramped pairs size) }
+{}
+
+/// The base leans over the first pair behind it, whatever prescripts stand in between in the list, and
+/// over no other.
+pub fn the_base_leans_over_one_pair()
+    ensures first { (m : MetricsValue) (base : MathBox) (large cramped : Bool) (pairs : List Pair) (size : ℤ) →
+        FirstPairLeans base pairs (multi_of m base large cramped pairs size) }
+    ensures later { (m : MetricsValue) (base : MathBox) (large cramped : Bool) (pairs : List Pair) (size : ℤ) →
+        LaterPairsDont pairs (multi_of m base large cramped pairs size) }
 {}
 
 /// One pair behind its base is laid out as a subscript and a superscript are.

@@ -6,8 +6,8 @@
 //!
 //! - Models: MathML Core 3.4.3, "Prescripts and Tensor Indices"; the constants are those of OpenType
 //!   MATH.
-//! - Proved: the result is `multi_of` (`specs/Placing.antt`), exactly; the least gap in each pair, and
-//!   that one pair behind a base stands as `sub_sup` sets it, are `laws`.
+//! - Proved: the result is `multi_of` (`specs/Placing.antt`), exactly; the least gap in each pair, over
+//!   which pair a base leans, and that one pair behind it stands as `sub_sup` sets it, are `laws`.
 //! - Knows nothing of: trees, styles, other elements. Where scripts stand along the line
 //!   (`specs/Along.antt`) is found apart from how far they move up and down (`specs/Heights.antt`).
 //! - Change where they stand: `specs/Along.antt`, then `src/along.rt`, then `rt check`.
