@@ -63,17 +63,21 @@ fn has_bytes(word: &[u8]) -> bool
 /// More than a line of any kind has, so that a line of too many words shows.
 pub const MOST_WORDS: usize = 38;
 
-/// The words of a line, which blanks part: the first `MOST_WORDS` of them. It takes no memory.
-pub fn words(line: &[u8]) -> ArrayVec<&[u8], MOST_WORDS>
-    ensures { lent result.items ≡ take most_words (words_of line.now) }
+/// Room for the words of a line.
+pub type LineWords<'a> = ArrayVec<&'a [u8], MOST_WORDS>;
+
+/// Puts the words of a line, which blanks part, where there is none yet: the first `MOST_WORDS` of
+/// them. It takes no memory.
+pub fn cut<'a>(line: &'a [u8], words: &mut LineWords<'a>)
+    requires { words.old.items ≡ [] }
+    ensures { lent words.new.items ≡ take most_words (words_of line.now) }
 {
-    let mut words = ArrayVec::new();
     let parts = line
         .split(|byte| is_blank(*byte))
         .filter(|word| has_bytes(word))
         .take(MOST_WORDS);
     match words.extend(parts) {
-        Ok(()) => words,
+        Ok(()) => (),
         // There is room for as many as are taken.
         Err(_) => unreachable!(),
     }

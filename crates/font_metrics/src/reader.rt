@@ -7,7 +7,7 @@ ghost use Rattle.font_metrics.specs.Reads.{Takes};
 use crate::fault::{LineFault, fault_if};
 use crate::given::{Given, Needed};
 use crate::keyword::{Keyword, keyword_of};
-use crate::pieces::{is_comment, is_foreign, words};
+use crate::pieces::{LineWords, cut, is_comment, is_foreign};
 use crate::refusal::LineRefusal;
 use crate::said::line_says;
 use crate::texts::is_text;
@@ -33,7 +33,8 @@ impl Given {
         if is_comment(line) {
             return Ok(());
         }
-        let words = words(line);
+        let mut words = LineWords::new();
+        cut(line, &mut words);
         self.take_words(alloc, words.as_slice())
     }
 
@@ -84,7 +85,8 @@ fn take_first(line: &[u8]) -> Result<(), LineFault>
     ensures { result ≡ first_in line.now }
 {
     fault_if(is_foreign(line), LineFault::ForeignByte)?;
-    let words = words(line);
+    let mut words = LineWords::new();
+    cut(line, &mut words);
     fault_if(!is_version(words.as_slice()), LineFault::WrongFirstLine)
 }
 

@@ -11,7 +11,7 @@ returns c =
     let line = c.args.line.now in
     let plain : fault_if (is_foreign line) ForeignByte ≡ Ok c.in_ok-fault_if.field-0 =
     ap (λ b. fault_if b ForeignByte) (sym c.is_foreign.ensures) ∙ sym c.fault_if.ensures ∙ c.in_ok-fault_if.was in
-    let words = ap lent c.as_slice.ensures.value ∙ c.words-words.ensures in
+    let words = ap lent c.as_slice.ensures.value ∙ c.cut.ensures in
     c.fault_if-2.ensures
     ∙ ap (λ b. fault_if (not b) WrongFirstLine) (c.is_version.ensures ∙ ap is_version words ∙ version-take (words_of line))
     ∙ sym (ap (λ s. s >>= λ plain. fault_if (not (is_version (words_of line))) WrongFirstLine) plain)

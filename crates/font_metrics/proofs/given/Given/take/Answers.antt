@@ -9,7 +9,7 @@ pub returns : goal.returns
 returns c =
     let g = c.args.self.now in
     let line = c.args.line.now in
-    let words = ap lent c.as_slice.ensures.value ∙ c.words-words.ensures in
+    let words = ap lent c.as_slice.ensures.value ∙ c.cut.ensures in
     subst (λ s. Takes s c.take_words.new.self c.take_words.result)
     (ap (after_words g) words ∙ words-take g (words_of line)
     ∙ sym (behind g line c.is_foreign.result c.is_comment.result c.in_ok-fault_if.field-0 c.is_foreign.ensures

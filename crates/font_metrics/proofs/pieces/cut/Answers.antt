@@ -8,13 +8,13 @@ use Rattle.font_metrics.specs.Lines.{lent}
 use Rattle.std.specs.Slice.Iter.{split_rest, split_done, split_callee}
 use Rattle.font_metrics.specs.Reading.{is_blank, is_empty, words_of, most_words}
 use Rattle.font_metrics.proofs.Cuts.{most_words_are}
-use Rattle.font_metrics.proofs.pieces.words.Goals as goal
+use Rattle.font_metrics.proofs.pieces.cut.Goals as goal
 
 pub returns : goal.returns
 unfolding words_of
 returns c =
     let ran = c.in-Ok.ensures.ran in
-    ap lent (ran.3 ∙ ap (λ l. l ++ ran.1) c.new-words.ensures)
+    ap lent (ran.3 ∙ ap (λ l. l ++ ran.1) c.requires)
     ∙ items_from_drains ran.1 (ran.4.1.0, ran.4.1.1, λ _. (ran.4.0, ran.4.1.2))
     (YieldsList-from_take most_words
     (YieldsList-from_filter _ (λ word. not (is_empty word))
@@ -40,7 +40,7 @@ pub unreachable-requires : goal.unreachable-requires
 unfolding words_of
 unreachable-requires c =
     let more = c.in-Err.ensures.one_more in
-    let size = sym (ap length (more.6 ∙ ap (λ l. l ++ more.1) c.new-words.ensures)) ∙ c.in-Err.ensures.full ∙ sym most_words_are in
+    let size = sym (ap length (more.6 ∙ ap (λ l. l ++ more.1) c.requires)) ∙ c.in-Err.ensures.full ∙ sym most_words_are in
     no_further most_words (words_of c.args.line.now) more.2.now
     (nth_from_yields_List (Some more.2) more.3 most_words (more.1, more.5, size)
     (YieldsList-from_take most_words
