@@ -6,3 +6,4 @@ pub mod MemoryCalls
 pub mod Worked
 pub mod SystemFiles
 pub mod SystemWrites
+pub mod Written

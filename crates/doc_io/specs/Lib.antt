@@ -4,3 +4,5 @@ pub mod FailingCalls
 pub mod MemoryInputs
 pub mod MemorySink
 pub mod Edge
+pub mod Lines
+pub mod Pieces

@@ -16,6 +16,8 @@
 mod edge; // the system's files and standard output
 mod memory_inputs; // files of a test
 mod memory_sink; // a sink of a test
+mod piece; // what is held back of a text
+mod short_text; // a part of a line
 #[cfg(test)]
 mod tests;
 mod traits; // Inputs, Sink
@@ -24,5 +26,7 @@ mod whole; // read_all, write_all
 pub use edge::{FileInputs, StdSink};
 pub use memory_inputs::MemoryInputs;
 pub use memory_sink::MemorySink;
+pub use piece::Piece;
+pub use short_text::{SHORT_TEXT, ShortText};
 pub use traits::{Failed, Inputs, Sink};
 pub use whole::{ReadRefusal, WriteFault, read_all, write_all};

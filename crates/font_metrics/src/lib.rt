@@ -53,3 +53,4 @@ pub use mark::Mark;
 pub use metrics::Metrics;
 pub use read::{MOST_FILE_BYTES, read_metrics};
 pub use refusal::{MetricsFault, MetricsRefusal};
+pub use texts::axis_text;
