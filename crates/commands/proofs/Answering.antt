@@ -5,13 +5,13 @@ use Rattle.std.specs.Option.{option_map}
 use Rattle.doc_io.specs.Causes.{Files, InputsTold}
 use Rattle.font_metrics.specs.Metrics.{MetricsValue}
 use Rattle.math_tree.specs.Trees.{TreeValue}
+use Rattle.box_writer.specs.Lines.{text_of}
 use Rattle.commands.specs.Command.{Asked}
 use Rattle.std.specs.Prelude.{Bool, true, false, if◌then◌else◌}
 use Rattle.math_tree.specs.Built.{is_built}
 use Rattle.commands.specs.declared.command.Task.{Task}
 use Rattle.commands.specs.declared.command.Task.TheVariants.{Layout, Check}
 use Rattle.commands.specs.Placed.{place}
-use Rattle.commands.specs.Lines.{text_of}
 use Rattle.commands.specs.Answer.{content, metrics_in, tree_in, ◌>>=◌, done, answer_over, answer_in, answer}
 use Rattle.commands.specs.Ends.{LacksFile, HasReadCause, IsCut, GivesOr, Answers}
 use Rattle.commands.specs.declared.refusal.Refusal.{Refusal}

@@ -8,7 +8,7 @@ use Rattle.doc_io.proofs.Known.{appends_kept}
 use Rattle.commands.specs.Command.{Asked, usage_line}
 use Rattle.commands.specs.Refusals.{status_of}
 use Rattle.commands.specs.Answer.{answer, Output, output_of, output}
-use Rattle.commands.specs.Ends.{LacksFile, HasReadCause, IsCut, IsCutShort, Answers, Delivers, Ends}
+use Rattle.commands.specs.Ends.{LacksFile, HasReadCause, IsCut, IsCutShort, Answers, Delivers, Answered, Ends}
 use Rattle.commands.specs.declared.status.Status.{Status}
 use Rattle.commands.specs.declared.status.Status.TheVariants as status
 use Rattle.commands.specs.declared.refusal.Refusal.{Refusal}
@@ -162,16 +162,11 @@ module _ (asked : Asked) (before after : InputsTold) (old new : SinkTold) (s : S
     write_faults = d.later;
   }
 
--- the same, where the request, the text and the status were handed on
-pub command_ends : (asked : Option Asked) (shown : Asked) (before after : InputsTold) (old new : SinkTold) (s : Status)
-    (result : Result (List ℕ) Refusal) (text : List ℕ) (wanted : Status)
-    → asked ≡ Some shown → text ≡ (output_of result).bytes → wanted ≡ (output_of result).status
-    → Answers (option_map (answer shown) before.files) (LacksFile (Some shown)) before after result
-    → Delivers text wanted old new s → Ends asked before after old new s
-command_ends asked shown before after old new s result text wanted is text_is status_is a d =
-    subst (λ o. Ends o before after old new s) (sym is)
-    (ends shown before after old new s result a
-    (subst (λ b. Delivers b (output_of result).status old new s) text_is (subst (λ w. Delivers text w old new s) status_is d)))
+-- the same, where the request was handed on
+pub answered_ends : (asked : Option Asked) (shown : Asked) (before after : InputsTold) (old new : SinkTold) (s : Status) → asked ≡ Some shown
+    → Answered (option_map (answer shown) before.files) (LacksFile (Some shown)) before after old new s → Ends asked before after old new s
+answered_ends asked shown before after old new s is a =
+    subst (λ o. Ends o before after old new s) (sym is) (ends shown before after old new s a.result a.answers a.delivers)
 
 -- ---- words that are no command
 

@@ -2,5 +2,4 @@ pub mod Ending
 pub mod Loading
 pub mod Answering
 pub mod Placing
-pub mod Fits
 mod Worked

@@ -6,6 +6,7 @@ use Rattle.std.specs.Str.{bytes_eq}
 use Rattle.std.proofs.lemmas.Str.{is_utf8-from_IsUtf8}
 use Rattle.serde_json.specs.Read.{read}
 use Rattle.doc_io.specs.Causes.{Files}
+use Rattle.box_writer.specs.Lines.{box_line, glyph_line, text_of}
 use Rattle.fixed_units.specs.Numbers.{rounded, halved}
 use Rattle.font_metrics.specs.Words.{value_of_digits, numeral_of, number_of, number_in, natural_in, code_of, letter_in, is_name as is_glyph_name, name_in as glyph_name_in}
 use Rattle.font_metrics.specs.Lines.{keyword_of}
@@ -22,7 +23,6 @@ use Rattle.math_tree.specs.declared.node.Node.TheOpen.{Node-F}
 use Rattle.commands.specs.Command.{asked_by}
 use Rattle.commands.specs.Layout.{glyph_box, no_box, token_of}
 use Rattle.commands.specs.Placed.{place, place_over, frame_at_origin, glyphs_of}
-use Rattle.commands.specs.Lines.{box_line, glyph_line, text_of}
 use Rattle.commands.specs.Answer.{metrics_in, tree_of_json, tree_in, done, output_of, output}
 use Rattle.commands.proofs.Loading.{tree_short}
 use Rattle.commands.proofs.Answering.{answered, refused_by_metrics}

@@ -13,12 +13,12 @@ use Rattle.math_tree.specs.Print.{print_of as tree_print}
 use Rattle.math_tree.specs.Reading.{tree_of}
 use Rattle.math_tree.specs.Trees.{TreeValue}
 use Rattle.math_tree.specs.declared.fault.TreeFault.{TreeFault}
+use Rattle.box_writer.specs.Lines.{text_of}
 use Rattle.commands.specs.Command.{Asked, usage_line}
 use Rattle.commands.specs.declared.command.Task.{Task}
 use Rattle.commands.specs.declared.command.Task.TheVariants.{Layout, Check}
 use Rattle.commands.specs.Refusals.{line_of, status_of}
 use Rattle.commands.specs.Placed.{place}
-use Rattle.commands.specs.Lines.{text_of}
 use Rattle.commands.specs.declared.status.Status.{Status}
 use Rattle.commands.specs.declared.status.Status.TheVariants.{Done, Usage}
 use Rattle.commands.specs.declared.refusal.Refusal.{Refusal}

@@ -3,7 +3,7 @@ use Rattle.std.specs.Prelude.{◌≡◌, ◌⊎◌, ℕ, ◌≤◌, List, [], ta
 use Rattle.std.specs.Io.KnownBytes.{Appends, Keeps}
 use Rattle.doc_io.specs.Causes.{Files, InputsTold, Rose, SinkTold}
 use Rattle.commands.specs.Command.{Asked, usage_line}
-use Rattle.commands.specs.Answer.{content, metrics_in, output}
+use Rattle.commands.specs.Answer.{content, metrics_in, output, output_of}
 use Rattle.commands.specs.declared.status.Status.{Status}
 use Rattle.commands.specs.declared.status.Status.TheVariants.{Usage, ReadFault, WriteFault, Memory}
 use Rattle.commands.specs.declared.refusal.Refusal.{Refusal}
@@ -59,6 +59,20 @@ pub record Delivers (text : List ℕ) (wanted : Status) (old new : SinkTold)
   pub fault : status ≡ WriteFault → Rose old.faults new.faults
   pub later : old.faults ≤ new.faults
   pub silent : text ≡ [] → (status ≡ wanted) × Keeps old.written new.written
+
+-- the wanted answer, or want of memory, was delivered
+pub record Written (wanted : Result (List ℕ) Refusal) (old new : SinkTold)
+    (status : Status) : Type 0 where
+  pub result : Result (List ℕ) Refusal
+  pub gives : GivesOr wanted result
+  pub delivers : Delivers (output_of result).bytes (output_of result).status old new status
+
+-- the wanted answer, or the reason why it was cut short, was delivered
+pub record Answered (wanted : Option (Result (List ℕ) Refusal)) (lacks : Files → Type 0)
+    (before after : InputsTold) (old new : SinkTold) (status : Status) : Type 0 where
+  pub result : Result (List ℕ) Refusal
+  pub answers : Answers wanted lacks before after result
+  pub delivers : Delivers (output_of result).bytes (output_of result).status old new status
 
 -- ---- the ending of a run
 

@@ -1,6 +1,7 @@
 -- What a refusal tells the user, and which refusal stands for those of the crates below.
 use Rattle.std.specs.Prelude.{ℕ, List, [], ◌∷◌, codes}
 use Rattle.std.specs.Fmt.{decimal}
+use Rattle.doc_io.specs.Lines.{line}
 use Rattle.doc_io.specs.declared.whole.ReadRefusal.{ReadRefusal}
 use Rattle.doc_io.specs.declared.whole.ReadRefusal.TheVariants as reading
 use Rattle.font_metrics.specs.declared.refusal.MetricsRefusal.{MetricsRefusal}
@@ -11,7 +12,6 @@ use Rattle.commands.specs.declared.status.Status.{Status}
 use Rattle.commands.specs.declared.status.Status.TheVariants as status
 use Rattle.commands.specs.declared.refusal.Refusal.{Refusal}
 use Rattle.commands.specs.declared.refusal.Refusal.TheVariants.{MetricsLong, Metrics, TreeLong, TreeJson, Tree, TreeLater, ReadFault, Memory}
-use Rattle.commands.specs.Lines.{line}
 
 -- the line of a fault: where it is, and the number of its kind
 abbrev pub fault_line : List ℕ → ℕ → ℕ → List ℕ

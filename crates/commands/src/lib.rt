@@ -13,13 +13,10 @@
 
 mod command; // the words of the command line
 mod layout; // the boxes of tokens and rows
-mod lines; // the lines of output
 mod load; // the two files
 mod place; // what stands where
-mod placed; // the items that stand
 mod program; // the top call
 mod refusal; // why the answer is another
-mod refusal_line; // the line that tells of it
 mod status; // how a run ends
 
 pub use program::run;

@@ -1,16 +1,17 @@
 ghost use Rattle.std.specs.Prelude.{◌≡◌, [], ◌∷◌, ◌++◌, All, IfOk, OnOk};
-ghost use Rattle.commands.specs.Placed.{place, row_items, frame_at_origin, token_items, IsOfFont};
+ghost use Rattle.box_writer.specs.Items.{IsOfFont};
+ghost use Rattle.commands.specs.Placed.{place, row_items, frame_at_origin, token_items};
 
 use crate::layout::{FONT_SIZE, row, token};
-use crate::placed::{PlacedBox, PlacedGlyph, PlacedItem};
-use fixed_units::{List, MathBox, Memory};
-use font_metrics::Metrics;
+use box_writer::Placed;
+use fixed_units::{MathBox, Memory};
+use font_metrics::{Mark, Metrics};
 use math_tree::{Head, Node};
 use std::alloc::Global;
 
 /// Says where the boxes and glyphs of the root and of its first child stand, in document order. The
 /// trees that are laid out so far have no more.
-pub fn place(alloc: Global, root: &Node, metrics: &Metrics) -> Result<List<PlacedItem>, Memory>
+pub fn place(alloc: Global, root: &Node, metrics: &Metrics) -> Result<Placed, Memory>
     ensures items { IfOk result (λ items. items ≡ place metrics.now root.now) }
     ensures glyphs { IfOk result (All (IsOfFont metrics.now)) }
 {
@@ -21,11 +22,11 @@ pub fn place(alloc: Global, root: &Node, metrics: &Metrics) -> Result<List<Place
 }
 
 /// A row's box alone.
-fn place_row(alloc: Global, head: &Head, frame: MathBox) -> Result<List<PlacedItem>, Memory>
+fn place_row(alloc: Global, head: &Head, frame: MathBox) -> Result<Placed, Memory>
     ensures { IfOk result (λ items. items ≡ frame_at_origin head.now frame ∷ []) }
 {
-    let mut items = List::make(alloc);
-    items.push(at_origin(alloc, head, frame)?)?;
+    let mut items = Placed::make(alloc);
+    items.add_box(alloc, head, 0, 0, frame)?;
     Ok(items)
 }
 
@@ -35,7 +36,7 @@ fn place_row_of(
     head: &Head,
     child: &Node,
     metrics: &Metrics,
-) -> Result<List<PlacedItem>, Memory>
+) -> Result<Placed, Memory>
     ensures items { IfOk result (λ items. items ≡ row_items metrics.now head.now child.now) }
     ensures glyphs { IfOk result (All (IsOfFont metrics.now)) }
 {
@@ -50,34 +51,22 @@ fn place_token(
     alloc: Global,
     node: &Node,
     metrics: &Metrics,
-    items: &mut List<PlacedItem>,
+    items: &mut Placed,
 ) -> Result<(), Memory>
     ensures items { OnOk result (items.new ≡ items.old ++ token_items metrics.now node.now) }
     ensures glyphs { OnOk result
         (All (IsOfFont metrics.now) items.old → All (IsOfFont metrics.now) items.new) }
 {
     let text = node.head.text.as_str();
-    items.push(at_origin(alloc, &node.head, token(metrics, text))?)?;
+    items.add_box(alloc, &node.head, 0, 0, token(metrics, text))?;
     if let Some(letter) = text.as_bytes().first() {
-        items.push(PlacedItem::Glyph(PlacedGlyph {
+        let glyph = Mark::Glyph {
             x: 0,
             y: 0,
             size: FONT_SIZE,
             glyph: metrics.glyph_of(char::from(*letter)),
-        }))?;
+        };
+        items.add_mark(glyph, 0, 0)?;
     }
     Ok(())
-}
-
-/// An element's box at the start of the root's baseline.
-fn at_origin(alloc: Global, head: &Head, frame: MathBox) -> Result<PlacedItem, Memory>
-    ensures { IfOk result (λ item. item ≡ frame_at_origin head.now frame) }
-{
-    Ok(PlacedItem::Frame(PlacedBox {
-        id: head.id,
-        name: head.name.copy(alloc)?,
-        x: 0,
-        y: 0,
-        frame,
-    }))
 }

@@ -1,15 +1,18 @@
-ghost use Rattle.std.specs.Prelude.{◌≡◌, ◌≢◌, Some, None, IfOk, map, string_bytes};
+ghost use Rattle.std.specs.Prelude.{◌≡◌, ◌≢◌, Some, None, All, IfOk, map, string_bytes};
 ghost use Rattle.std.specs.Option.{option_map};
+ghost use Rattle.box_writer.specs.Items.{IsOfFont};
+ghost use Rattle.box_writer.specs.Lines.{text_of};
 ghost use Rattle.commands.specs.Command.{asked_by, asked_of};
 ghost use Rattle.commands.specs.Answer.{answer, answer_over, checked, content, done, laid_out};
-ghost use Rattle.commands.specs.Ends.{Answers, Delivers, Ends, GivesOr, LacksFile};
+ghost use Rattle.commands.specs.Ends.{Answered, Delivers, Ends, LacksFile, Written};
+ghost use Rattle.commands.specs.Refusals.{line_of, status_of};
 
 use crate::command::{NoCommand, Request, Task, USAGE};
-use crate::lines::Lines;
 use crate::load::{load_metrics, load_tree};
 use crate::place::place;
 use crate::refusal::Refusal;
 use crate::status::Status;
+use box_writer::{Placed, write_placed};
 use doc_io::{Inputs, Sink, write_all};
 use fixed_units::{List, Memory, Steps};
 use font_metrics::Metrics;
@@ -33,11 +36,104 @@ pub fn run<I: Inputs, O: Sink, L: Ledger>(
 {
     match Request::from_words(words) {
         Err(NoCommand) => deliver(out, USAGE.as_bytes(), Status::Usage),
-        Ok(request) => match carry_out(alloc, request, inputs) {
-            Ok(text) => deliver(out, text.as_slice(), Status::Done),
-            Err(refusal) => deliver(out, refusal.line().as_str().as_bytes(), refusal.status()),
-        },
+        Ok(request) => answer(alloc, request, inputs, out),
     }
+}
+
+/// Does what a request asks for, or tells why it isn't done.
+fn answer<I: Inputs, O: Sink>(
+    alloc: Global,
+    request: Request,
+    inputs: &mut I,
+    out: &mut O,
+) -> Status
+    ensures { Answered
+        (option_map (answer (asked_of request.entry)) (I.told inputs.old).files)
+        (LacksFile (Some (asked_of request.entry)))
+        (I.told inputs.old) (I.told inputs.new)
+        (O.told out.old) (O.told out.new) result }
+{
+    match load_metrics(alloc, request.metrics, inputs) {
+        Ok(metrics) => {
+            let status = answer_over(alloc, request.task, &metrics, request.tree, inputs, out);
+            // Dropped by a call, so that the proof of this function doesn't go through all their
+            // parts.
+            drop(metrics);
+            status
+        }
+        Err(refusal) => tell(out, refusal),
+    }
+}
+
+/// Does a task with these metrics and a tree file, or tells why it isn't done.
+fn answer_over<I: Inputs, O: Sink>(
+    alloc: Global,
+    task: Task,
+    metrics: &Metrics,
+    name: &str,
+    inputs: &mut I,
+    out: &mut O,
+) -> Status
+    ensures { Answered
+        (option_map (λ files. answer_over task metrics.now (content files name.now))
+        (I.told inputs.old).files)
+        (λ files. files name.now ≡ None)
+        (I.told inputs.old) (I.told inputs.new)
+        (O.told out.old) (O.told out.new) result }
+{
+    match load_tree(alloc, name, inputs) {
+        Ok(tree) => do_task(alloc, task, metrics, &tree, out),
+        Err(refusal) => tell(out, refusal),
+    }
+}
+
+/// Does a task with the two files.
+fn do_task<O: Sink>(
+    alloc: Global,
+    task: Task,
+    metrics: &Metrics,
+    tree: &Tree,
+    out: &mut O,
+) -> Status
+    ensures { Written (done task metrics.now tree.now) (O.told out.old) (O.told out.new) result }
+{
+    match task {
+        Task::Layout => lay_out(alloc, metrics, tree, out),
+        Task::Check => check(alloc, metrics, tree, out),
+    }
+}
+
+/// Writes the lines of the boxes, where the tree is one that is laid out so far.
+fn lay_out<O: Sink>(alloc: Global, metrics: &Metrics, tree: &Tree, out: &mut O) -> Status
+    ensures { Written (laid_out metrics.now tree.now) (O.told out.old) (O.told out.new) result }
+{
+    if !tree.root().is_built() {
+        return tell(out, Refusal::TreeLater);
+    }
+    match place(alloc, tree.root(), metrics) {
+        Ok(placed) => deliver_lines(out, &placed, metrics),
+        Err(Memory) => tell(out, Refusal::Memory),
+    }
+}
+
+/// Writes the canonical print of both files, and a line feed.
+fn check<O: Sink>(alloc: Global, metrics: &Metrics, tree: &Tree, out: &mut O) -> Status
+    ensures { Written (Ok (checked metrics.now tree.now)) (O.told out.old) (O.told out.new) result }
+{
+    match print_both(alloc, metrics, tree) {
+        Ok(text) => deliver(out, text.as_slice(), Status::Done),
+        Err(Memory) => tell(out, Refusal::Memory),
+    }
+}
+
+/// The canonical print of both files, and a line feed.
+fn print_both(alloc: Global, metrics: &Metrics, tree: &Tree) -> Result<List<u8>, Memory>
+    ensures { IfOk result (λ text. text ≡ checked metrics.now tree.now) }
+{
+    let mut text = metrics.print(alloc)?;
+    text.push_all(tree.print(alloc)?.as_slice())?;
+    text.push(b'\n')?;
+    Ok(text)
 }
 
 /// Writes a text and answers the status, unless a write fails.
@@ -52,71 +148,22 @@ fn deliver<O: Sink>(out: &mut O, text: &[u8], status: Status) -> Status
     }
 }
 
-/// The text that a request asks for, or why there is none.
-fn carry_out<I: Inputs>(
-    alloc: Global,
-    request: Request,
-    inputs: &mut I,
-) -> Result<List<u8>, Refusal>
-    ensures { Answers
-        (option_map (answer (asked_of request.entry)) (I.told inputs.old).files)
-        (LacksFile (Some (asked_of request.entry)))
-        (I.told inputs.old) (I.told inputs.new) result }
+/// Writes the lines of boxes and marks, unless a write fails.
+fn deliver_lines<O: Sink>(out: &mut O, placed: &Placed, metrics: &Metrics) -> Status
+    requires { All (IsOfFont metrics.now) placed.now }
+    ensures { Delivers (text_of metrics.now placed.now) Status.Done
+        (O.told out.old) (O.told out.new) result }
 {
-    let metrics = load_metrics(alloc, request.metrics, inputs)?;
-    let text = answer_over(alloc, request.task, &metrics, request.tree, inputs);
-    // Dropped by a call, so that the proof of this function doesn't go through all their parts.
-    drop(metrics);
-    text
-}
-
-/// What a task makes of these metrics and a tree file, or why there is no text.
-fn answer_over<I: Inputs>(
-    alloc: Global,
-    task: Task,
-    metrics: &Metrics,
-    name: &str,
-    inputs: &mut I,
-) -> Result<List<u8>, Refusal>
-    ensures { Answers
-        (option_map (λ files. answer_over task metrics.now (content files name.now))
-        (I.told inputs.old).files)
-        (λ files. files name.now ≡ None)
-        (I.told inputs.old) (I.told inputs.new) result }
-{
-    let tree = load_tree(alloc, name, inputs)?;
-    do_task(alloc, task, metrics, &tree)
-}
-
-/// What a task makes of the two files.
-#[tactic(auto, unfolding(crate::specs::Answer::done))]
-fn do_task(alloc: Global, task: Task, metrics: &Metrics, tree: &Tree) -> Result<List<u8>, Refusal>
-    ensures { GivesOr (done task metrics.now tree.now) result }
-{
-    match task {
-        Task::Layout => lay_out(alloc, metrics, tree),
-        Task::Check => Ok(print_both(alloc, metrics, tree)?),
+    match write_placed(out, placed, metrics) {
+        Ok(()) => Status::Done,
+        Err(_) => Status::WriteFault,
     }
 }
 
-/// The lines of the boxes, where the tree is one that is laid out so far.
-fn lay_out(alloc: Global, metrics: &Metrics, tree: &Tree) -> Result<List<u8>, Refusal>
-    ensures { GivesOr (laid_out metrics.now tree.now) result }
+/// Writes the line of a refusal and answers its status, unless a write fails.
+fn tell<O: Sink>(out: &mut O, refusal: Refusal) -> Status
+    ensures { Delivers (line_of refusal) (status_of refusal)
+        (O.told out.old) (O.told out.new) result }
 {
-    if !tree.root().is_built() {
-        return Err(Refusal::TreeLater);
-    }
-    let items = place(alloc, tree.root(), metrics)?;
-    let lines = Lines::of_items(alloc, items.as_slice(), metrics)?;
-    Ok(lines.into_bytes())
-}
-
-/// The canonical print of both files, and a line feed.
-fn print_both(alloc: Global, metrics: &Metrics, tree: &Tree) -> Result<List<u8>, Memory>
-    ensures { IfOk result (λ text. text ≡ checked metrics.now tree.now) }
-{
-    let mut text = metrics.print(alloc)?;
-    text.push_all(tree.print(alloc)?.as_slice())?;
-    text.push(b'\n')?;
-    Ok(text)
+    deliver(out, refusal.line().as_str().as_bytes(), refusal.status())
 }

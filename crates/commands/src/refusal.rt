@@ -1,9 +1,8 @@
-ghost use Rattle.std.specs.Prelude.{◌≡◌};
-ghost use Rattle.commands.specs.Refusals.{line_of, status_of, of_reading};
+ghost use Rattle.std.specs.Prelude.{◌≡◌, ◌≤◌, length};
+ghost use Rattle.commands.specs.Refusals.{fault_line, line_of, status_of, of_reading};
 
-use crate::refusal_line::RefusalLine;
 use crate::status::Status;
-use doc_io::ReadRefusal;
+use doc_io::{ReadRefusal, ShortText};
 use fixed_units::Memory;
 use font_metrics::{MetricsFault, MetricsRefusal};
 use math_tree::{TreeFault, TreeRefusal};
@@ -40,18 +39,18 @@ pub enum Refusal {
 
 impl Refusal {
     /// The one line that tells the user, with its line feed. A failed read and want of memory
-    /// are told by the status alone.
-    pub fn line(self) -> RefusalLine
+    /// are told by the status alone. No memory is needed to tell it.
+    pub fn line(self) -> ShortText
         ensures { result ≡ line_of self }
     {
         match self {
-            Refusal::MetricsLong => RefusalLine::of_text("metrics long\n"),
-            Refusal::Metrics(fault) => RefusalLine::of_fault("metrics", fault.line, fault.kind),
-            Refusal::TreeLong => RefusalLine::of_text("tree long\n"),
-            Refusal::TreeJson => RefusalLine::of_text("tree json\n"),
-            Refusal::Tree(fault) => RefusalLine::of_fault("tree", fault.element, fault.kind),
-            Refusal::TreeLater => RefusalLine::of_text("tree later\n"),
-            Refusal::ReadFault | Refusal::Memory => RefusalLine::of_text(""),
+            Refusal::MetricsLong => ShortText::of("metrics long\n"),
+            Refusal::Metrics(fault) => fault_line("metrics", fault.line, fault.kind),
+            Refusal::TreeLong => ShortText::of("tree long\n"),
+            Refusal::TreeJson => ShortText::of("tree json\n"),
+            Refusal::Tree(fault) => fault_line("tree", fault.element, fault.kind),
+            Refusal::TreeLater => ShortText::of("tree later\n"),
+            Refusal::ReadFault | Refusal::Memory => ShortText::of(""),
         }
     }
 
@@ -79,6 +78,16 @@ impl Refusal {
             ReadRefusal::Memory => Refusal::Memory,
         }
     }
+}
+
+/// The line of a fault in a file, by the place and the number of its kind.
+fn fault_line(file: &str, place: u32, kind: u8) -> ShortText
+    requires { length file.now ≤ 7 }
+    ensures { result ≡ fault_line file.now place kind }
+{
+    let mut line = ShortText::numbered(file, &[i64::from(place), i64::from(kind)]);
+    line.add("\n");
+    line
 }
 
 impl From<Memory> for Refusal {
