@@ -1,15 +1,18 @@
 -- Worked cases: the definitions compute them, and a wrong one is refused at its line.
-use Rattle.std.proofs.Common.{◌≡◌, refl, ℕ, pos, true, false, codes, Some, None}
+use Rattle.std.proofs.Common.{◌≡◌, refl, ℕ, pos, true, false, List, [], ◌∷◌, codes, Some, None}
+use Rattle.fixed_units.specs.Lengths.{length_of, trimmed, is_negative, behind_sign, number_of as number_in, digits_in_front, behind_digits, fraction_of, unit_at, unit_of, resolved, size_of as unit_size}
 use Rattle.fixed_units.specs.Numbers.{rounded}
 use Rattle.font_metrics.specs.Metrics.{MetricsValue, percent_of}
 use Rattle.font_metrics.specs.declared.constants.ConstName.TheVariants.{ScriptPercentScaleDown, ScriptScriptPercentScaleDown}
+use Rattle.math_tree.specs.declared.attributes.Attribute.{Attribute}
 use Rattle.math_tree.specs.declared.kind.Kind.{Kind}
-use Rattle.math_tree.specs.declared.kind.Kind.TheVariants.{Mfrac, Mmultiscripts, Mover, Mroot, Mrow, Msqrt, Msub, Msup, Munder}
+use Rattle.math_tree.specs.declared.kind.Kind.TheVariants.{Math, Mfrac, Mi, Mmultiscripts, Mn, Mo, Mover, Mroot, Mrow, Msqrt, Mstyle, Msub, Msup, Munder}
+use Rattle.math_tree.specs.declared.node.Head.{Head}
 use Rattle.style_scope.specs.declared.style.Place.{Place}
 use Rattle.style_scope.specs.declared.style.Style.{Style}
-use Rattle.style_scope.specs.Rules.{by_name, by_place, levels_of, is_compact_in, is_cramped_in}
+use Rattle.style_scope.specs.Rules.{by_name, by_place, by_size, by_level, by_display, levels_of, is_compact_in, is_cramped_in}
 use Rattle.style_scope.specs.Sizes.{in_range_of, size_of}
-use Rattle.style_scope.specs.Styles.{initial}
+use Rattle.style_scope.specs.Styles.{initial, by_attributes, root_style_of, child_style_of}
 use Rattle.style_scope.specs.Words.{level_of, number_of}
 
 -- ---- places
@@ -126,3 +129,81 @@ in_range-last = refl
 pub in_range-next : in_range_of (pos 1048577) ≡ None
 unfolding in_range_of
 in_range-next = refl
+
+-- ---- whole styles, of every element from the root down
+
+abbrev given : List ℕ → List ℕ → List Attribute
+given name value = record { name = name; value = value } ∷ []
+
+abbrev element : Kind → List Attribute → Head
+element kind attributes = record { id = record { 0 = 1 }; name = []; kind = kind; attributes = attributes; text = [] }
+
+pub root-inline : (m : MetricsValue) → root_style_of m (element Math []) ≡ initial
+unfolding root_style_of by_attributes by_size by_level by_display
+root-inline m = refl
+
+pub root-block : (m : MetricsValue) → root_style_of m (element Math (given (codes "display") (codes "Block"))) ≡ block
+unfolding root_style_of by_attributes by_size by_level by_display
+root-block m = refl
+
+-- 1 over 1, in a line: the fraction has the root's style, and its parts stand a level deeper
+pub fraction-itself : (m : MetricsValue) → child_style_of m initial (place Math 0) (element Mfrac []) ≡ initial
+unfolding child_style_of by_attributes by_place levels_of is_compact_in is_cramped_in by_name by_size by_level by_display
+fraction-itself m = refl
+
+pub fraction-numerator : (m : MetricsValue) → child_style_of m initial (place Mfrac 0) (element Mn []) ≡ record initial { depth = 1 }
+unfolding child_style_of by_attributes by_place levels_of is_compact_in is_cramped_in by_name by_size by_level by_display
+fraction-numerator m = refl
+
+pub fraction-denominator : (m : MetricsValue)
+    → child_style_of m initial (place Mfrac 1) (element Mn []) ≡ record initial { depth = 1; cramped = true }
+unfolding child_style_of by_attributes by_place levels_of is_compact_in is_cramped_in by_name by_size by_level by_display
+fraction-denominator m = refl
+
+-- a sum over 1, in a formula of its own: the sum is in display style, and what is under it isn't
+pub limits-itself : (m : MetricsValue) → child_style_of m block (place Math 0) (element Munder []) ≡ block
+unfolding child_style_of by_attributes by_place levels_of is_compact_in is_cramped_in by_name by_size by_level by_display
+limits-itself m = refl
+
+pub limits-base : (m : MetricsValue) → child_style_of m block (place Munder 0) (element Mo []) ≡ block
+unfolding child_style_of by_attributes by_place levels_of is_compact_in is_cramped_in by_name by_size by_level by_display
+limits-base m = refl
+
+pub limits-under : (m : MetricsValue) → child_style_of m block (place Munder 1) (element Mn []) ≡ record initial { depth = 1 }
+unfolding child_style_of by_attributes by_place levels_of is_compact_in is_cramped_in by_name by_size by_level by_display
+limits-under m = refl
+
+-- x under a hat, which is an accent: x is cramped, and the hat keeps the depth
+pub accent-base : (m : MetricsValue)
+    → child_style_of m initial (record (place Mover 0) { accent = true }) (element Mi []) ≡ record initial { cramped = true }
+unfolding child_style_of by_attributes by_place levels_of is_compact_in is_cramped_in by_name by_size by_level by_display
+accent-base m = refl
+
+pub accent-hat : (m : MetricsValue)
+    → child_style_of m initial (record (place Mover 1) { accent = true }) (element Mo []) ≡ initial
+unfolding child_style_of by_attributes by_place levels_of is_compact_in is_cramped_in by_name by_size by_level by_display
+accent-hat m = refl
+
+-- what an `mstyle` sets holds of what is in it
+pub level-style : (m : MetricsValue)
+    → child_style_of m initial (place Math 0) (element Mstyle (given (codes "scriptlevel") (codes "1"))) ≡ record initial { depth = 1 }
+unfolding child_style_of by_attributes by_place levels_of is_compact_in is_cramped_in by_name by_size by_level by_display level_of number_of
+level-style m = refl
+
+pub level-inside : (m : MetricsValue)
+    → child_style_of m (record initial { depth = 1 }) (place Mstyle 0) (element Mn []) ≡ record initial { depth = 1 }
+unfolding child_style_of by_attributes by_place levels_of is_compact_in is_cramped_in by_name by_size by_level by_display
+level-inside m = refl
+
+-- below the root no level is less than 0, and none is more than 15
+pub level-highest : (m : MetricsValue)
+    → child_style_of m initial (place Math 0) (element Mstyle (given (codes "scriptlevel") (codes "999"))) ≡ record initial { depth = 15 }
+unfolding child_style_of by_attributes by_place levels_of is_compact_in is_cramped_in by_name by_size by_level by_display level_of number_of
+level-highest m = refl
+
+-- a size that is given counts at the depth at which it stands: 2 em of 12288
+pub size-given_below : (m : MetricsValue) → percent_of m ScriptPercentScaleDown ≡ pos 75
+    → child_style_of m (record initial { depth = 1 }) (place Mstyle 0) (element Mstyle (given (codes "mathsize") (codes "2em")))
+    ≡ record initial { base = pos 24576; base_depth = 1; depth = 1 }
+unfolding child_style_of by_attributes by_place levels_of is_compact_in is_cramped_in by_name by_size by_level by_display size_of rounded length_of trimmed is_negative behind_sign number_in digits_in_front behind_digits fraction_of unit_at unit_of resolved unit_size
+size-given_below m percent = rw percent refl

@@ -3,3 +3,4 @@ pub mod Lengths
 pub mod Space
 pub mod Token
 pub mod Operator
+pub mod Laws
