@@ -2,4 +2,5 @@ pub mod Bounds
 pub mod Gaps
 pub mod LimitBounds
 pub mod LimitLaws
+pub mod ScriptLaws
 pub mod Worked

@@ -3,6 +3,8 @@ use Rattle.std.specs.Prelude.{ℤ, pos, ◌≡◌, ◌+ℤ◌, ◌-ℤ◌, ◌�
 use Rattle.fixed_units.specs.declared.boxes.MathBox.{MathBox}
 use Rattle.font_metrics.specs.Metrics.{MetricsValue}
 use Rattle.scripts.specs.Limits.{placed_if, under_limit_of, over_limit_of}
+use Rattle.scripts.specs.declared.lengths.SubLengths.{SubLengths}
+use Rattle.scripts.specs.declared.lengths.SupLengths.{SupLengths}
 use Rattle.scripts.specs.declared.limits.Placed.{Placed}
 use Rattle.scripts.specs.declared.parts.LimitCase.{LimitCase}
 use Rattle.scripts.specs.declared.parts.Limits.{Limits}
@@ -15,6 +17,20 @@ use Rattle.scripts.specs.declared.spacing.Gap.TheVariants.{Limit, Stack, Accent,
 abbrev pub ink_gap : MathBox → MathBox → Scripted → ℤ
 ink_gap sub sup scripted =
     (scripted.sub.y -ℤ sub.ink_ascent) -ℤ (scripted.sup.y +ℤ sup.ink_descent)
+
+-- a subscript stands as low as the constants want it: by its shift, by how high its ink reaches, and by
+-- how far its baseline lies below the ink of the base
+pub record IsLowEnough (font : SubLengths) (base sub : MathBox) (place : Spot) : Type 0 where
+  pub shift : font.shift ≤ℤ place.y
+  pub top : (sub.ink_ascent -ℤ place.y) ≤ℤ font.top_max
+  pub drop : font.drop_min ≤ℤ (place.y -ℤ base.ink_descent)
+
+-- a superscript as high: by its shift, by how low its ink reaches, and by how far its baseline lies below
+-- the top of the base's ink
+pub record IsHighEnough (font : SupLengths) (base sup : MathBox) (place : Spot) : Type 0 where
+  pub shift : font.shift ≤ℤ (pos 0 -ℤ place.y)
+  pub bottom : font.bottom_min ≤ℤ ((pos 0 -ℤ place.y) -ℤ sup.ink_descent)
+  pub drop : (base.ink_ascent +ℤ place.y) ≤ℤ font.drop_max
 
 -- ---- limits, up and down
 

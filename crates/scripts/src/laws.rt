@@ -5,9 +5,9 @@ ghost use Rattle.std.specs.Prelude.{ℤ, Bool, true, Option, Some, ◌≤ℤ◌}
 ghost use Rattle.fixed_units.specs.Boxes.{IsUnion};
 ghost use Rattle.fixed_units.specs.declared.boxes.MathBox.{MathBox};
 ghost use Rattle.font_metrics.specs.Metrics.{MetricsValue};
-ghost use Rattle.scripts.specs.Beside.{sub_sup_of};
-ghost use Rattle.scripts.specs.Laws.{ink_gap, KeepGaps, boxes_of, StandInside, IsCentred, AccentsMeet};
-ghost use Rattle.scripts.specs.Lengths.{pair_lengths_of};
+ghost use Rattle.scripts.specs.Beside.{sub_of, sup_of, sub_sup_of};
+ghost use Rattle.scripts.specs.Laws.{ink_gap, IsLowEnough, IsHighEnough, KeepGaps, boxes_of, StandInside, IsCentred, AccentsMeet};
+ghost use Rattle.scripts.specs.Lengths.{sub_lengths_of, sup_lengths_of, pair_lengths_of};
 ghost use Rattle.scripts.specs.LimitGaps.{above_of, below_of};
 ghost use Rattle.scripts.specs.Limits.{under_over_of};
 ghost use Rattle.scripts.specs.declared.parts.LimitCase.{LimitCase};
@@ -18,6 +18,22 @@ ghost use Rattle.scripts.specs.declared.parts.LimitCase.TheVariants.{Plain, Stre
 pub fn the_ink_of_two_scripts_keeps_the_least_gap()
     ensures { (m : MetricsValue) (base : MathBox) (large cramped : Bool) (sub sup : MathBox) (size : ℤ) →
         (pair_lengths_of m size).gap ≤ℤ ink_gap sub sup (sub_sup_of m base large cramped sub sup size) }
+{}
+
+/// A subscript stands as low as each of its constants wants it, alone and under a superscript.
+pub fn subscripts_stand_low_enough()
+    ensures alone { (m : MetricsValue) (base : MathBox) (large : Bool) (script : MathBox) (size : ℤ) →
+        IsLowEnough (sub_lengths_of m size) base script (sub_of m base large script size).sub }
+    ensures both { (m : MetricsValue) (base : MathBox) (large cramped : Bool) (sub sup : MathBox) (size : ℤ) →
+        IsLowEnough (sub_lengths_of m size) base sub (sub_sup_of m base large cramped sub sup size).sub }
+{}
+
+/// A superscript stands as high as each of its constants wants it, alone and over a subscript.
+pub fn superscripts_stand_high_enough()
+    ensures alone { (m : MetricsValue) (base : MathBox) (large cramped : Bool) (script : MathBox) (size : ℤ) →
+        IsHighEnough (sup_lengths_of m size cramped) base script (sup_of m base large cramped script size).sup }
+    ensures both { (m : MetricsValue) (base : MathBox) (large cramped : Bool) (sub sup : MathBox) (size : ℤ) →
+        IsHighEnough (sup_lengths_of m size cramped) base sup (sub_sup_of m base large cramped sub sup size).sup }
 {}
 
 /// The ink of limits keeps its gaps to that of their base; that of an accent doesn't sink into it.
