@@ -11,12 +11,16 @@ mod operators;
 mod properties;
 mod resolve;
 mod round;
-mod run;
 mod shown;
 mod tree;
 mod word;
 
+use axis::OfAxis;
 use case_format::{Answer, Case, Fault, Kinds};
+use case_runs::{run_of, run_of_command};
+use category::OfCategory;
+use operators::by_lines;
+use properties::OfProperties;
 
 /// The kinds for the crates below layout, and for whole runs.
 pub struct Foundations;
@@ -24,9 +28,9 @@ pub struct Foundations;
 impl Kinds for Foundations {
     fn answer(&self, kind: &str, case: Case) -> Result<Answer, Fault> {
         match kind {
-            "check" => Ok(Answer::Run(run::answer_command("check", case)?)),
-            "layout" => Ok(Answer::Run(run::answer_command("layout", case)?)),
-            "run" => Ok(Answer::Run(run::answer(case)?)),
+            "check" => Ok(Answer::Run(run_of_command("check", case)?)),
+            "layout" => Ok(Answer::Run(run_of_command("layout", case)?)),
+            "run" => Ok(Answer::Run(run_of(case)?)),
             _ => one_answer(kind, case),
         }
     }
@@ -42,22 +46,29 @@ fn one_answer(kind: &str, case: Case) -> Result<Answer, Fault> {
 /// Adds the words of the one answer to a case.
 fn add_answer(kind: &str, case: Case, words: &mut String) -> Result<(), Fault> {
     match kind {
-        "axis" => axis::answer(case, words),
-        "category" => category::answer(case, words),
-        "facts" => facts::answer(case, words),
-        "factsfile" => facts::answer_file(case, words),
+        "axis" => by_lines::<OfAxis>(case, words),
+        "category" => by_lines::<OfCategory>(case, words),
         "fits" => fits::answer(case, words),
         "glyph" => glyph::answer(case, words),
         "half" => half::answer(case, words),
         "length" => length::answer(case, words),
         "metrics" => metrics::answer(case, words),
-        "properties" => properties::answer(case, words),
         "resolve" => resolve::answer(case, words),
         "round" => round::answer(case, words),
+        "word" => word::answer(case, words),
+        _ => add_answer_of_elements(kind, case, words),
+    }
+}
+
+/// The same for the kinds on elements and trees.
+fn add_answer_of_elements(kind: &str, case: Case, words: &mut String) -> Result<(), Fault> {
+    match kind {
+        "facts" => facts::answer(case, words),
+        "factsfile" => facts::answer_file(case, words),
+        "properties" => by_lines::<OfProperties>(case, words),
         "shown" => shown::answer(case, words),
         "tree" => tree::answer(case, words),
         "treefile" => tree::answer_file(case, words),
-        "word" => word::answer(case, words),
         _ => Err(Fault::UnknownKind),
     }
 }

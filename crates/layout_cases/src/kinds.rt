@@ -38,5 +38,8 @@ trait ByMetrics {
 fn by_metrics<K: ByMetrics>(case: Case, words: &mut String) -> Result<(), Fault> {
     let fields = Fields::of_value(case.value, K::keys())?;
     let metrics = case.metrics(fields)?;
-    K::add_answer(&metrics, fields, words)
+    let answered = K::add_answer(&metrics, fields, words);
+    // Dropped by a call, so that the proof of this function doesn't go through all their parts.
+    drop(metrics);
+    answered
 }

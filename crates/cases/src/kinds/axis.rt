@@ -1,13 +1,24 @@
 //! `axis`: the axis along which an operator stretches.
 
-use crate::kinds::operators::{axis_name, lines_in, op_text};
+use crate::kinds::operators::{ByLines, axis_name, op_text};
 use case_format::{Case, Fault, Fields};
-use op_dictionary::axis;
+use op_dictionary::{Extra, axis};
 
-pub fn answer(case: Case, words: &mut String) -> Result<(), Fault> {
-    let fields = Fields::of_value(case.value, &["text", "metrics"])?;
-    let text = op_text(fields.text("text")?);
-    let lines = lines_in(case, fields)?;
-    words.push_str(axis_name(axis(text, &lines)))?;
-    Ok(())
+pub struct OfAxis;
+
+impl ByLines for OfAxis {
+    fn keys() -> &'static [&'static str] {
+        &["text", "metrics"]
+    }
+
+    fn add_answer(
+        lines: &Extra,
+        _case: Case,
+        fields: Fields,
+        words: &mut String,
+    ) -> Result<(), Fault> {
+        let text = op_text(fields.text("text")?);
+        words.push_str(axis_name(axis(text, lines)))?;
+        Ok(())
+    }
 }

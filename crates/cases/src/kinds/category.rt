@@ -1,17 +1,28 @@
 //! `category`: the category of an operator in the dictionary.
 
-use crate::kinds::operators::{form_in, lines_in, op_text};
+use crate::kinds::operators::{ByLines, form_in, op_text};
 use case_format::{Case, Fault, Fields};
-use op_dictionary::{Category, category};
+use op_dictionary::{Category, Extra, category};
 
-pub fn answer(case: Case, words: &mut String) -> Result<(), Fault> {
-    let fields = Fields::of_value(case.value, &["text", "form", "fixed", "metrics"])?;
-    let text = op_text(fields.text("text")?);
-    let form = form_in(fields)?;
-    let fixed = fields.flag("fixed")?;
-    let lines = lines_in(case, fields)?;
-    words.push_str(name_of(category(text, form, fixed, &lines)))?;
-    Ok(())
+pub struct OfCategory;
+
+impl ByLines for OfCategory {
+    fn keys() -> &'static [&'static str] {
+        &["text", "form", "fixed", "metrics"]
+    }
+
+    fn add_answer(
+        lines: &Extra,
+        _case: Case,
+        fields: Fields,
+        words: &mut String,
+    ) -> Result<(), Fault> {
+        let text = op_text(fields.text("text")?);
+        let form = form_in(fields)?;
+        let fixed = fields.flag("fixed")?;
+        words.push_str(name_of(category(text, form, fixed, lines)))?;
+        Ok(())
+    }
 }
 
 fn name_of(category: Category) -> &'static str {

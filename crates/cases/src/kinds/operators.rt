@@ -3,28 +3,37 @@
 use case_format::{Case, Fault, Fields};
 use op_dictionary::{Axis, Extra, Form, OpText};
 
-/// The operator lines that count: those of the file that the key `metrics` names, else none.
-pub fn lines_in(case: Case, fields: Fields) -> Result<Extra, Fault> {
-    let mut lines = Extra::make(case.alloc);
+/// A kind that operator lines decide: those of the file that its key `metrics` names, else none.
+pub trait ByLines {
+    /// The keys that its value may have, `metrics` among them.
+    fn keys() -> &'static [&'static str];
+
+    /// Adds the words of the answer.
+    fn add_answer(
+        lines: &Extra,
+        case: Case,
+        fields: Fields,
+        words: &mut String,
+    ) -> Result<(), Fault>;
+}
+
+/// Adds the words of the answer of such a kind. Lines and metrics are owned here alone: whatever
+/// else a function does that owns them is dear to prove.
+pub fn by_lines<K: ByLines>(case: Case, words: &mut String) -> Result<(), Fault> {
+    let fields = Fields::of_value(case.value, K::keys())?;
     if fields.has("metrics") {
-        add_lines_of(case, fields, &mut lines)?;
+        by_metrics::<K>(case, fields, words)
+    } else {
+        K::add_answer(&Extra::make(case.alloc), case, fields, words)
     }
-    Ok(lines)
 }
 
-fn add_lines_of(case: Case, fields: Fields, lines: &mut Extra) -> Result<(), Fault> {
+fn by_metrics<K: ByLines>(case: Case, fields: Fields, words: &mut String) -> Result<(), Fault> {
     let metrics = case.metrics(fields)?;
-    add_lines(metrics.extra(), lines)
-}
-
-fn add_lines(of_file: &Extra, lines: &mut Extra) -> Result<(), Fault> {
-    for index in 0..of_file.count() {
-        let line = of_file.line(index);
-        if !lines.has(line.text, line.form) {
-            lines.add(line).map_err(|_| Fault::Memory)?;
-        }
-    }
-    Ok(())
+    let answered = K::add_answer(metrics.extra(), case, fields, words);
+    // Dropped by a call, so that the proof of this function doesn't go through all their parts.
+    drop(metrics);
+    answered
 }
 
 /// The form of the key `form`.

@@ -1,21 +1,32 @@
 //! `properties`: the properties of an operator in a form.
 
 use crate::kinds::elements::{element_of, truth_letter};
-use crate::kinds::operators::{form_in, lines_in};
+use crate::kinds::operators::{ByLines, form_in};
 use case_format::{Case, Fault, Fields};
 use embellished::{Core, known_of, operator_properties};
 use math_tree::{Kind, Node};
-use op_dictionary::Properties;
+use op_dictionary::{Extra, Properties};
 use std::alloc::{AllocError, Global};
 use std::fmt::Write;
 
-pub fn answer(case: Case, words: &mut String) -> Result<(), Fault> {
-    let fields = Fields::of_value(case.value, &["element", "form", "metrics"])?;
-    let form = form_in(fields)?;
-    let core = core_in(case, fields)?;
-    let lines = lines_in(case, fields)?;
-    add_properties(operator_properties(&core, form, &lines), words)?;
-    Ok(())
+pub struct OfProperties;
+
+impl ByLines for OfProperties {
+    fn keys() -> &'static [&'static str] {
+        &["element", "form", "metrics"]
+    }
+
+    fn add_answer(
+        lines: &Extra,
+        case: Case,
+        fields: Fields,
+        words: &mut String,
+    ) -> Result<(), Fault> {
+        let form = form_in(fields)?;
+        let core = core_in(case, fields)?;
+        add_properties(operator_properties(&core, form, lines), words)?;
+        Ok(())
+    }
 }
 
 /// The core of the key `element`.

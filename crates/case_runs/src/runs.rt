@@ -1,5 +1,3 @@
-//! `run`: a run of the program over files in memory. `layout` and `check`: the run of that command
-//! with a metrics file and a tree.
 ghost use Rattle.std.specs.Prelude.{◌≡◌, ◌<◌};
 
 use case_format::{Case, Ended, Fault, Fields, count_in, text_in};
@@ -26,18 +24,20 @@ const AMPLE: usize = 67_108_864;
 /// The name of the file that holds a command's tree. No known file has this name.
 const TREE: &str = "the tree";
 
-pub fn answer(case: Case) -> Result<Ended, Fault> {
+/// A run of the program with the words and over the files that a case names: the kind `run`.
+pub fn run_of(case: Case) -> Result<Ended, Fault> {
     let fields = Fields::of_value(case.value, &KEYS)?;
     let mut words = Vec::new(case.alloc);
     add_words(case.alloc, fields, &mut words)?;
-    answer_to(case, fields, words.as_slice())
+    run_over(case, fields, words.as_slice())
 }
 
-pub fn answer_command(command: &str, case: Case) -> Result<Ended, Fault> {
+/// The run of a command with a case's metrics file and its tree: the kinds `layout` and `check`.
+pub fn run_of_command(command: &str, case: Case) -> Result<Ended, Fault> {
     let fields = Fields::of_value(case.value, &["metrics", "tree", "sum"])?;
     let mut words = Vec::new(case.alloc);
     add_command(case.alloc, command, fields, &mut words)?;
-    answer_command_to(case, fields, words.as_slice())
+    run_of_command_over(case, fields, words.as_slice())
 }
 
 /// Adds the words that a case gives.
@@ -49,10 +49,11 @@ fn add_words(alloc: Global, fields: Fields, words: &mut Vec<String>) -> Result<(
 }
 
 /// What comes of these words over a case's files.
-fn answer_to(case: Case, fields: Fields, words: &[String]) -> Result<Ended, Fault> {
+fn run_over(case: Case, fields: Fields, words: &[String]) -> Result<Ended, Fault> {
     let mut inputs = MemoryInputs::make(case.alloc);
     add_files(case, fields, &mut inputs)?;
-    set_calls(fields, &mut inputs)?;
+    set_cuts(fields, &mut inputs)?;
+    set_failing(fields, &mut inputs)?;
     end_of_run(case.alloc, fields, words, &mut inputs)
 }
 
@@ -65,11 +66,16 @@ fn add_files(case: Case, fields: Fields, inputs: &mut MemoryInputs) -> Result<()
     Ok(())
 }
 
-/// Sets where reads stop, and which calls of the inputs fail.
-fn set_calls(fields: Fields, inputs: &mut MemoryInputs) -> Result<(), Fault> {
+/// Sets where reads stop.
+fn set_cuts(fields: Fields, inputs: &mut MemoryInputs) -> Result<(), Fault> {
     for place in fields.items_or_none("cut")? {
         inputs.cut_at(count_in("cut", place)?)?;
     }
+    Ok(())
+}
+
+/// Sets which calls of the inputs fail.
+fn set_failing(fields: Fields, inputs: &mut MemoryInputs) -> Result<(), Fault> {
     for call in fields.items_or_none("fail_read")? {
         inputs.fail_at(count_in("fail_read", call)?)?;
     }
@@ -90,7 +96,7 @@ fn add_command(
 }
 
 /// What comes of these words over the two files of a command.
-fn answer_command_to(case: Case, fields: Fields, words: &[String]) -> Result<Ended, Fault> {
+fn run_of_command_over(case: Case, fields: Fields, words: &[String]) -> Result<Ended, Fault> {
     let mut inputs = MemoryInputs::make(case.alloc);
     add_metrics(case, fields, &mut inputs)?;
     add_tree(case.alloc, fields, &mut inputs)?;
