@@ -2,7 +2,7 @@
 
 from dataclasses import dataclass, field
 
-from . import answers, fonts, layouts, numbers, runs
+from . import answers, built, fonts, leaves, numbers, rows, runs, shapes, styles, tables
 
 
 @dataclass
@@ -16,5 +16,6 @@ class Kinds:
 # The programs are crates. A module for another crate's calls adds its own, as **MODULE.KINDS.
 PROGRAMS = {
     "cases": Kinds({**answers.KINDS, **fonts.KINDS, **numbers.KINDS}, runs.KINDS),
-    "layout_cases": Kinds({**layouts.KINDS}),
+    "layout_cases": Kinds(
+        {**styles.KINDS, **shapes.KINDS, **leaves.KINDS, **rows.KINDS, **built.KINDS, **tables.KINDS}),
 }

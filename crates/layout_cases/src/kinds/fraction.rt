@@ -2,10 +2,11 @@
 
 use crate::kinds::ByMetrics;
 use crate::kinds::places::{add_mark, add_place};
+use crate::kinds::values::size_in;
 use case_format::{Fault, Fields, add_box};
 use font_metrics::Metrics;
 use fractions::{Fraction, fraction};
-use std::alloc::AllocError;
+use std::alloc::{AllocError, Global};
 
 /// The largest thickness, below or above 0.
 const MOST: i64 = 4_294_967_296_000_000_000;
@@ -17,8 +18,13 @@ impl ByMetrics for OfFraction {
         &["metrics", "top", "bottom", "thickness", "display", "size"]
     }
 
-    fn add_answer(metrics: &Metrics, fields: Fields, words: &mut String) -> Result<(), Fault> {
-        let size = fields.within("size", 0, 1_048_576)?;
+    fn add_answer(
+        _alloc: Global,
+        metrics: &Metrics,
+        fields: Fields,
+        words: &mut String,
+    ) -> Result<(), Fault> {
+        let size = size_in(fields)?;
         let top = fields.stored_box("top")?;
         let bottom = fields.stored_box("bottom")?;
         let thickness = fields.within("thickness", -MOST, MOST)?;

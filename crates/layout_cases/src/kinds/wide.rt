@@ -1,0 +1,48 @@
+//! The box of a row, which may be wider than what can be stored.
+ghost use Rattle.std.specs.Prelude.{◌^◌, IfOk};
+ghost use Rattle.fixed_units.specs.Boxes.{IsBoxWithin, farthest};
+ghost use Rattle.fixed_units.specs.Numbers.{IsWithin};
+ghost use Rattle.radicals.specs.Equation.{IsRow};
+
+use crate::kinds::values::in_range;
+use case_format::{Fault, Fields, box_of};
+use fixed_units::MathBox;
+
+/// How far the width and the accent of a row may reach, on both sides of 0.
+const WIDE: i64 = 1_125_899_906_842_624;
+
+/// A box of which all but the width and the accent can be stored.
+pub fn wide_box(fields: Fields, key: &'static str) -> Result<MathBox, Fault>
+    ensures row { IfOk result IsRow }
+    ensures wide { IfOk result (IsBoxWithin (2 ^ 50)) }
+{
+    let frame = box_of(fields.value(key)?).ok_or(Fault::WrongType(key))?;
+    Ok(MathBox {
+        width: in_wide_range(key, frame.width)?,
+        ascent: in_narrow_range(key, frame.ascent)?,
+        descent: in_narrow_range(key, frame.descent)?,
+        ink_ascent: in_narrow_range(key, frame.ink_ascent)?,
+        ink_descent: in_narrow_range(key, frame.ink_descent)?,
+        italic: in_narrow_range(key, frame.italic)?,
+        accent: in_wide_range(key, frame.accent)?,
+    })
+}
+
+/// A number of a row along the line.
+fn in_wide_range(key: &'static str, number: i64) -> Result<i64, Fault>
+    ensures { IfOk result (IsWithin (2 ^ 50)) }
+{
+    if -WIDE <= number && number <= WIDE {
+        Ok(number)
+    } else {
+        Err(Fault::OutOfRange(key))
+    }
+}
+
+/// A number of a row that can be stored.
+fn in_narrow_range(key: &'static str, number: i64) -> Result<i64, Fault>
+    ensures stored { IfOk result (IsWithin farthest) }
+    ensures wide { IfOk result (IsWithin (2 ^ 50)) }
+{
+    in_range(key, number)
+}
