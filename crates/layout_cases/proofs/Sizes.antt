@@ -1,5 +1,5 @@
 -- Which font sizes are in range.
-use Rattle.std.proofs.Common.{◌≡◌, refl, sym, ℤ, pos, ◌^◌, ◌≤ℤ◌, Bool, true, false, arith, Option, Some, None, cond}
+use Rattle.std.proofs.Common.{◌≡◌, refl, sym, ℤ, pos, ◌^◌, ◌≤ℤ◌, Bool, true, false, arith, Some, None, cond}
 use Rattle.std.specs.Prelude.{int_le}
 use Rattle.std.proofs.lemmas.Option.{none-some}
 use Rattle.fixed_units.proofs.Signed.{signed}
