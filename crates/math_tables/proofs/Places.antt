@@ -1,13 +1,13 @@
 -- Where columns and rows begin, one more of them, and how far that reaches.
-use Rattle.std.proofs.Common.{◌≡◌, refl, ℕ, ◌+◌, ◌*◌, ◌^◌, ◌<◌, ◌≤◌, arith, List, length, get_or, ℤ, pos, ◌+ℤ◌, ◌-ℤ◌, ◌*ℤ◌, ◌≤ℤ◌}
+use Rattle.std.proofs.Common.{◌≡◌, refl, ℕ, zero, suc, ◌+◌, ◌*◌, ◌^◌, ◌<◌, ◌≤◌, arith, List, [], ◌∷◌, length, get_or, ℤ, pos, ◌+ℤ◌, ◌-ℤ◌, ◌*ℤ◌, ◌≤ℤ◌}
 use Rattle.std.specs.List.{All}
-use Rattle.std.proofs.lemmas.List.Elements.{All-get_or}
+use Rattle.std.proofs.lemmas.List.Elements.{All-get_or, All-head, All-tail}
 use Rattle.fixed_units.specs.Boxes.{IsStored, farthest, empty_box}
 use Rattle.fixed_units.specs.Numbers.{IsWithin, halved}
 use Rattle.fixed_units.specs.declared.boxes.MathBox.{MathBox}
 use Rattle.fixed_units.proofs.Signed.{signed}
 use Rattle.fixed_units.proofs.Sums.{sum_to-zero, sum_to-add_one, sum_to_in}
-use Rattle.fixed_units.proofs.Within.{sum_in}
+use Rattle.fixed_units.proofs.Within.{natural_in, sum_in, widened}
 use Rattle.math_tables.specs.Placing.{width_at, frame_at, start_of, cell_x_of, height_of, top_of, baseline_of}
 
 -- ---- columns
@@ -19,12 +19,14 @@ pub start_of-add_one : (widths : List ℤ) (i : ℕ) → start_of widths (i + 1)
 unfolding start_of
 start_of-add_one widths i = sum_to-add_one i (width_at widths)
 
-pub width_in : (widths : List ℤ) (i : ℕ) → i < length widths → All (IsWithin farthest) widths → IsWithin farthest (get_or widths i (pos 0))
-width_in widths i l all = All-get_or (IsWithin farthest) widths i (pos 0) l all
+pub width_in : (widths : List ℤ) (i : ℕ) → All (IsWithin farthest) widths → IsWithin farthest (width_at widths i)
+width_in [] i all = widened farthest (natural_in 0) (omega arith)
+width_in (width ∷ widths) zero all = All-head (IsWithin farthest) width widths all
+width_in (width ∷ widths) (suc i) all = width_in widths i (All-tail (IsWithin farthest) width widths all)
 
-pub start_of_in : (widths : List ℤ) (n : ℕ) → n ≤ length widths → All (IsWithin farthest) widths → IsWithin (n * farthest) (start_of widths n)
+pub start_of_in : (widths : List ℤ) (n : ℕ) → All (IsWithin farthest) widths → IsWithin (n * farthest) (start_of widths n)
 unfolding start_of
-start_of_in widths n l all = sum_to_in n (width_at widths) (λ i h. width_in widths i (omega arith) all)
+start_of_in widths n all = sum_to_in n (width_at widths) (λ i h. width_in widths i all)
 
 pub cell_x_of-is : (cells : List MathBox) (widths : List ℤ) (i : ℕ)
     → cell_x_of cells widths i ≡ start_of widths i +ℤ halved (get_or widths i (pos 0) -ℤ (get_or cells i empty_box).width)

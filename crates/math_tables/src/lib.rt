@@ -21,4 +21,5 @@ mod totals; // sums over lists
 
 pub use cells::{cell, cell_start};
 pub use placing::{row_of_cells, table_finish};
+pub use totals::total_width;
 pub use widths::columns;

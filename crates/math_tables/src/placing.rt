@@ -2,7 +2,7 @@ ghost use Rattle.std.specs.Prelude.{◌≡◌, ◌≤◌, ◌^◌, length, IfOk,
 ghost use Rattle.std.specs.List.{All};
 ghost use Rattle.fixed_units.specs.Boxes.{IsStored, farthest};
 ghost use Rattle.fixed_units.specs.Numbers.{IsWithin};
-ghost use Rattle.math_tables.specs.Placing.{cell_offsets_of, row_of_cells_of, baselines_below, row_offsets_of, table_frame_of};
+ghost use Rattle.math_tables.specs.Placing.{width_at, cell_offsets_of, row_of_cells_of, baselines_below, row_offsets_of, table_frame_of};
 
 use crate::totals::{height, total_height, total_width};
 use fixed_units::{List, MathBox, Memory, half, join_all};
@@ -18,7 +18,6 @@ pub fn row_of_cells(
     total: i64,
 ) -> Result<Row, Memory>
     requires few { length cells.now ≤ 65_536 }
-    requires one_each { length widths.now ≡ length cells.now }
     requires cells_fit { All IsStored cells.now }
     requires widths_fit { All (IsWithin farthest) widths.now }
     ensures { IfOk result (λ row. row ≡ row_of_cells_of cells.now widths.now total) }
@@ -39,7 +38,6 @@ pub fn row_of_cells(
 /// Where cells begin that stand in the middle of columns of these widths.
 fn cell_offsets(alloc: Global, cells: &[MathBox], widths: &[i64]) -> Result<List<i64>, Memory>
     requires few { length cells.now ≤ 65_536 }
-    requires one_each { length widths.now ≡ length cells.now }
     requires cells_fit { All IsStored cells.now }
     requires widths_fit { All (IsWithin farthest) widths.now }
     ensures { IfOk result (λ offsets. offsets ≡ cell_offsets_of cells.now widths.now) }
@@ -47,11 +45,23 @@ fn cell_offsets(alloc: Global, cells: &[MathBox], widths: &[i64]) -> Result<List
     let mut offsets = List::make(alloc);
     let mut start = 0;
     for (place, cell) in cells.iter().enumerate() {
-        let width = widths[place];
+        let width = width_at(widths, place);
         offsets.push(start + half(width - cell.width))?;
         start += width;
     }
     Ok(offsets)
+}
+
+/// The width of the column at a place; without one, 0.
+fn width_at(widths: &[i64], place: usize) -> i64
+    requires { All (IsWithin farthest) widths.now }
+    ensures value { result ≡ width_at widths.now place }
+    ensures within { IsWithin farthest result }
+{
+    match widths.get(place) {
+        Some(width) => *width,
+        None => 0,
+    }
 }
 
 /// Sets the rows of a table one under the other, so that its middle lies on the axis. The second part

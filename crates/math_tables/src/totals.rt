@@ -6,7 +6,7 @@ ghost use Rattle.math_tables.specs.Placing.{start_of, height_of, top_of};
 
 use fixed_units::MathBox;
 
-/// What columns take together.
+/// What columns take together, in units.
 pub fn total_width(widths: &[i64]) -> i64
     requires few { length widths.now ≤ 65_536 }
     requires fit { All (IsWithin farthest) widths.now }

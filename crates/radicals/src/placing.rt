@@ -19,7 +19,8 @@ pub fn square_root(base: &MathBox, display: bool, size: i64, metrics: &Metrics) 
     requires base_in { IsRow base.now }
     requires size_low { pos 0 ≤ℤ size }
     requires size_high { size ≤ℤ pos (2 ^ 20) }
-    ensures { result ≡ square_root_of metrics.now base.now display size }
+    ensures value { result ≡ square_root_of metrics.now base.now display size }
+    ensures within { IsRootBox result.frame }
 {
     root(base, 0, display, size, metrics)
 }

@@ -17,9 +17,8 @@ loop-place-init c = record {
 
 pub overflow_add-start : goal.overflow_add-start
 overflow_add-start c =
-    let here : c.loop-place.place < length c.args.widths.now = omega (arith, c.requires.one_each) in
-    let before = start_of_in c.args.widths.now c.loop-place.place (omega arith) c.requires.widths_fit in
-    let width = width_in c.args.widths.now c.loop-place.place here c.requires.widths_fit in
+    let before = start_of_in c.args.widths.now c.loop-place.place c.requires.widths_fit in
+    let width = c.width_at-width.ensures.within in
     let cell = (frame_in c.args.cells.now c.loop-place.place c.loop-place-test.true c.requires.cells_fit).width in
     let low = c.half.ensures.low in
     let high = c.half.ensures.high in
@@ -27,9 +26,8 @@ overflow_add-start c =
 
 pub overflow_add-start-in-loop-place : goal.overflow_add-start-in-loop-place
 overflow_add-start-in-loop-place c =
-    let here : c.loop-place.place < length c.args.widths.now = omega (arith, c.requires.one_each) in
-    let before = start_of_in c.args.widths.now c.loop-place.place (omega arith) c.requires.widths_fit in
-    let width = width_in c.args.widths.now c.loop-place.place here c.requires.widths_fit in
+    let before = start_of_in c.args.widths.now c.loop-place.place c.requires.widths_fit in
+    let width = c.width_at-width.ensures.within in
     omega (arith, signed)
 
 pub loop-place-preserved : goal.loop-place-preserved
@@ -37,9 +35,9 @@ loop-place-preserved c =
     let cells = c.args.cells.now in
     let widths = c.args.widths.now in
     let i = c.loop-place.place in
-    let here : i < length widths = omega (arith, c.requires.one_each) in
-    let before = start_of_in widths i (omega arith) c.requires.widths_fit in
-    let width = width_in widths i here c.requires.widths_fit in
+    let before = start_of_in widths i c.requires.widths_fit in
+    let width = c.width_at-width.ensures.within in
+    let same = c.width_at-width.ensures.value in
     let cell = (frame_in cells i c.loop-place-test.true c.requires.cells_fit).width in
     let room = difference_in width cell in
     let f = fits_i64 room (lit< tt) in
