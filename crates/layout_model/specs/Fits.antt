@@ -1,0 +1,45 @@
+-- In which contexts an element may be laid out, and over which answers.
+use Rattle.std.specs.Prelude.{◌≡◌, ◌≤◌, ⊤, List, [], ◌∷◌, length}
+use Rattle.std.specs.List.{All, AllPass}
+use Rattle.fixed_units.specs.Boxes.{farthest}
+use Rattle.fixed_units.specs.Numbers.{IsWithin}
+use Rattle.font_metrics.specs.Metrics.{MetricsValue}
+use Rattle.embellished.specs.Seen.{Seen}
+use Rattle.style_scope.specs.Sizes.{IsStyle}
+use Rattle.layout_model.specs.Questions.{first, second}
+use Rattle.layout_model.specs.Range.{answer_fits}
+use Rattle.layout_model.specs.declared.context.Context.{Context}
+use Rattle.layout_model.specs.declared.context.Question.{Question}
+use Rattle.layout_model.specs.declared.context.Stretch.{Stretch}
+use Rattle.layout_model.specs.declared.context.Stretch.TheVariants.{None as Unstretched, Block, Inline, Columns}
+use Rattle.layout_model.specs.declared.outcome.Answer.{Answer}
+
+-- what stretches can be stored; of columns, the width of each (the width of all may be too large, and
+-- then the row that is asked with it can't be stored)
+abbrev pub IsStretch : Stretch → Type 0
+IsStretch Unstretched = ⊤
+IsStretch (Block ascent descent) = IsWithin farthest ascent × IsWithin farthest descent
+IsStretch (Inline width) = IsWithin farthest width
+IsStretch (Columns []) = ⊤
+IsStretch (Columns (total ∷ widths)) = All (IsWithin farthest) widths
+
+-- the style keeps its bounds, and so does what stretches
+pub record IsContext (context : Context) : Type 0 where
+  pub style : IsStyle context.style
+  pub stretch : IsStretch context.stretch
+
+-- a question whose style keeps its bounds
+abbrev pub HasStyle : Question → Type 0
+HasStyle question = IsStyle question.context.style
+
+-- answers can be stored, and none is of a row of more cells than a tree has elements
+pub record AreAnswers (answers : List Answer) : Type 0 where
+  pub fit : AllPass answer_fits answers
+  pub few : All (λ answer. length answer.cells ≤ 65_536) answers
+
+-- the answers to exactly what an element asks in both waves
+pub record AnswersAll (m : MetricsValue) (seen : Seen) (context : Context) (one two : List Answer) : Type 0 where
+  pub ones : length one ≡ length (first m seen context)
+  pub twos : length two ≡ length (second m seen context one)
+  pub one_fits : AreAnswers one
+  pub two_fits : AreAnswers two

@@ -1,0 +1,10 @@
+pub mod Answers
+pub mod Contexts
+pub mod Elements
+pub mod Fits
+pub mod Equations
+pub mod Laws
+pub mod Layout
+pub mod Questions
+pub mod Range
+pub mod Rows
