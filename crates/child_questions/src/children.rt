@@ -1,0 +1,162 @@
+ghost use Rattle.std.specs.Prelude.{◌≡◌, ◌<◌, ◌≤◌, ◌^◌, pos, ◌≤ℤ◌, length};
+ghost use Rattle.embellished.specs.Fences.{fences_in};
+ghost use Rattle.embellished.specs.Seen.{seen_of};
+ghost use Rattle.style_scope.specs.Sizes.{IsStyle, size_of};
+ghost use Rattle.layout_model.specs.Contexts.{is_subscript, is_true, kid_axis, kid_context, kid_style, place_of, pull_of, stretch_of};
+ghost use Rattle.layout_model.specs.Questions.{base_properties};
+
+use embellished::{Fences, View, form_within, operator_properties, stretch_axis};
+use fixed_units::{Pull, is_word};
+use font_metrics::Metrics;
+use layout_model::{Context, Stretch};
+use math_tree::{Attributes, Kind};
+use op_dictionary::{Axis, Form, Properties};
+use style_scope::{Place, Style, child_style};
+
+/// What pulls a row, a base or an operator; columns pull none of them.
+#[tactic(auto, unfolding(layout_model::specs::Contexts::pull_of))]
+pub fn pull_of(stretch: &Stretch) -> Pull
+    ensures { result ≡ pull_of stretch.now }
+{
+    match stretch {
+        Stretch::None | Stretch::Columns(_) => Pull::Free,
+        Stretch::Block(ascent, descent) => Pull::Block(*ascent, *descent),
+        Stretch::Inline(width) => Pull::Inline(*width),
+    }
+}
+
+#[tactic(auto, unfolding(layout_model::specs::Contexts::stretch_of))]
+fn stretch_of(pull: Pull) -> Stretch
+    ensures { result ≡ stretch_of pull }
+{
+    match pull {
+        Pull::Free => Stretch::None,
+        Pull::Block(ascent, descent) => Stretch::Block(ascent, descent),
+        Pull::Inline(width) => Stretch::Inline(width),
+    }
+}
+
+/// Whether an attribute is `true`, in any case of ASCII letters.
+pub fn is_true(name: &str, attributes: &Attributes) -> bool
+    ensures { result ≡ is_true name.now attributes.now }
+{
+    match attributes.get(name) {
+        Some(value) => is_word(value, "true"),
+        None => false,
+    }
+}
+
+/// Whether a child is a subscript of a valid `mmultiscripts`.
+fn is_subscript<V: View>(parent: &V, index: usize) -> bool
+    ensures { result ≡ is_subscript (seen_of (V.element parent.now)) index }
+{
+    matches!(parent.facts().laid, Kind::Mmultiscripts) && index % 2 == 1
+}
+
+/// Where a child in flow stands.
+fn place_of<V: View>(parent: &V, index: usize) -> Place
+    requires { index < 2 ^ 32 }
+    ensures { result ≡ place_of (seen_of (V.element parent.now)) index }
+{
+    let subscript = is_subscript(parent, index);
+    let head = parent.head();
+    Place {
+        parent: head.kind,
+        index: index as u32,
+        accent: is_true("accent", &head.attributes),
+        accentunder: is_true("accentunder", &head.attributes),
+        subscript,
+    }
+}
+
+/// The style of a child in flow, below an element of this style.
+#[tactic(auto, unfolding(layout_model::specs::Contexts::kid_style))]
+fn kid_style<V: View>(parent: &V, style: &Style, index: usize, metrics: &Metrics) -> Style
+    requires within { index < length (seen_of (V.element parent.now)).kids }
+    requires style { IsStyle style.now }
+    requires size { size_of metrics.now style.now ≤ℤ pos (2 ^ 20) }
+    ensures value { result ≡ kid_style metrics.now (seen_of (V.element parent.now)) style.now index }
+    ensures style { IsStyle result }
+{
+    let _count = parent.kids();
+    child_style(style, place_of(parent, index), parent.kid(index), metrics)
+}
+
+/// What a child in flow is asked with.
+pub fn kid_context<V: View>(
+    parent: &V,
+    fences: Fences,
+    context: &Context,
+    metrics: &Metrics,
+    index: usize,
+    stretch: Stretch,
+) -> Context
+    requires known { fences ≡ fences_in (seen_of (V.element parent.now)).kids }
+    requires within { index < length (seen_of (V.element parent.now)).kids }
+    requires style { IsStyle context.now.style }
+    requires size { size_of metrics.now context.now.style ≤ℤ pos (2 ^ 20) }
+    ensures value { result ≡ kid_context metrics.now (seen_of (V.element parent.now)) context.now index stretch }
+    ensures style { IsStyle result.style }
+{
+    Context {
+        style: kid_style(parent, &context.style, index, metrics),
+        form: form_within(parent, fences, index, context.form),
+        stretch,
+    }
+}
+
+/// The same, where a pull stretches the child.
+pub fn pulled_context<V: View>(
+    parent: &V,
+    fences: Fences,
+    context: &Context,
+    metrics: &Metrics,
+    index: usize,
+    pull: Pull,
+) -> Context
+    requires known { fences ≡ fences_in (seen_of (V.element parent.now)).kids }
+    requires within { index < length (seen_of (V.element parent.now)).kids }
+    requires style { IsStyle context.now.style }
+    requires size { size_of metrics.now context.now.style ≤ℤ pos (2 ^ 20) }
+    ensures value { result ≡ kid_context metrics.now (seen_of (V.element parent.now)) context.now index (stretch_of pull) }
+    ensures style { IsStyle result.style }
+{
+    kid_context(parent, fences, context, metrics, index, stretch_of(pull))
+}
+
+/// The axis along which a child in flow stretches, where it does, below an element of this form.
+#[tactic(auto, unfolding(layout_model::specs::Contexts::kid_axis))]
+pub fn kid_axis<V: View>(
+    parent: &V,
+    fences: Fences,
+    own: Form,
+    metrics: &Metrics,
+    index: usize,
+) -> Option<Axis>
+    requires known { fences ≡ fences_in (seen_of (V.element parent.now)).kids }
+    requires within { index < length (seen_of (V.element parent.now)).kids }
+    ensures { result ≡ kid_axis metrics.now (seen_of (V.element parent.now)) own index }
+{
+    let form = form_within(parent, fences, index, own);
+    stretch_axis(parent.kid_facts(index), form, metrics.extra())
+}
+
+/// The properties of the first child's core in the form in which that child is asked, where it is an
+/// embellished operator.
+#[tactic(auto, unfolding(layout_model::specs::Questions::base_properties))]
+pub fn base_properties<V: View>(
+    parent: &V,
+    fences: Fences,
+    context: &Context,
+    metrics: &Metrics,
+) -> Option<Properties>
+    requires known { fences ≡ fences_in (seen_of (V.element parent.now)).kids }
+    ensures { result ≡ base_properties metrics.now (seen_of (V.element parent.now)) context.now }
+{
+    if parent.kids() == 0 {
+        return None;
+    }
+    let core = parent.kid_facts(0).core?;
+    let form = form_within(parent, fences, 0, context.form);
+    Some(operator_properties(&core, form, metrics.extra()))
+}

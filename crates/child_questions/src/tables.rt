@@ -1,0 +1,87 @@
+ghost use Rattle.std.specs.Prelude.{◌≡◌, ◌<◌, ◌≤◌, ◌^◌, pos, ◌≤ℤ◌, length, map, take, ◌∷◌, IfOk};
+ghost use Rattle.std.specs.List.{All};
+ghost use Rattle.embellished.specs.Fences.{fences_in};
+ghost use Rattle.embellished.specs.Seen.{seen_of};
+ghost use Rattle.math_tables.specs.Placing.{table_width_of};
+ghost use Rattle.style_scope.specs.Sizes.{IsStyle, size_of};
+ghost use Rattle.layout_model.specs.Questions.{columns_over, rows_asked};
+ghost use Rattle.layout_model.specs.Questions as spec;
+ghost use Rattle.layout_model.specs.declared.context.Stretch.TheVariants.{Columns};
+ghost use Rattle.layout_model.specs.Fits.{AreAnswers, HasStyle};
+
+use crate::children::kid_context;
+use embellished::{Fences, View};
+use fixed_units::{List, Memory};
+use font_metrics::Metrics;
+use layout_model::{Answer, Context, Question, Stretch};
+use math_tables::{columns, total_width};
+use std::alloc::Global;
+
+/// Asks each row of a table with the columns of the whole table, over the answers of all rows.
+pub fn rows_asked<V: View>(
+    alloc: Global,
+    parent: &V,
+    fences: Fences,
+    context: &Context,
+    metrics: &Metrics,
+    rows: &List<Answer>,
+) -> Result<List<Question>, Memory>
+    requires known { fences ≡ fences_in (seen_of (V.element parent.now)).kids }
+    requires style { IsStyle context.now.style }
+    requires size { size_of metrics.now context.now.style ≤ℤ pos (2 ^ 20) }
+    requires answers { AreAnswers rows.now }
+    ensures styles { IfOk result (All HasStyle) }
+    ensures value { IfOk result (λ asks. asks ≡ rows_asked metrics.now (seen_of (V.element parent.now)) context.now rows.now) }
+{
+    let rows = rows.as_slice();
+    let widths = columns_over(alloc, rows)?;
+    let total = total_width(widths.as_slice());
+    let mut asks = List::make(alloc);
+    for index in 0..parent.kids() {
+        let columns = columns_at(alloc, total, &widths, cells_at(rows, index))?;
+        let context = kid_context(parent, fences, context, metrics, index, columns);
+        asks.push(Question {
+            kid: index as u32,
+            context,
+        })?;
+    }
+    Ok(asks)
+}
+
+/// The columns of a table, over the answers of its rows.
+pub fn columns_over(alloc: Global, rows: &[Answer]) -> Result<List<i64>, Memory>
+    ensures { IfOk result (λ widths. widths ≡ columns_over rows.now) }
+{
+    let mut cells = List::make(alloc);
+    for row in rows {
+        cells.push(row.cells.copy(alloc)?)?;
+    }
+    columns(alloc, &cells)
+}
+
+/// How many cells the row at a place has.
+fn cells_at(rows: &[Answer], index: usize) -> usize
+    ensures { result ≡ length (spec.cells_at rows.now index) }
+{
+    match rows.get(index) {
+        Some(row) => row.cells.len(),
+        None => 0,
+    }
+}
+
+/// What a row of so many cells is asked with: the width of the whole table, and the columns of its
+/// own cells.
+fn columns_at(
+    alloc: Global,
+    total: i64,
+    widths: &List<i64>,
+    cells: usize,
+) -> Result<Stretch, Memory>
+    ensures { IfOk result (λ columns. columns ≡ Columns (total ∷ take cells widths.now)) }
+{
+    let widths = widths.as_slice();
+    let mut numbers = List::make(alloc);
+    numbers.push(total)?;
+    numbers.push_all(&widths[..cells.min(widths.len())])?;
+    Ok(Stretch::Columns(numbers))
+}
