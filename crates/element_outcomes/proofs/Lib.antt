@@ -1,0 +1,9 @@
+mod CellBounds
+mod Kids
+mod FontSizes
+mod Lasts
+mod Lists
+mod Roots
+mod RowBounds
+mod Exactly
+mod Leaves

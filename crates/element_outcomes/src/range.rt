@@ -1,0 +1,81 @@
+ghost use Rattle.std.specs.Prelude.{◌≡◌};
+ghost use Rattle.std.specs.List.{list_all};
+ghost use Rattle.fixed_units.specs.Boxes.{is_stored};
+ghost use Rattle.layout_model.specs.Range.{answer_fits, mark_fits, offset_fits, outcome_fits};
+
+use fixed_units::fits as box_fits;
+use font_metrics::Mark;
+use layout_model::{Answer, Offset, Outcome};
+
+/// Whether every number of an outcome can be stored: it lies in -2^30 to 2^30 units.
+#[tactic(auto, unfolding(layout_model::specs::Range::outcome_fits))]
+pub fn fits(outcome: &Outcome) -> bool
+    ensures { result ≡ outcome_fits outcome.now }
+{
+    answer_fits(&outcome.answer)
+        & offsets_fit(outcome.offsets.as_slice())
+        & marks_fit(outcome.marks.as_slice())
+}
+
+#[tactic(auto, unfolding(layout_model::specs::Range::answer_fits))]
+fn answer_fits(answer: &Answer) -> bool
+    ensures { result ≡ answer_fits answer.now }
+{
+    box_fits(&answer.frame)
+        & is_stored(answer.before)
+        & is_stored(answer.after)
+        & cells_fit(answer.cells.as_slice())
+}
+
+fn cells_fit(cells: &[i64]) -> bool
+    ensures { result ≡ list_all is_stored cells.now }
+{
+    cells.iter().all(|cell| is_stored(*cell))
+}
+
+fn offsets_fit(offsets: &[Offset]) -> bool
+    ensures { result ≡ list_all offset_fits offsets.now }
+{
+    offsets.iter().all(|offset| offset_fits(offset))
+}
+
+fn marks_fit(marks: &[Mark]) -> bool
+    ensures { result ≡ list_all mark_fits marks.now }
+{
+    marks.iter().all(|mark| mark_fits(mark))
+}
+
+#[tactic(auto, unfolding(layout_model::specs::Range::offset_fits))]
+fn offset_fits(offset: &Offset) -> bool
+    ensures { result ≡ offset_fits offset.now }
+{
+    is_stored(offset.x) & is_stored(offset.y)
+}
+
+/// Whether the place of a mark and its size can be stored.
+#[tactic(auto, unfolding(layout_model::specs::Range::mark_fits))]
+fn mark_fits(mark: &Mark) -> bool
+    ensures { result ≡ mark_fits mark.now }
+{
+    match mark {
+        Mark::Rule {
+            x,
+            y,
+            width,
+            height,
+        } => is_stored(*x) & is_stored(*y) & is_stored(*width) & is_stored(*height),
+        Mark::Glyph { x, y, size, .. } | Mark::Built { x, y, size, .. } => {
+            is_stored(*x) & is_stored(*y) & is_stored(*size)
+        }
+    }
+}
+
+/// The farthest that a stored number reaches, on both sides of 0.
+const FARTHEST: i64 = 1 << 30;
+
+#[tactic(auto, unfolding(fixed_units::specs::Boxes::is_stored))]
+fn is_stored(number: i64) -> bool
+    ensures { result ≡ is_stored number }
+{
+    (-FARTHEST <= number) & (number <= FARTHEST)
+}
