@@ -1,0 +1,140 @@
+-- An element over both waves: its layout, what is made for it, and the children that are kept.
+use Rattle.std.proofs.Common.{◌≡◌, ◌∙◌, refl, sym, ap, subst, ℕ, ◌+◌, ◌<◌, ◌≤◌, arith, Bool, true, false, ◌&&◌, List, [], ◌∷◌, ◌++◌, length, map, replicate, All, Option, Some, None, slice_set}
+use Rattle.std.proofs.lemmas.Bool.{and_parts}
+use Rattle.std.proofs.lemmas.Grind.{flat_map-append}
+use Rattle.std.proofs.lemmas.List.{length-map}
+use Rattle.std.proofs.lemmas.List.Elements.{All-append}
+use Rattle.std.proofs.lemmas.List.Folds.{list_all-append}
+use Rattle.std.proofs.lemmas.List.Sums.{fold-append}
+use Rattle.std.specs.List.{AllPass, flat_map, fold, list_all}
+use Rattle.font_metrics.specs.Metrics.{MetricsValue}
+use Rattle.math_tree.specs.Trees.{element_count}
+use Rattle.math_tree.specs.declared.node.Head.{Head}
+use Rattle.math_tree.specs.declared.node.Node.{Node}
+use Rattle.math_tree.specs.declared.node.Node.TheViews.{out-Node}
+use Rattle.embellished.specs.Seen.{flow_nodes, seen_of}
+use Rattle.style_scope.specs.Sizes.{size_of}
+use Rattle.fixed_units.specs.Sums.{list_to}
+use Rattle.layout_model.specs.Fits.{AnswersAll, AreAnswers, IsContext, IsStretch}
+use Rattle.layout_model.specs.Laws.{answer_of, laid_below, visits_below}
+use Rattle.layout_model.specs.Layout.{equation, in_range, laid, lay, lay_by, questions, somes, visit_fits}
+use Rattle.layout_model.specs.Questions.{IsBelow, first, second}
+use Rattle.layout_model.specs.Range.{is_font_size, outcome_fits}
+use Rattle.layout_model.specs.declared.context.Context.{Context}
+use Rattle.layout_model.specs.declared.context.Question.{Question}
+use Rattle.layout_model.specs.declared.laid.Laid.{Laid}
+use Rattle.layout_model.specs.declared.laid.Laid.TheViews.{roll-Laid}
+use Rattle.layout_model.specs.declared.outcome.Answer.{Answer}
+use Rattle.layout_model.specs.declared.outcome.Outcome.{Outcome}
+use Rattle.layout_model.proofs.Asked.{IsQuestionStored, first_stored, second_stored}
+use Rattle.layout_model.proofs.Places.{first_below, second_below}
+use Rattle.layout_model.proofs.Trees.{laid_is, lay_is}
+use Rattle.layout_core.specs.Slots.{filled, laid_for, with_laid}
+use Rattle.layout_core.proofs.Children.{as_many_nodes}
+use Rattle.layout_core.proofs.Fits.{answers_are, range_is}
+use Rattle.layout_core.proofs.KeptLast.{kept_as_asked_last, none_kept, nothing}
+use Rattle.layout_core.proofs.Waves.{all_fit}
+
+module _ (m : MetricsValue) (node shown : Node) (context : Context) (e : shown ≡ node) (ones : List Question) (o : ones ≡ first m (seen_of shown) context) where
+  ones_are : ones ≡ first m (seen_of node) context
+  ones_are = o ∙ ap (λ (n : Node). first m (seen_of n) context) e
+
+  pub ones_below : All (IsBelow (length (seen_of node).kids)) ones
+  ones_below = subst (All (IsBelow (length (seen_of node).kids))) (sym ones_are) (first_below m (seen_of node) context)
+
+  pub ones_stored : IsStretch context.stretch → All IsQuestionStored ones
+  ones_stored h = subst (All IsQuestionStored) (sym ones_are) (first_stored m (seen_of node) context h)
+
+  abbrev own_fits : Bool
+  own_fits = is_font_size (size_of m context.style) && outcome_fits (lay m node context)
+
+  module _ (one : List Answer) (a : one ≡ map (answer_of m node) ones) (twos : List Question) (t : twos ≡ second m (seen_of shown) context one) where
+    one_is : one ≡ map (answer_of m node) (first m (seen_of node) context)
+    one_is = a ∙ ap (map (answer_of m node)) ones_are
+
+    twos_are : twos ≡ second m (seen_of node) context (map (answer_of m node) (first m (seen_of node) context))
+    twos_are = t ∙ ap (λ (n : Node). second m (seen_of n) context one) e ∙ ap (second m (seen_of node) context) one_is
+
+    pub twos_below : All (IsBelow (length (seen_of node).kids)) twos
+    twos_below = subst (All (IsBelow (length (seen_of node).kids))) (sym (t ∙ ap (λ (n : Node). second m (seen_of n) context one) e)) (second_below m (seen_of node) context one)
+
+    pub twos_stored : AreAnswers one → All IsQuestionStored twos
+    twos_stored h = subst (All IsQuestionStored) (sym (t ∙ ap (λ (n : Node). second m (seen_of n) context one) e)) (second_stored m (seen_of node) context one h.fit)
+
+    questions_are : questions m (seen_of node) context (answer_of m node) ≡ ones ++ twos
+    unfolding questions
+    questions_are =
+        ap (λ (asks : List Question). asks ++ second m (seen_of node) context (map (answer_of m node) (first m (seen_of node) context))) (sym ones_are)
+        ∙ ap (λ (asks : List Question). ones ++ asks) (sym twos_are)
+
+    pub range_waves : in_range m node context ≡ (own_fits && (all_fit m node ones && all_fit m node twos))
+    range_waves =
+        range_is m node context
+        ∙ ap (λ (asks : List Question). own_fits && all_fit m node asks) questions_are
+        ∙ ap (λ (made : List _). own_fits && list_all (visit_fits m) made) (flat_map-append (visits_below m node) ones twos)
+        ∙ ap (λ (b : Bool). own_fits && b) (list_all-append (visit_fits m) (flat_map (visits_below m node) ones) (flat_map (visits_below m node) twos))
+
+    pub laid_waves : (head : Head) (made : Outcome) (slots start : List (Option Laid)) (n : ℕ) → head ≡ (out-Node node).head → made ≡ lay m node context
+        → start ≡ replicate n nothing → n ≡ length (seen_of node).kids → slots ≡ with_laid m node twos (with_laid m node ones start)
+        → roll-Laid record { head = head; outcome = made; kids = filled slots } ≡ laid m node context
+    unfolding with_laid
+    laid_waves head made slots start n h l s c k =
+        let nodes : n ≡ length (flow_nodes node) = c ∙ sym (as_many_nodes node) in
+        let both : All (IsBelow n) (ones ++ twos) =
+        All-append (IsBelow n) ones twos (subst (λ (j : ℕ). All (IsBelow j) ones) (sym c) ones_below) (subst (λ (j : ℕ). All (IsBelow j) twos) (sym c) twos_below) in
+        let put : List (Option Laid) → Question → List (Option Laid) = λ places q. slice_set places q.kid (Some (laid_for m node q)) in
+        let kept : slots ≡ list_to (length (flow_nodes node)) (laid_below m node (questions m (seen_of node) context (answer_of m node))) =
+        k ∙ sym (fold-append put start ones twos)
+        ∙ ap (with_laid m node (ones ++ twos)) (s ∙ none_kept n)
+        ∙ kept_as_asked_last m node (ones ++ twos) n nodes both
+        ∙ ap (λ (j : ℕ). list_to j (laid_below m node (ones ++ twos))) nodes
+        ∙ ap (λ (asks : List Question). list_to (length (flow_nodes node)) (laid_below m node asks)) (sym questions_are) in
+        ap (λ (x : Head). roll-Laid record { head = x; outcome = made; kids = filled slots }) h
+        ∙ ap (λ (x : Outcome). roll-Laid record { head = (out-Node node).head; outcome = x; kids = filled slots }) l
+        ∙ ap (λ (x : List (Option Laid)). roll-Laid record { head = (out-Node node).head; outcome = lay m node context; kids = filled x }) kept
+        ∙ sym (laid_is m node context)
+
+    module _ (two : List Answer) (b : two ≡ map (answer_of m node) twos) where
+      pub lay_waves : equation m (seen_of shown) context one two ≡ lay m node context
+      unfolding lay_by
+      lay_waves =
+          ap (λ (n : Node). equation m (seen_of n) context one two) e
+          ∙ ap (λ (answers : List Answer). equation m (seen_of node) context answers two) one_is
+          ∙ ap (equation m (seen_of node) context (map (answer_of m node) (first m (seen_of node) context))) (b ∙ ap (map (answer_of m node)) twos_are)
+          ∙ sym (lay_is m node context)
+
+      pub answers_all : AreAnswers one → AreAnswers two → AnswersAll m (seen_of shown) context one two
+      answers_all h k = record {
+        ones = ap length a ∙ length-map ones (answer_of m node) ∙ ap length o;
+        twos = ap length b ∙ length-map twos (answer_of m node) ∙ ap length t;
+        one_fits = h;
+        two_fits = k;
+      }
+
+all_true : (a b c : Bool) → a ≡ true → b ≡ true → c ≡ true → (a && (b && c)) ≡ true
+all_true a b c h k l = rw (h, k, l) refl
+
+pub first_false : (a b c d : Bool) → d ≡ (a && (b && c)) → a ≡ false → d ≡ false
+first_false a b c d e h = e ∙ ap (λ (x : Bool). x && (b && c)) h
+
+pub ones_false : (a b c d : Bool) → d ≡ (a && (b && c)) → b ≡ false → d ≡ false
+ones_false true b c d e h = e ∙ ap (λ (x : Bool). x && c) h
+ones_false false b c d e h = e
+
+pub twos_false : (a b c d : Bool) → d ≡ (a && (b && c)) → c ≡ false → d ≡ false
+twos_false true true c d e h = e ∙ h
+twos_false true false c d e h = e
+twos_false false b c d e h = e
+
+pub fits_true : (a b c d : Bool) → d ≡ (a && (b && c)) → a ≡ true → b ≡ true → c ≡ true → d ≡ true
+fits_true a b c d e h k l = e ∙ all_true a b c h k l
+
+pub and_true : (a b : Bool) → a ≡ true → b ≡ true → (a && b) ≡ true
+and_true a b h k = rw (h, k) refl
+
+pub size_false : (a b : Bool) → a ≡ false → (a && b) ≡ false
+size_false a b h = ap (λ (x : Bool). x && b) h
+
+pub outcome_false : (a b : Bool) → b ≡ false → (a && b) ≡ false
+outcome_false true b h = h
+outcome_false false b h = refl

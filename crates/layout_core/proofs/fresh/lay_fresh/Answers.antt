@@ -1,0 +1,18 @@
+use Rattle.std.proofs.Common.{◌≡◌, ◌∙◌, sym, subst, IfOk, OnOk, Bool, true, Ok, Err, Result}
+use Rattle.layout_model.specs.declared.laid.Laid.{Laid}
+use Rattle.layout_core.proofs.Roots.{tree_laid, tree_ranged}
+use Rattle.layout_core.proofs.fresh.lay_fresh.Goals as goal
+
+pub returns-clause-ok : goal.returns-clause-ok
+returns-clause-ok g c =
+    subst (λ (whole : Laid). IfOk c.lay_element.result (λ all. all ≡ whole))
+    (tree_laid c.args.metrics.now c.args.tree.now c.root-root.result.now c.root_style.result c.root-root.ensures.exact c.root_style.ensures.value) c.lay_element.ensures.ok
+
+pub returns-clause-fit : goal.returns-clause-fit
+returns-clause-fit g c =
+    subst (λ (fits : Bool). OnOk c.lay_element.result (fits ≡ true))
+    (tree_ranged c.args.metrics.now c.args.tree.now c.root-root.result.now c.root_style.result c.root-root.ensures.exact c.root_style.ensures.value) c.lay_element.ensures.fit
+
+pub returns-clause-range : goal.returns-clause-range
+returns-clause-range g c = λ e.
+    sym (tree_ranged c.args.metrics.now c.args.tree.now c.root-root.result.now c.root_style.result c.root-root.ensures.exact c.root_style.ensures.value) ∙ c.lay_element.ensures.range e

@@ -1,0 +1,128 @@
+ghost use Rattle.std.specs.Prelude.{◌≡◌, ◌≤◌, length, map, true, false, IfOk, OnOk, Err};
+ghost use Rattle.std.specs.List.{All, flat_map, list_all};
+ghost use Rattle.fixed_units.specs.declared.refusal.LayRefusal.TheVariants.{Range};
+ghost use Rattle.math_tree.specs.Trees.{element_count};
+ghost use Rattle.embellished.specs.Known.{known_of};
+ghost use Rattle.embellished.specs.Seen.{seen_of};
+ghost use Rattle.layout_model.specs.Fits.{HasStyle, IsContext};
+ghost use Rattle.layout_model.specs.Laws.{answer_of, visits_below};
+ghost use Rattle.layout_model.specs.Layout.{in_range, is_tree_in_range, laid, laid_tree, visit_fits};
+ghost use Rattle.layout_model.specs.Questions.{IsBelow};
+ghost use Rattle.layout_model.proofs.Asked.{IsQuestionStored};
+ghost use Rattle.layout_core.specs.Slots.{with_laid};
+
+use crate::slots::{empty_slots, filled};
+use child_questions::{wave_one, wave_two};
+use element_outcomes::finish;
+use embellished::{Known, NodeView, View, known_of};
+use fixed_units::{LayRefusal, List, Memory, Steps};
+use font_metrics::Metrics;
+use layout_model::{Answer, Context, Laid, Question, Stretch};
+use math_tree::{Node, Tree};
+use op_dictionary::Form;
+use std::alloc::Global;
+use std::sync::ledger::Ledger;
+use style_scope::root_style;
+
+/// Lays out a tree, every element afresh. It is refused with `Range` exactly where a number of a
+/// layout that is made on the way can't be stored. Each element that is laid out is a step.
+pub fn lay_fresh<L: Ledger>(
+    alloc: Global,
+    tree: &Tree,
+    metrics: &Metrics,
+    steps: &mut Steps<L>,
+) -> Result<Laid, LayRefusal>
+    ensures ok { IfOk result (λ all. all ≡ laid_tree metrics.now tree.now) }
+    ensures fit { OnOk result (is_tree_in_range metrics.now tree.now ≡ true) }
+    ensures range { result ≡ Err Range → is_tree_in_range metrics.now tree.now ≡ false }
+{
+    let root = tree.root();
+    let known = known_of(alloc, root)?;
+    let context = Context {
+        style: root_style(&root.head, metrics),
+        form: Form::Infix,
+        stretch: Stretch::None,
+    };
+    lay_element(alloc, root, &known, &context, metrics, steps)
+}
+
+/// Lays out an element and all below it in a context.
+#[cycle(lay)]
+fn lay_element<L: Ledger>(
+    alloc: Global,
+    node: &Node,
+    known: &Known,
+    context: &Context,
+    metrics: &Metrics,
+    steps: &mut Steps<L>,
+) -> Result<Laid, LayRefusal>
+    requires known { known.now ≡ known_of node.now }
+    requires few { element_count node.now ≤ 65_536 }
+    requires context { IsContext context.now }
+    ensures ok { IfOk result (λ all. all ≡ laid metrics.now node.now context.now) }
+    ensures fit { OnOk result (in_range metrics.now node.now context.now ≡ true) }
+    ensures range { result ≡ Err Range → in_range metrics.now node.now context.now ≡ false }
+{
+    let view = NodeView::make(alloc, node, known.facts, &known.kids)?;
+    let mut slots = empty_slots(alloc, view.kids())?;
+    let ones = wave_one(alloc, &view, context, metrics)?;
+    let one = ask_all(alloc, node, known, &view, &ones, metrics, &mut slots, steps)?;
+    let twos = wave_two(alloc, &view, context, metrics, &one)?;
+    let two = ask_all(alloc, node, known, &view, &twos, metrics, &mut slots, steps)?;
+    let outcome = finish(alloc, &view, context, metrics, &one, &two, steps)?;
+    Ok(Laid {
+        head: node.head.copy(alloc)?,
+        outcome,
+        kids: filled(alloc, slots)?,
+    })
+}
+
+/// Lays out the children that an element asks, and gives their answers in order. Each is kept at its
+/// place.
+#[cycle(lay)]
+fn ask_all<L: Ledger>(
+    alloc: Global,
+    node: &Node,
+    known: &Known,
+    view: &NodeView,
+    asks: &List<Question>,
+    metrics: &Metrics,
+    slots: &mut Vec<Option<Laid>>,
+    steps: &mut Steps<L>,
+) -> Result<List<Answer>, LayRefusal>
+    requires shown { view.now.node.now ≡ node.now }
+    requires known { known.now ≡ known_of node.now }
+    requires few { element_count node.now ≤ 65_536 }
+    requires places { length slots.old.items ≡ length (seen_of node.now).kids }
+    requires within { All (IsBelow (length (seen_of node.now).kids)) asks.now }
+    requires styles { All HasStyle asks.now }
+    requires stretches { All IsQuestionStored asks.now }
+    ensures ok { IfOk result (λ answers. answers ≡ map (answer_of metrics.now node.now) asks.now) }
+    ensures slots { OnOk result (slots.new.items ≡ with_laid metrics.now node.now asks.now slots.old.items) }
+    ensures fit { OnOk result (list_all (visit_fits metrics.now) (flat_map (visits_below metrics.now node.now) asks.now) ≡ true) }
+    ensures range { result ≡ Err Range →
+        list_all (visit_fits metrics.now) (flat_map (visits_below metrics.now node.now) asks.now) ≡ false }
+{
+    let mut answers = List::make(alloc);
+    for asked in asks.as_slice() {
+        let index = asked.kid as usize;
+        let kid = view.node_at(index);
+        let below = &known.below.as_slice()[view.place(index)];
+        let laid = lay_element(alloc, kid, below, &asked.context, metrics, steps)?;
+        answers.push(copy_of(alloc, &laid.outcome.answer)?)?;
+        slots[index] = Some(laid);
+    }
+    Ok(answers)
+}
+
+/// The same answer again.
+fn copy_of(alloc: Global, answer: &Answer) -> Result<Answer, Memory>
+    ensures { IfOk result (λ copied. copied ≡ answer.now) }
+{
+    Ok(Answer {
+        frame: answer.frame,
+        before: answer.before,
+        after: answer.after,
+        cells: answer.cells.copy(alloc)?,
+    })
+}
