@@ -1,10 +1,12 @@
-ghost use Rattle.std.specs.Prelude.{◌≡◌, ◌<◌, [], ◌∷◌, ◌++◌, length, slice_get, Some, IsTrue, ◌↔◌, IfOk, OnOk, OnErr};
+ghost use Rattle.std.specs.Prelude.{◌≡◌, ◌<◌, ◌≤◌, [], ◌∷◌, ◌++◌, length, slice_get, Some, IsTrue, ◌↔◌, IfOk, OnOk, OnErr};
 ghost use Rattle.std.specs.Borrow.{sem};
+ghost use Rattle.std.specs.List.{insert, remove};
 ghost use Rattle.fixed_units.specs.Lending.{LendsItem};
 
-use crate::Memory;
+use crate::{Memory, Room};
 use std::alloc::Global;
 use std::marker::Model;
+use std::mem;
 
 /// A growing list, which contracts see as the list of its items.
 ///
@@ -64,6 +66,29 @@ impl<T> List<T> {
         ensures value { slice_get self.old index ≡ Some result.now }
     {
         &mut self.items[index]
+    }
+
+    /// Puts an item at a place, before the item that stands there; all others keep their order. It
+    /// takes no memory: the items move into the room.
+    pub fn insert(&mut self, index: usize, item: T, room: Room<T>)
+        requires place { index ≤ length self.old }
+        requires room { length self.old < room }
+        ensures { self.new ≡ insert self.old index item }
+    {
+        let mut space = room.into_space();
+        space.append(&mut self.items).unwrap();
+        space.insert(index, item).unwrap();
+        let emptied = mem::replace(&mut self.items, space);
+        emptied.destroy_empty();
+    }
+
+    /// Takes an item out; all others keep their order.
+    pub fn remove(&mut self, index: usize) -> T
+        requires { index < length self.old }
+        ensures value { slice_get self.old index ≡ Some result }
+        ensures others { self.new ≡ remove self.old index }
+    {
+        self.items.remove(index)
     }
 }
 
