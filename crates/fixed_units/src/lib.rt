@@ -7,8 +7,9 @@
 //! - Proved: `round` and `half` give the one number that their relation allows
 //!   (`specs/Numbers.antt`, `laws`); `read_length` and `resolve` are exact (`specs/Lengths.antt`,
 //!   and as a grammar `specs/Grammar.antt`), and so are `fits`, `raise`, `join` and `join_all`
-//!   (`specs/Boxes.antt`); `List` and `Txt` are lists, a refused call leaves its list as it
-//!   was, and with a `Room` that was made before an item is put into a list without memory; `tick` alone raises a count of steps, by one.
+//!   (`specs/Boxes.antt`); `List` and `Txt` are lists, a refused call leaves its list as it was,
+//!   and with a `Room` that was made before, an item is put into a list without memory; `tick`
+//!   alone raises a count of steps, by one.
 //! - Knows nothing of: fonts, trees, files.
 //! - Change a number's rule: `specs/Numbers.antt`, then `src/numbers.rt`, then `rt check`.
 //!   Change the form of lengths: `specs/Lengths.antt` and `specs/Grammar.antt`, then
