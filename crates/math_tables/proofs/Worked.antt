@@ -7,7 +7,7 @@ use Rattle.fixed_units.specs.declared.boxes.MathBox.{MathBox}
 use Rattle.font_metrics.specs.Metrics.{MetricsValue, scale_of, constant_of}
 use Rattle.math_tables.specs.Cells.{cell_start_of, cell_rise_of, cell_of}
 use Rattle.math_tables.specs.Columns.{columns_of}
-use Rattle.math_tables.specs.Placing.{start_of, cell_x_of, row_of_cells_of, top_of, table_ascent_of, baseline_of, row_offsets_of, table_frame_of}
+use Rattle.math_tables.specs.Placing.{start_of, cell_x_of, row_of_cells_of, top_of, table_ascent_of, baseline_of, row_offsets_of, table_width_of, table_frame_of}
 
 -- 1024 design units to the em, the x-height 512 and the axis at 256
 abbrev sample : MetricsValue
@@ -48,6 +48,15 @@ cell-one = refl
 columns-equal : columns_of ((pos 21300 ∷ pos 21300 ∷ pos 21300 ∷ []) ∷ (pos 21300 ∷ pos 21300 ∷ pos 21300 ∷ []) ∷ []) ≡ pos 21300 ∷ pos 21300 ∷ pos 21300 ∷ []
 unfolding columns_of list_to
 columns-equal = refl
+
+-- where the first cell is 29492 wide, so is its column, and the table 72092
+columns-wider_cell : columns_of ((pos 29492 ∷ pos 21300 ∷ pos 21300 ∷ []) ∷ (pos 21300 ∷ pos 21300 ∷ pos 21300 ∷ []) ∷ []) ≡ pos 29492 ∷ pos 21300 ∷ pos 21300 ∷ []
+unfolding columns_of list_to
+columns-wider_cell = refl
+
+table-wider_cell : table_width_of (pos 29492 ∷ pos 21300 ∷ pos 21300 ∷ []) ≡ pos 72092
+unfolding start_of sum_to
+table-wider_cell = refl
 
 -- a wider cell in the second row, and rows of different lengths
 columns-ragged : columns_of ((pos 5 ∷ []) ∷ (pos 3 ∷ pos 4 ∷ []) ∷ [] ∷ (pos 9 ∷ pos 1 ∷ neg_ℤ (pos 2) ∷ []) ∷ []) ≡ pos 9 ∷ pos 4 ∷ neg_ℤ (pos 2) ∷ []

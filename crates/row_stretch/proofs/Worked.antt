@@ -91,9 +91,35 @@ unfolding room_of ahead_of advance_of sum_to
 width-no_spaces = refl
 
 -- a vertical bar alone in the root: 4551 at both ends, and its accent where its own is
-row-bar : (row_of true (record (token (pos 4800)) { before = pos 4551; after = pos 4551; embellished = true } ∷ [])).frame.accent ≡ pos 6951
-unfolding accent_of offset_of room_of ahead_of advance_of sum_to halved
+abbrev bar : RowKid
+bar = record (token (pos 4800)) { before = pos 4551; after = pos 4551; embellished = true }
+
+row-bar : (row_of true (bar ∷ [])).offsets ≡ pos 4551 ∷ []
+unfolding offset_of room_of ahead_of advance_of sum_to list_to
 row-bar = refl
+
+width-bar : (row_of true (bar ∷ [])).frame.width ≡ pos 13902
+unfolding room_of ahead_of advance_of sum_to
+width-bar = refl
+
+accent-bar : (row_of true (bar ∷ [])).frame.accent ≡ pos 6951
+unfolding accent_of offset_of room_of ahead_of advance_of sum_to halved
+accent-bar = refl
+
+-- two fences of 7680, without spaces of their own, round the space of no width that they cover
+abbrev round_fence : RowKid
+round_fence = record (token (pos 7680)) { embellished = true }
+
+abbrev covered : RowKid
+covered = record { frame = space; before = pos 0; after = pos 0; embellished = false }
+
+row-fences_and_space : (row_of true (round_fence ∷ covered ∷ round_fence ∷ [])).offsets ≡ pos 0 ∷ pos 7680 ∷ pos 7680 ∷ []
+unfolding offset_of room_of ahead_of advance_of sum_to list_to
+row-fences_and_space = refl
+
+width-fences_and_space : (row_of true (round_fence ∷ covered ∷ round_fence ∷ [])).frame.width ≡ pos 15360
+unfolding room_of ahead_of advance_of sum_to
+width-fences_and_space = refl
 
 -- the italic correction stands ahead of what follows, and that of the last child is the row's
 row-italic : (row_of true (record (token (pos 14400)) { frame = record (token (pos 14400)).frame { italic = pos 4800 } } ∷ token (pos 8192) ∷ [])).offsets ≡ pos 0 ∷ pos 19200 ∷ []

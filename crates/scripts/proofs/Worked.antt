@@ -137,6 +137,10 @@ sum-limit_under : (under_over_of limited large_sum (Some one) None Large false f
 unfolding under_limit_of below_of distance_of extra_of under_x_of middle_of lean_of whole_of attached_of spot_in_of limits_of raised joined constant_of scale_of rounded halved
 sum-limit_under = refl
 
+descent-sum_limit : (under_over_of limited large_sum (Some one) None Large false false (pos 16384)).frame.descent ≡ pos 22064
+unfolding under_limit_of below_of distance_of extra_of under_x_of middle_of lean_of whole_of attached_of spot_in_of limits_of raised joined constant_of scale_of rounded halved
+descent-sum_limit = refl
+
 -- the hat is wider than the letter, which moves right
 abbrev hat : MathBox
 hat = box (pos 10240) (pos 14400) (pos 4800) (pos 11520) (neg_ℤ (pos 8000))
