@@ -8,7 +8,7 @@ use Rattle.math_tree.specs.Trees.{TreeValue}
 use Rattle.box_writer.specs.Lines.{text_of}
 use Rattle.commands.specs.Command.{Asked}
 use Rattle.std.specs.Prelude.{Bool, true, false, if◌then◌else◌}
-use Rattle.math_tree.specs.Built.{is_built}
+use Rattle.commands.specs.Built.{is_built}
 use Rattle.commands.specs.declared.command.Task.{Task}
 use Rattle.commands.specs.declared.command.Task.TheVariants.{Layout, Check}
 use Rattle.commands.specs.Placed.{place}

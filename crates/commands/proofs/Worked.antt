@@ -12,7 +12,7 @@ use Rattle.font_metrics.specs.Words.{value_of_digits, numeral_of, number_of, num
 use Rattle.font_metrics.specs.Lines.{keyword_of}
 use Rattle.font_metrics.specs.Reading.{words_of, is_foreign, after, after_first, finished, metrics_of}
 use Rattle.font_metrics.specs.Metrics.{MetricsValue, NamedGlyph, missing_place, place_of_letter, glyph_at, name_at, scale_of}
-use Rattle.math_tree.specs.Built.{is_math, is_number, is_empty, is_short_text, are_built, is_built, is_built_number}
+use Rattle.commands.specs.Built.{is_math, is_number, is_empty, is_short_text, are_built, is_built, is_built_number}
 use Rattle.math_tree.proofs.OnLiterals.{math_tree_on_literals}
 use Rattle.math_tree.specs.Trees.{TreeValue}
 use Rattle.math_tree.specs.declared.kind.Kind.{Kind}
@@ -33,7 +33,7 @@ use Rattle.commands.specs.declared.refusal.Refusal.TheVariants.{Metrics, Tree, T
 -- what the definitions are computed by, from literals
 unfoldable on_literals : ⊤
 unfolding
-    math_tree_on_literals digits rounded halved
+    is_built is_built_number math_tree_on_literals digits rounded halved
     value_of_digits numeral_of number_of number_in natural_in code_of letter_in is_glyph_name glyph_name_in
     keyword_of words_of is_foreign after after_first finished metrics_of
     missing_place place_of_letter glyph_at name_at scale_of

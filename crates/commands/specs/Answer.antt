@@ -8,7 +8,7 @@ use Rattle.font_metrics.specs.Metrics.{MetricsValue}
 use Rattle.font_metrics.specs.Print.{print_of as metrics_print}
 use Rattle.font_metrics.specs.Reading.{Fault, metrics_of, most_file_bytes}
 use Rattle.font_metrics.specs.Reads.{told}
-use Rattle.math_tree.specs.Built.{is_built}
+use Rattle.commands.specs.Built.{is_built}
 use Rattle.math_tree.specs.Print.{print_of as tree_print}
 use Rattle.math_tree.specs.Reading.{tree_of}
 use Rattle.math_tree.specs.Trees.{TreeValue}

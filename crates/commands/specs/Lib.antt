@@ -1,3 +1,4 @@
+pub mod Built
 pub mod Status
 pub mod Refusals
 pub mod Command

@@ -11,6 +11,7 @@
 //! - Change what is answered: `specs/Answer.antt`, then the file of `src/` below, then `rt check`.
 #![tactic(auto)]
 
+mod built; // which trees are laid out so far
 mod command; // the words of the command line
 mod layout; // the boxes of tokens and rows
 mod load; // the two files

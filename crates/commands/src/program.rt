@@ -7,6 +7,7 @@ ghost use Rattle.commands.specs.Answer.{answer, answer_over, checked, content, d
 ghost use Rattle.commands.specs.Ends.{Answered, Delivers, Ends, LacksFile, Written};
 ghost use Rattle.commands.specs.Refusals.{line_of, status_of};
 
+use crate::built::is_built;
 use crate::command::{NoCommand, Request, Task, USAGE};
 use crate::load::{load_metrics, load_tree};
 use crate::place::place;
@@ -107,7 +108,7 @@ fn do_task<O: Sink>(
 fn lay_out<O: Sink>(alloc: Global, metrics: &Metrics, tree: &Tree, out: &mut O) -> Status
     ensures { Written (laid_out metrics.now tree.now) (O.told out.old) (O.told out.new) result }
 {
-    if !tree.root().is_built() {
+    if !is_built(tree.root()) {
         return tell(out, Refusal::TreeLater);
     }
     match place(alloc, tree.root(), metrics) {

@@ -5,7 +5,6 @@ pub mod Elements
 pub mod Faults
 pub mod Trees
 pub mod Reading
-pub mod Built
 pub mod Parts
 pub mod Laws
 pub mod Print

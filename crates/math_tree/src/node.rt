@@ -1,6 +1,5 @@
 ghost use Rattle.std.specs.Prelude.{◌≡◌, IfOk};
 ghost use Rattle.serde_json.specs.View.{view};
-ghost use Rattle.math_tree.specs.Built.{is_built, is_built_number};
 ghost use Rattle.math_tree.specs.Reading.{head_of};
 
 use crate::element::{kind_in, name_in, text_held};
@@ -60,36 +59,5 @@ impl Head {
             attributes: self.attributes.copy(alloc)?,
             text: self.text.copy(alloc)?,
         })
-    }
-}
-
-impl Node {
-    /// Whether this is a tree of the form that is laid out so far: a `math` without attributes and
-    /// text, over at most one `mn` without attributes and children whose text is empty or one
-    /// character from `!` to `~`.
-    #[tactic(auto, unfolding(crate::specs::Built::is_built))]
-    pub fn is_built(&self) -> bool
-        ensures { result ≡ is_built self.now }
-    {
-        let head = &self.head;
-        matches!(head.kind, Kind::Math)
-            && head.attributes.as_slice().is_empty()
-            && head.text.as_str().is_empty()
-            && match self.children.as_slice() {
-                [] => true,
-                [child] => child.is_built_number(),
-                _ => false,
-            }
-    }
-
-    #[tactic(auto, unfolding(crate::specs::Built::is_built_number))]
-    fn is_built_number(&self) -> bool
-        ensures { result ≡ is_built_number self.now }
-    {
-        let head = &self.head;
-        matches!(head.kind, Kind::Mn)
-            && head.attributes.as_slice().is_empty()
-            && matches!(head.text.as_str().as_bytes(), [] | [b'!'..=b'~'])
-            && self.children.is_empty()
     }
 }

@@ -1,6 +1,6 @@
 use Rattle.std.proofs.Common.{◌≡◌, refl, inl, inr, subst, sym, Ok, Err, ap, rules, true, false}
 use Rattle.std.specs.Prelude.{if◌then◌else◌}
-use Rattle.math_tree.specs.Built.{is_built}
+use Rattle.commands.specs.Built.{is_built}
 use Rattle.box_writer.specs.Lines.{text_of}
 use Rattle.commands.specs.Ends.{Delivers}
 use Rattle.commands.specs.Placed.{place}
