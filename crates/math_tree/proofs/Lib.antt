@@ -3,10 +3,12 @@ pub mod Nodes
 -- for the crates above: the elements and the bytes in a node, from those in its children
 pub mod Counts
 pub mod OnLiterals
+-- for the crates above: attributes that are looked for, put in and taken out
+pub mod Members
+pub mod Lookup
+pub mod Puts
 mod Worked
 mod Known
-mod Members
-mod Lookup
 mod Items
 mod Below
 mod Listing

@@ -18,7 +18,7 @@ abbrev pub compare : List ℕ → List ℕ → Ordering
 compare = slice_cmp nat_cmp
 
 -- the test by which a value is found says what the order says
-tested : (a b : List ℕ) (o : Ordering) → compare a b ≡ o → bytes_eq a b ≡ is_eq o
+pub tested : (a b : List ℕ) (o : Ordering) → compare a b ≡ o → bytes_eq a b ≡ is_eq o
 tested a b o e = sym (is_eq-slice_cmp a b) ∙ ap is_eq e
 
 name_at : (xs : List Attribute) (i : ℕ) (d : Attribute) → i < length xs → get_or (names_of xs) i d.name ≡ (get_or xs i d).name
@@ -26,7 +26,7 @@ name_at [] i d h = absurd (omega arith)
 name_at (x ∷ xs) zero d h = refl
 name_at (x ∷ xs) (suc i) d h = name_at xs i d (omega arith)
 
-rising : (xs : List Attribute) → IsInOrder xs → (i j : ℕ) (d : Attribute) → i < j → j < length xs
+pub rising : (xs : List Attribute) → IsInOrder xs → (i j : ℕ) (d : Attribute) → i < j → j < length xs
     → compare (get_or xs i d).name (get_or xs j d).name ≡ Less
 rising xs order i j d h within =
     let less = Less-from_sorted compare (names_of xs) i j d.name order h (rw (length-map xs (λ (a : Attribute). a.name)) within) in
@@ -39,11 +39,11 @@ sorted xs order k d low h =
     let next = (get_or xs (k + 1) d).name in
     ap is_lt (nat_list_cmp_total.antisymm next this ∙ ap ordering_reverse less)
 
-searchable : (xs : List Attribute) (name : List ℕ) → IsInOrder xs
+pub searchable : (xs : List Attribute) (name : List ℕ) → IsInOrder xs
     → IsNonDecreasingBy (λ a. ordering_index (compare a.name name)) xs
 searchable xs name order = searchable_from_sorted nat_list_cmp_total (λ (a : Attribute). a.name) xs name (sorted xs order)
 
-nobody : Attribute
+pub nobody : Attribute
 nobody = record { name = []; value = [] }
 
 -- the first of that name is found

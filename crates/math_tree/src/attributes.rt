@@ -1,17 +1,18 @@
-ghost use Rattle.std.specs.Prelude.{◌≡◌, option_map, length, IfOk};
+ghost use Rattle.std.specs.Prelude.{◌≡◌, ◌<◌, [], option_map, length, IfOk};
 ghost use Rattle.std.specs.Cmp.Lexicographic.{slice_cmp};
 ghost use Rattle.std.specs.List.Sorted.{IsBinarySearchResult, IsSearchInRange};
 ghost use Rattle.std.specs.Ordering.{nat_cmp};
 ghost use Rattle.serde_json.specs.View.{view, members_view};
-ghost use Rattle.math_tree.specs.Attributes.{IsInOrder, value_of};
+ghost use Rattle.math_tree.specs.Attributes.{IsInOrder, value_of, put, without};
 ghost use Rattle.math_tree.specs.Elements.{attributes_held, attributes_of};
 
 use crate::element::{attributes_in, text_or_empty};
-use fixed_units::{List, Memory, Txt};
+use fixed_units::{List, Memory, Room, Txt};
 use serde_json::{Map, Value};
 use std::alloc::Global;
 use std::cmp::Ordering;
 use std::marker::Model;
+use std::mem;
 
 /// The attributes of an element: a list that increases by name, with each name once. Those of
 /// unknown names are kept.
@@ -59,6 +60,16 @@ impl Model for Attributes {
 }
 
 impl Attributes {
+    /// No attribute. It takes no memory.
+    #[tactic(auto, using(crate::proofs::Members::none_in_order))]
+    pub fn make(alloc: Global) -> Attributes
+        ensures { result ≡ [] }
+    {
+        Attributes {
+            items: List::make(alloc),
+        }
+    }
+
     /// The attributes that a JSON value says of an element.
     #[tactic(auto, using(crate::proofs::Members::none_in_order), unfolding(crate::specs::Elements::attributes_held))]
     pub(crate) fn of_value(alloc: Global, value: &Value) -> Result<Attributes, Memory>
@@ -66,9 +77,7 @@ impl Attributes {
     {
         match attributes_in(value) {
             Some(members) => Attributes::of_members(alloc, members),
-            None => Ok(Attributes {
-                items: List::make(alloc),
-            }),
+            None => Ok(Attributes::make(alloc)),
         }
     }
 
@@ -92,6 +101,36 @@ impl Attributes {
     {
         match self.search(name) {
             Ok(place) => Some(self.items.as_slice()[place].value.as_str()),
+            Err(_) => None,
+        }
+    }
+
+    /// Puts an attribute in its place, instead of the one of its name where there is one, and
+    /// answers the value of that one. It takes no memory.
+    pub fn put(&mut self, attribute: Attribute, room: Room<Attribute>) -> Option<Txt>
+        requires { length self.old < room }
+        ensures value { result ≡ value_of attribute.name self.old }
+        ensures all { self.new ≡ put attribute self.old }
+    {
+        match self.search(attribute.name.as_str()) {
+            Ok(place) => {
+                let former = mem::replace(self.items.at_mut(place), attribute);
+                Some(former.value)
+            }
+            Err(place) => {
+                self.items.insert(place, attribute, room);
+                None
+            }
+        }
+    }
+
+    /// Takes out the attribute of that name, and answers its value, where there is one.
+    pub fn remove(&mut self, name: &str) -> Option<Txt>
+        ensures value { result ≡ value_of name.now self.old }
+        ensures all { self.new ≡ without name.now self.old }
+    {
+        match self.search(name) {
+            Ok(place) => Some(self.items.remove(place).value),
             Err(_) => None,
         }
     }

@@ -61,3 +61,19 @@ impl Head {
         })
     }
 }
+
+impl Node {
+    /// The same element again with all below it, and with their ids.
+    pub fn copy(&self, alloc: Global) -> Result<Node, Memory>
+        ensures { IfOk result (λ copied. copied ≡ self.now) }
+    {
+        let mut children = List::make(alloc);
+        for child in self.children.as_slice() {
+            children.push(child.copy(alloc)?)?;
+        }
+        Ok(Node {
+            head: self.head.copy(alloc)?,
+            children,
+        })
+    }
+}

@@ -1,8 +1,11 @@
-ghost use Rattle.std.specs.Prelude.{◌≡◌};
+ghost use Rattle.std.specs.Prelude.{◌≡◌, IfOk};
 ghost use Rattle.math_tree.specs.Trees.{IsTotalled, IsWhole, byte_count, element_count};
 
 use crate::Node;
+use fixed_units::Memory;
+use std::alloc::Global;
 use std::marker::Model;
+use std::mem;
 
 /// A tree of elements, with the id that the next new element gets. It is whole: its root is a
 /// `math`, its elements are in their form, its ids differ, and it is within the limits on levels,
@@ -44,6 +47,32 @@ impl Tree {
             elements,
             bytes,
         }
+    }
+
+    /// The same tree again, with the same ids and the same next id.
+    pub fn copy(&self, alloc: Global) -> Result<Tree, Memory>
+        ensures { IfOk result (λ copied. copied ≡ self.now) }
+    {
+        Ok(Tree {
+            root: self.root.copy(alloc)?,
+            next_id: self.next_id,
+            elements: self.elements,
+            bytes: self.bytes,
+        })
+    }
+
+    /// Puts another root in, with the next id and the totals of the whole tree that it makes, and
+    /// answers the root that was there. It counts nothing and takes no memory, so that an edit can
+    /// work on the elements themselves.
+    pub fn exchange(&mut self, root: Node, next_id: u64, elements: u32, bytes: u64) -> Node
+        requires { IsTotalled (record { root = root; next_id = next_id }) elements bytes }
+        ensures former { result ≡ self.old.root }
+        ensures present { self.new ≡ record { root = root; next_id = next_id } }
+    {
+        self.next_id = next_id;
+        self.elements = elements;
+        self.bytes = bytes;
+        mem::replace(&mut self.root, root)
     }
 
     /// The element at the top.
