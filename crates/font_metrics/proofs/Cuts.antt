@@ -15,9 +15,9 @@ use Rattle.std.specs.Char.{is_digit}
 use Rattle.std.specs.Str.Parse.{digits_value}
 use Rattle.std.proofs.lemmas.List.{take_all, length-take-le}
 use Rattle.op_dictionary.specs.declared.text.OpText.TheVariants.{Two}
-use Rattle.font_metrics.specs.declared.fault.LineFault.TheVariants.{ForeignByte, UnknownWord, FieldCount, NotANumber, OutOfRange}
+use Rattle.font_metrics.specs.declared.fault.LineFault.TheVariants.{ForeignByte, UnknownWord, FieldCount, NotANumber}
 use Rattle.font_metrics.specs.Faults.{Step, ◌>>=◌, or_fault, fault_if}
-use Rattle.font_metrics.specs.Words.{plus, value_of_digits, numeral_of, code_of, is_in_pair, pair_in, text_of_codes}
+use Rattle.font_metrics.specs.Words.{plus, value_of_digits, numeral_of, code_of, in_pair, pair_in, text_of_codes}
 use Rattle.font_metrics.proofs.Steps.{free}
 
 -- ---- the first part
@@ -205,7 +205,7 @@ no_pair first second h = by (code_of first) (code_of second) h
   where
     by : (a b : Option ℕ) → b ≡ None
         → (or_fault NotANumber a >>= λ one. or_fault NotANumber b >>= λ two.
-        fault_if (not (is_in_pair one && is_in_pair two)) OutOfRange >>= λ small. Ok (Two one two)) ≡ Err NotANumber
+        in_pair one >>= λ before. in_pair two >>= λ behind. Ok (Two before behind)) ≡ Err NotANumber
     by None b k = refl
     by (Some a) None k = refl
     by (Some a) (Some b) k = absurd (none-some b (sym k))

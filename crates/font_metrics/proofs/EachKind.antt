@@ -1,5 +1,5 @@
 -- What the fields of each kind of line give lies in its ranges.
-use Rattle.std.proofs.Common.{◌≡◌, ◌∙◌, ◌==◌, ◌≤ℤ◌, sym, ap, subst, ℕ, ◌≤◌, ◌<◌, true, not, ◌&&◌, true≢false, ℤ, pos, negsuc, int_le, unsigned_abs, List, [], ◌∷◌, length, Option, Some, None, Ok, arith}
+use Rattle.std.proofs.Common.{◌≡◌, ◌∙◌, ◌==◌, ◌≤ℤ◌, sym, ap, subst, ℕ, ◌≤◌, ◌<◌, true, not, true≢false, ℤ, pos, negsuc, int_le, unsigned_abs, List, [], ◌∷◌, length, Option, Some, None, Ok, arith}
 use Rattle.std.proofs.lemmas.Bool.{and_parts}
 use Rattle.std.proofs.lemmas.Bool.Decides.{nat_tests}
 use Rattle.std.proofs.lemmas.List.Quantifiers.{position-Some}
@@ -19,7 +19,7 @@ use Rattle.font_metrics.specs.Lines.{Words, upem_in, line_in, one_length_in, len
 use Rattle.font_metrics.specs.Metrics.{NamedGlyph, place_of_name}
 use Rattle.font_metrics.specs.Taken.{IsLength, IsReach, IsGlyph, IsConstant, IsCharacter, IsVariant, IsPart, IsOperatorText}
 use Rattle.font_metrics.specs.Whole.{IsUpem, IsLine}
-use Rattle.font_metrics.specs.Words.{number_of, is_between, number_in, natural_in, code_of, is_scalar, is_in_pair, letter_in, text_of_codes, operator_text_in, is_name, name_in, extender_in, form_in, category_in, axis_in, plus}
+use Rattle.font_metrics.specs.Words.{number_of, is_between, number_in, natural_in, code_of, is_scalar, is_in_pair, in_pair, letter_in, text_of_codes, operator_text_in, is_name, name_in, extender_in, form_in, category_in, axis_in, plus}
 use Rattle.font_metrics.proofs.Steps.{same_Ok, no_value, had, found, holds}
 use Rattle.font_metrics.proofs.Tables.{place_within}
 
@@ -225,6 +225,11 @@ part_range glyphs (a ∷ b ∷ c ∷ d ∷ e ∷ f ∷ []) p h =
     (named_range glyphs a place.0 place.1, part_is glyphs b c d e f part.0 part.1)
 part_range glyphs (a ∷ b ∷ c ∷ d ∷ e ∷ f ∷ x ∷ more) p h = no_value FieldCount p h
 
+in_pair_is : (number code : ℕ) → in_pair number ≡ Ok code → is_in_pair code ≡ true
+in_pair_is number code h =
+    let w = had (fault_if (not (is_in_pair number)) OutOfRange) _ code h in
+    subst (λ n. is_in_pair n ≡ true) (same_Ok number code w.2) (holds (is_in_pair number) OutOfRange w.0 w.1)
+
 codes_text : (words : List (List ℕ)) (text : OpText) → text_of_codes words ≡ Ok text → IsOperatorText text
 codes_text [] text h = no_value NotANumber text h
 codes_text (code ∷ []) text h =
@@ -233,9 +238,10 @@ codes_text (code ∷ []) text h =
 codes_text (first ∷ second ∷ []) text h =
     let one = had (or_fault NotANumber (code_of first)) _ text h in
     let two = had (or_fault NotANumber (code_of second)) _ text one.2 in
-    let w = had (fault_if (not (is_in_pair one.0 && is_in_pair two.0)) OutOfRange) _ text two.2 in
-    subst IsOperatorText (same_Ok (Two one.0 two.0) text w.2)
-    (and_parts (is_in_pair one.0) (is_in_pair two.0) (holds (is_in_pair one.0 && is_in_pair two.0) OutOfRange w.0 w.1))
+    let before = had (in_pair one.0) _ text two.2 in
+    let behind = had (in_pair two.0) _ text before.2 in
+    subst IsOperatorText (same_Ok (Two before.0 behind.0) text behind.2)
+    (in_pair_is one.0 before.0 before.1, in_pair_is two.0 behind.0 behind.1)
 codes_text (first ∷ second ∷ third ∷ more) text h = no_value NotANumber text h
 
 operator_text_range : (word : List ℕ) (text : OpText) → operator_text_in word ≡ Ok text → IsOperatorText text

@@ -1,13 +1,15 @@
 -- Loops that print: the lines of a list, one after another.
-use Rattle.std.proofs.Common.{◌≡◌, ◌∙◌, ap, refl, sym, ℕ, ◌+◌, zero, suc, List, [], ◌∷◌, ◌++◌, length, map, flat_map, take, slice_get, Some, append_assoc, append-nil, add-one, add-zero, zero-add, arith, All}
-use Rattle.std.specs.List.{range_with_len}
+use Rattle.std.proofs.Common.{◌≡◌, ◌∙◌, ap, refl, sym, ℕ, ◌+◌, zero, suc, ℤ, List, [], ◌∷◌, ◌++◌, length, map, flat_map, take, codes, slice_get, Option, Some, None, append_assoc, append-nil, add-one, add-zero, zero-add, arith, All}
+use Rattle.std.specs.Fmt.{signed_decimal}
+use Rattle.font_metrics.specs.declared.glyph.Glyph.{Glyph}
+use Rattle.std.specs.List.{range_with_len, join_with_byte}
 use Rattle.std.proofs.lemmas.List.{map_push}
 use Rattle.std.proofs.lemmas.List.Elements.{All-head, All-same}
 use Rattle.std.proofs.lemmas.List.Concat.{flat_map-append}
 use Rattle.op_dictionary.specs.declared.operator.Axis.TheVariants.{Block, Inline}
 use Rattle.font_metrics.specs.Lines.{Words}
 use Rattle.font_metrics.specs.Metrics.{MetricsValue}
-use Rattle.font_metrics.specs.Print.{constant_words, glyph_words, character_words, variant_lines, part_lines, growth_lines, operator_words, header_lines, line_text, print_of}
+use Rattle.font_metrics.specs.Print.{constant_words, accent_words, accent_text, measures_words, glyph_words, character_words, variant_lines, part_lines, growth_lines, operator_words, header_lines, line_text, print_of}
 
 -- the bytes of lines
 abbrev texts : List Words → List ℕ
@@ -82,3 +84,70 @@ whole-print m one two three four five six a b c d e f =
     (sym (texts-six (header_lines m) (map constant_words m.constants) (map glyph_words m.glyphs)
     (map (character_words m.glyphs) m.characters)
     (flat_map (growth_lines m) (range_with_len 0 (length m.glyphs))) (map operator_words m.operators)))
+
+-- ---- the words of one line in turn
+
+-- the words of a line, one space apart
+abbrev joined : List ℕ → Words → List ℕ
+joined word ws = join_with_byte 32 (word ∷ ws)
+
+joined-more : (word : List ℕ) (ws : Words) (w : List ℕ) → joined word (ws ++ w ∷ []) ≡ joined word ws ++ 32 ∷ w
+joined-more word [] w = refl
+joined-more word (x ∷ ws) w =
+    ap (λ t. word ++ 32 ∷ t) (joined-more x ws w) ∙ sym (append_assoc word (32 ∷ joined x ws) (32 ∷ w))
+
+word-more : (old word : List ℕ) (ws : Words) (w now new : List ℕ) → now ≡ old ++ joined word ws
+    → new ≡ now ++ 32 ∷ w → new ≡ old ++ joined word (ws ++ w ∷ [])
+word-more old word ws w now new h k =
+    k ∙ ap (λ t. t ++ 32 ∷ w) h ∙ append_assoc old (joined word ws) (32 ∷ w)
+    ∙ ap (λ t. old ++ t) (sym (joined-more word ws w))
+
+line-end : (old word : List ℕ) (ws : Words) (now new : List ℕ) → now ≡ old ++ joined word ws
+    → new ≡ now ++ 10 ∷ [] → new ≡ old ++ line_text (word ∷ ws)
+line-end old word ws now new h k = k ∙ ap (λ t. t ++ 10 ∷ []) h ∙ append_assoc old (joined word ws) (10 ∷ [])
+
+-- a line of seven words
+pub seven-words : (old word a b c d e f one two three four five six seven new : List ℕ)
+    → one ≡ old ++ word → two ≡ one ++ 32 ∷ a → three ≡ two ++ 32 ∷ b → four ≡ three ++ 32 ∷ c
+    → five ≡ four ++ 32 ∷ d → six ≡ five ++ 32 ∷ e → seven ≡ six ++ 32 ∷ f → new ≡ seven ++ 10 ∷ []
+    → new ≡ old ++ line_text (word ∷ a ∷ b ∷ c ∷ d ∷ e ∷ f ∷ [])
+seven-words old word a b c d e f one two three four five six seven new h i j k l m n o =
+    let second = word-more old word [] a one two h i in
+    let third = word-more old word (a ∷ []) b two three second j in
+    let fourth = word-more old word (a ∷ b ∷ []) c three four third k in
+    let fifth = word-more old word (a ∷ b ∷ c ∷ []) d four five fourth l in
+    let sixth = word-more old word (a ∷ b ∷ c ∷ d ∷ []) e five six fifth m in
+    let seventh = word-more old word (a ∷ b ∷ c ∷ d ∷ e ∷ []) f six seven sixth n in
+    line-end old word (a ∷ b ∷ c ∷ d ∷ e ∷ f ∷ []) seven new seventh o
+
+-- the fields of a glyph up to its accent's place
+abbrev fields : List ℕ → Glyph → Words → Words
+fields name g accent =
+    name ∷ signed_decimal g.advance ∷ signed_decimal g.ink_ascent ∷ signed_decimal g.ink_descent
+    ∷ signed_decimal g.italic ∷ accent
+
+-- a glyph's line, whose accent may lack
+pub glyph-printed : (old name : List ℕ) (g : Glyph) (one two three four five six seven new : List ℕ)
+    → one ≡ old ++ codes "glyph" → two ≡ one ++ 32 ∷ name → three ≡ two ++ 32 ∷ signed_decimal g.advance
+    → four ≡ three ++ 32 ∷ signed_decimal g.ink_ascent → five ≡ four ++ 32 ∷ signed_decimal g.ink_descent
+    → six ≡ five ++ 32 ∷ signed_decimal g.italic → seven ≡ six ++ accent_text g.accent → new ≡ seven ++ 10 ∷ []
+    → new ≡ old ++ line_text (measures_words name g)
+glyph-printed old name g one two three four five six seven new h i j k l m n o =
+    let word = codes "glyph" in
+    let a = signed_decimal g.advance in
+    let b = signed_decimal g.ink_ascent in
+    let c = signed_decimal g.ink_descent in
+    let d = signed_decimal g.italic in
+    let second = word-more old word [] name one two h i in
+    let third = word-more old word (name ∷ []) a two three second j in
+    let fourth = word-more old word (name ∷ a ∷ []) b three four third k in
+    let fifth = word-more old word (name ∷ a ∷ b ∷ []) c four five fourth l in
+    by g.accent (word-more old word (name ∷ a ∷ b ∷ c ∷ []) d five six fifth m) n
+  where
+    by : (accent : Option ℤ)
+        → six ≡ old ++ joined (codes "glyph") (fields name g []) → seven ≡ six ++ accent_text accent
+        → new ≡ old ++ line_text (codes "glyph" ∷ fields name g (accent_words accent))
+    by None sixth n = line-end old (codes "glyph") (fields name g []) seven new (n ∙ append-nil six ∙ sixth) o
+    by (Some accent) sixth n =
+        line-end old (codes "glyph") (fields name g (signed_decimal accent ∷ [])) seven new
+        (word-more old (codes "glyph") (fields name g []) (signed_decimal accent) six seven sixth n) o

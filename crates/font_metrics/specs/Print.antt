@@ -94,6 +94,11 @@ abbrev pub accent_words : Option ℤ → Words
 accent_words None = []
 accent_words (Some accent) = signed_decimal accent ∷ []
 
+-- the same behind a space
+abbrev pub accent_text : Option ℤ → List ℕ
+accent_text None = []
+accent_text (Some accent) = 32 ∷ signed_decimal accent
+
 -- a glyph's name and what is known of it, with its italics correction always
 abbrev pub measures_words : List ℕ → Glyph → Words
 measures_words name glyph =

@@ -1,12 +1,16 @@
 -- What reading answers.
-use Rattle.std.specs.Prelude.{◌≡◌, ℕ, Result, Ok, Err}
+use Rattle.std.specs.Prelude.{◌≡◌, ℕ, List, [], ◌∷◌, Result, Ok, Err}
+use Rattle.font_metrics.specs.declared.given.Given.{Given}
+use Rattle.font_metrics.specs.declared.given.Needed.{Needed}
 use Rattle.font_metrics.specs.declared.refusal.LineRefusal.{LineRefusal}
 use Rattle.font_metrics.specs.declared.refusal.LineRefusal.TheVariants.{Fault as FaultyLine, Memory as NoMemory}
 use Rattle.font_metrics.specs.declared.refusal.MetricsFault.{MetricsFault}
 use Rattle.font_metrics.specs.declared.refusal.MetricsRefusal.{MetricsRefusal}
 use Rattle.font_metrics.specs.declared.refusal.MetricsRefusal.TheVariants.{Fault as Faulty, Memory}
 use Rattle.font_metrics.specs.Faults.{Step, number_of_fault}
-use Rattle.font_metrics.specs.Reading.{Fault, fault_at}
+use Rattle.font_metrics.specs.Metrics.{MetricsValue}
+use Rattle.font_metrics.specs.Reading.{Fault, fault_at, after_first, needed, metrics_with}
+use Rattle.font_metrics.specs.Whole.{IsGiven}
 
 -- a fault as it is told: the line's number and the number of the fault's kind
 abbrev pub told : Fault → MetricsFault
@@ -17,6 +21,24 @@ abbrev pub Reads : {X : Type 0} → Result X Fault → Result X MetricsRefusal �
 Reads said (Ok read) = said ≡ Ok read
 Reads said (Err (Faulty fault)) = (f : Fault) × (said ≡ Err f) × (told f ≡ fault)
 Reads said (Err Memory) = Unit {0}
+
+-- ---- of the lines behind the first
+
+-- the first of these lines gives this
+abbrev pub Begins : List (List ℕ) → Given → Type 0
+Begins [] given = ⊥
+Begins (first ∷ lines) given = after_first first ≡ Ok given
+
+-- a file says the metrics of what all its lines have given
+pub record EndsWith (said : Result MetricsValue Fault) (new : Given) (n : Needed) : Type 0 where
+  pub given : IsGiven new
+  pub needs : needed new ≡ Ok n
+  pub metrics : said ≡ Ok (metrics_with n new)
+
+-- what is given at the end of a file and what metrics need of it, or exactly the file's first fault
+abbrev pub Ends : Result MetricsValue Fault → Given → Result Needed MetricsRefusal → Type 0
+Ends said new (Ok needs) = EndsWith said new needs
+Ends said new (Err refusal) = Reads {X = MetricsValue} said (Err refusal)
 
 -- ---- of one line
 

@@ -89,8 +89,9 @@ abbrev pub pair_in : List ℕ → List ℕ → Step OpText
 pair_in first second = do
   one ← or_fault NotANumber (code_of first)
   two ← or_fault NotANumber (code_of second)
-  small ← fault_if (not (is_in_pair one && is_in_pair two)) OutOfRange
-  Ok (Two one two)
+  before ← in_pair one
+  behind ← in_pair two
+  Ok (Two before behind)
 
 abbrev pub one_in : List ℕ → Step OpText
 one_in code = do

@@ -1,30 +1,30 @@
 ghost use Rattle.std.specs.Prelude.{◌≡◌, IfOk};
-ghost use Rattle.op_dictionary.specs.Pairs.{IsLineText};
 ghost use Rattle.font_metrics.specs.Faults.{step_map};
-ghost use Rattle.font_metrics.specs.Kept.{named_glyph};
-ghost use Rattle.font_metrics.specs.Lines.{lent, lent_if, upem_in, line_with, line_in, one_length_in, length_in, reach_in, reach_if_given, constant_with, constant_in, glyph_with, glyph_in, operator_with, operator_in};
+ghost use Rattle.font_metrics.specs.Lines.{lent, lent_if, upem_in, line_with, line_in, one_length_in, length_in, reach_in, reach_if_given, constant_with, constant_in, glyph_with, glyph_in, operator_with, operator_in, SaysUpem, SaysLine, SaysXHeight, SaysOverlap, SaysConstant, SaysGlyph, SaysOperator};
+ghost use Rattle.font_metrics.specs.Said.{item_of, HasLineText};
 ghost use Rattle.font_metrics.specs.Constants.{lowest_of, highest_of};
 
 use crate::choices::{axis, category, extender, form};
 use crate::constants::place_of_text;
 use crate::fault::LineFault;
 use crate::glyph::Measures;
+use crate::said::Said;
 use crate::words::{glyph_name, natural_in, number_in, operator_text};
 use op_dictionary::OperatorLine;
 
 /// `upem UNITS`: the design units of an em.
-pub fn upem_line(fields: &[&[u8]]) -> Result<u16, LineFault>
-    ensures { result ≡ upem_in (lent fields.now) }
+pub fn upem_line<'a>(fields: &[&'a [u8]]) -> Result<Said<'a>, LineFault>
+    ensures { step_map item_of result ≡ step_map SaysUpem (upem_in (lent fields.now)) }
 {
     match fields {
-        [units] => natural_in(16, 16384, units),
+        [units] => Ok(Said::Upem(natural_in(16, 16384, units)?)),
         _ => Err(LineFault::FieldCount),
     }
 }
 
 /// `line ASCENT DESCENT`
-pub fn extent_line(fields: &[&[u8]]) -> Result<(u16, u16), LineFault>
-    ensures { result ≡ line_in (lent fields.now) }
+pub fn extent_line<'a>(fields: &[&'a [u8]]) -> Result<Said<'a>, LineFault>
+    ensures { step_map item_of result ≡ step_map SaysLine (line_in (lent fields.now)) }
 {
     match fields {
         [ascent, descent] => line_with(ascent, descent),
@@ -32,27 +32,37 @@ pub fn extent_line(fields: &[&[u8]]) -> Result<(u16, u16), LineFault>
     }
 }
 
-fn line_with(ascent: &[u8], descent: &[u8]) -> Result<(u16, u16), LineFault>
-    ensures { result ≡ line_with ascent.now descent.now }
+fn line_with<'a>(ascent: &'a [u8], descent: &'a [u8]) -> Result<Said<'a>, LineFault>
+    ensures { step_map item_of result ≡ step_map SaysLine (line_with ascent.now descent.now) }
 {
     let ascent = length(ascent)?;
     let descent = length(descent)?;
-    Ok((ascent, descent))
+    Ok(Said::Line((ascent, descent)))
 }
 
-/// `xheight HEIGHT`, or `overlap LEAST`
-pub fn length_line(fields: &[&[u8]]) -> Result<u16, LineFault>
-    ensures { result ≡ one_length_in (lent fields.now) }
+/// `xheight HEIGHT`
+pub fn x_height_line<'a>(fields: &[&'a [u8]]) -> Result<Said<'a>, LineFault>
+    ensures { step_map item_of result ≡ step_map SaysXHeight (one_length_in (lent fields.now)) }
 {
     match fields {
-        [height] => length(height),
+        [height] => Ok(Said::XHeight(length(height)?)),
+        _ => Err(LineFault::FieldCount),
+    }
+}
+
+/// `overlap LEAST`
+pub fn overlap_line<'a>(fields: &[&'a [u8]]) -> Result<Said<'a>, LineFault>
+    ensures { step_map item_of result ≡ step_map SaysOverlap (one_length_in (lent fields.now)) }
+{
+    match fields {
+        [least] => Ok(Said::Overlap(length(least)?)),
         _ => Err(LineFault::FieldCount),
     }
 }
 
 /// `const NAME VALUE`: the constant's place, and its value.
-pub fn constant_line(fields: &[&[u8]]) -> Result<(u8, i32), LineFault>
-    ensures { result ≡ constant_in (lent fields.now) }
+pub fn constant_line<'a>(fields: &[&'a [u8]]) -> Result<Said<'a>, LineFault>
+    ensures { step_map item_of result ≡ step_map SaysConstant (constant_in (lent fields.now)) }
 {
     match fields {
         [name, value] => constant_with(name, value),
@@ -60,12 +70,12 @@ pub fn constant_line(fields: &[&[u8]]) -> Result<(u8, i32), LineFault>
     }
 }
 
-fn constant_with(name: &[u8], value: &[u8]) -> Result<(u8, i32), LineFault>
-    ensures { result ≡ constant_with name.now value.now }
+fn constant_with<'a>(name: &'a [u8], value: &'a [u8]) -> Result<Said<'a>, LineFault>
+    ensures { step_map item_of result ≡ step_map SaysConstant (constant_with name.now value.now) }
 {
     let place = place_of_text(name).ok_or(LineFault::NotNamed)?;
     let value = number_in(lowest(place), highest(place), value)?;
-    Ok((place, value))
+    Ok(Said::Constant((place, value)))
 }
 
 /// The least value of a constant; the two scale-down percents stand first.
@@ -82,9 +92,8 @@ fn highest(place: u8) -> i32
 }
 
 /// `glyph NAME ADVANCE INKASCENT INKDESCENT [ITALIC [ACCENT]]`
-pub fn glyph_line<'a>(fields: &[&'a [u8]]) -> Result<(&'a str, Measures), LineFault>
-    ensures { let given = step_map (λ g. named_glyph g.0.now g.1) result in
-        given ≡ glyph_in (lent fields.now) }
+pub fn glyph_line<'a>(fields: &[&'a [u8]]) -> Result<Said<'a>, LineFault>
+    ensures { step_map item_of result ≡ step_map SaysGlyph (glyph_in (lent fields.now)) }
 {
     match fields {
         [name, advance, ascent, descent] => {
@@ -107,9 +116,9 @@ fn glyph_with<'a>(
     descent: &[u8],
     italic: Option<&[u8]>,
     accent: Option<&[u8]>,
-) -> Result<(&'a str, Measures), LineFault>
-    ensures { let given = step_map (λ g. named_glyph g.0.now g.1) result in
-        given ≡ glyph_with name.now advance.now ascent.now descent.now (lent_if italic.entry) (lent_if accent.entry) }
+) -> Result<Said<'a>, LineFault>
+    ensures { step_map item_of result ≡ step_map SaysGlyph
+        (glyph_with name.now advance.now ascent.now descent.now (lent_if italic.entry) (lent_if accent.entry)) }
 {
     let name = glyph_name(name)?;
     let advance = length(advance)?;
@@ -124,13 +133,13 @@ fn glyph_with<'a>(
         italic: italic.unwrap_or(0),
         accent,
     };
-    Ok((name, measures))
+    Ok(Said::Glyph((name, measures)))
 }
 
 /// `operator CODES FORM CATEGORY AXIS`
-pub fn operator_line(fields: &[&[u8]]) -> Result<OperatorLine, LineFault>
-    ensures value { result ≡ operator_in (lent fields.now) }
-    ensures text { IfOk result (λ line. IsLineText line.text) }
+pub fn operator_line<'a>(fields: &[&'a [u8]]) -> Result<Said<'a>, LineFault>
+    ensures value { step_map item_of result ≡ step_map SaysOperator (operator_in (lent fields.now)) }
+    ensures text { IfOk result HasLineText }
 {
     match fields {
         [codes, place, properties, direction] => {
@@ -140,25 +149,25 @@ pub fn operator_line(fields: &[&[u8]]) -> Result<OperatorLine, LineFault>
     }
 }
 
-fn operator_with(
-    codes: &[u8],
-    place: &[u8],
-    properties: &[u8],
-    direction: &[u8],
-) -> Result<OperatorLine, LineFault>
-    ensures value { result ≡ operator_with codes.now place.now properties.now direction.now }
-    ensures text { IfOk result (λ line. IsLineText line.text) }
+fn operator_with<'a>(
+    codes: &'a [u8],
+    place: &'a [u8],
+    properties: &'a [u8],
+    direction: &'a [u8],
+) -> Result<Said<'a>, LineFault>
+    ensures value { step_map item_of result ≡ step_map SaysOperator (operator_with codes.now place.now properties.now direction.now) }
+    ensures text { IfOk result HasLineText }
 {
     let text = operator_text(codes)?;
     let form = form(place)?;
     let category = category(properties)?;
     let axis = axis(direction)?;
-    Ok(OperatorLine {
+    Ok(Said::Operator(OperatorLine {
         text,
         form,
         category,
         axis,
-    })
+    }))
 }
 
 /// Design units that aren't negative.

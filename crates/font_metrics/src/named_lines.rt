@@ -1,5 +1,7 @@
 ghost use Rattle.std.specs.Prelude.{◌≡◌, ◌≤◌, length};
-ghost use Rattle.font_metrics.specs.Lines.{lent, named_in, character_with, character_in, variant_with, variant_in, based_on, part_with, part_in};
+ghost use Rattle.font_metrics.specs.Faults.{step_map};
+ghost use Rattle.font_metrics.specs.Lines.{lent, named_in, character_with, character_in, variant_with, variant_in, based_on, part_with, part_in, SaysCharacter, SaysVariant, SaysPart};
+ghost use Rattle.font_metrics.specs.Said.{item_of};
 
 use crate::choices::extender;
 use crate::fault::LineFault;
@@ -7,12 +9,14 @@ use crate::glyph::GlyphId;
 use crate::glyphs::GlyphTable;
 use crate::growth::{Part, Variant};
 use crate::lines::length;
+use crate::said::Said;
 use crate::words::{glyph_name, letter};
+use op_dictionary::Axis;
 
 /// `char CODE NAME`: a character, and the place of the glyph of that name.
-pub fn character_line(glyphs: &GlyphTable, fields: &[&[u8]]) -> Result<(char, u16), LineFault>
+pub fn character_line<'a>(glyphs: &GlyphTable, fields: &[&'a [u8]]) -> Result<Said<'a>, LineFault>
     requires { length glyphs.now ≤ 65535 }
-    ensures { result ≡ character_in glyphs.now (lent fields.now) }
+    ensures { step_map item_of result ≡ step_map SaysCharacter (character_in glyphs.now (lent fields.now)) }
 {
     match fields {
         [code, name] => character_with(glyphs, code, name),
@@ -20,70 +24,82 @@ pub fn character_line(glyphs: &GlyphTable, fields: &[&[u8]]) -> Result<(char, u1
     }
 }
 
-fn character_with(glyphs: &GlyphTable, code: &[u8], name: &[u8]) -> Result<(char, u16), LineFault>
+fn character_with<'a>(
+    glyphs: &GlyphTable,
+    code: &'a [u8],
+    name: &'a [u8],
+) -> Result<Said<'a>, LineFault>
     requires { length glyphs.now ≤ 65535 }
-    ensures { result ≡ character_with glyphs.now code.now name.now }
+    ensures { step_map item_of result ≡ step_map SaysCharacter (character_with glyphs.now code.now name.now) }
 {
     let letter = letter(code)?;
     let place = named(glyphs, name)?;
-    Ok((letter, place))
+    Ok(Said::Character((letter, place)))
 }
 
-/// `BASE VARIANT MEASURE`: the base's place, and its variant.
-pub fn variant_line(glyphs: &GlyphTable, fields: &[&[u8]]) -> Result<(u16, Variant), LineFault>
+/// `BASE VARIANT MEASURE`: the base's place, and its variant along the axis.
+pub fn variant_line<'a>(
+    glyphs: &GlyphTable,
+    axis: Axis,
+    fields: &[&'a [u8]],
+) -> Result<Said<'a>, LineFault>
     requires { length glyphs.now ≤ 65535 }
-    ensures { result ≡ variant_in glyphs.now (lent fields.now) }
+    ensures { step_map item_of result ≡ step_map (SaysVariant axis) (variant_in glyphs.now (lent fields.now)) }
 {
     match fields {
-        [base, variant, measure] => variant_with(glyphs, base, variant, measure),
+        [base, variant, measure] => variant_with(glyphs, axis, base, variant, measure),
         _ => Err(LineFault::FieldCount),
     }
 }
 
-fn variant_with(
+fn variant_with<'a>(
     glyphs: &GlyphTable,
-    base: &[u8],
-    variant: &[u8],
-    measure: &[u8],
-) -> Result<(u16, Variant), LineFault>
+    axis: Axis,
+    base: &'a [u8],
+    variant: &'a [u8],
+    measure: &'a [u8],
+) -> Result<Said<'a>, LineFault>
     requires { length glyphs.now ≤ 65535 }
-    ensures { result ≡ variant_with glyphs.now base.now variant.now measure.now }
+    ensures { step_map item_of result ≡ step_map (SaysVariant axis)
+        (variant_with glyphs.now base.now variant.now measure.now) }
 {
     let place = named(glyphs, base)?;
     let glyph = GlyphId(named(glyphs, variant)?);
     let measure = i64::from(length(measure)?);
-    Ok((place, Variant { glyph, measure }))
+    Ok(Said::Variant(axis, (place, Variant { glyph, measure })))
 }
 
-/// `BASE PART FIX|EXT START END FULL`: the base's place, and a part of its assembly.
-pub fn part_line(glyphs: &GlyphTable, fields: &[&[u8]]) -> Result<(u16, Part), LineFault>
+/// `BASE PART FIX|EXT START END FULL`: the base's place, and a part of its assembly along the axis.
+pub fn part_line<'a>(
+    glyphs: &GlyphTable,
+    axis: Axis,
+    fields: &[&'a [u8]],
+) -> Result<Said<'a>, LineFault>
     requires { length glyphs.now ≤ 65535 }
-    ensures { result ≡ part_in glyphs.now (lent fields.now) }
+    ensures { step_map item_of result ≡ step_map (SaysPart axis) (part_in glyphs.now (lent fields.now)) }
 {
     match fields {
         [base, part, role, start, end, full] => {
-            based_on(
-                glyphs,
-                base,
-                part_with(glyphs, part, role, start, end, full),
-            )
+            let part = part_with(glyphs, part, role, start, end, full);
+            based_on(glyphs, axis, base, part)
         }
         _ => Err(LineFault::FieldCount),
     }
 }
 
 /// The base is looked for first.
-fn based_on(
+fn based_on<'a>(
     glyphs: &GlyphTable,
-    base: &[u8],
+    axis: Axis,
+    base: &'a [u8],
     part: Result<Part, LineFault>,
-) -> Result<(u16, Part), LineFault>
+) -> Result<Said<'a>, LineFault>
     requires { length glyphs.now ≤ 65535 }
-    ensures { result ≡ based_on glyphs.now base.now part }
+    ensures { step_map item_of result ≡ step_map (SaysPart axis) (based_on glyphs.now base.now part) }
 {
     let place = named(glyphs, base)?;
     let part = part?;
-    Ok((place, part))
+    Ok(Said::Part(axis, (place, part)))
 }
 
 fn part_with(

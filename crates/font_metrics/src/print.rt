@@ -1,4 +1,4 @@
-ghost use Rattle.std.specs.Prelude.{◌≡◌, ◌<◌, ◌++◌, All, length, map, flat_map, IfOk, OnOk, Ok};
+ghost use Rattle.std.specs.Prelude.{◌≡◌, ◌<◌, [], ◌++◌, All, length, map, flat_map, IfOk, OnOk, Ok};
 ghost use Rattle.std.specs.List.{range_with_len};
 ghost use Rattle.op_dictionary.specs.Pairs.{IsLineText};
 ghost use Rattle.font_metrics.specs.Metrics.{variants_of, parts_of};
@@ -17,19 +17,27 @@ use std::alloc::Global;
 
 impl Metrics {
     /// The canonical print: a metrics file that says the same, in one form and one order.
-    #[tactic(auto, unfolding(crate::specs::Print::print_of))]
     pub fn print(&self, alloc: Global) -> Result<List<u8>, Memory>
         ensures print { IfOk result (λ text. text ≡ print_of self.now) }
         ensures reads_back { IfOk result (λ text. metrics_of text ≡ Ok self.now) }
     {
         let mut lines = PrintedLines::new(alloc);
-        self.print_header(&mut lines)?;
-        print_constants(&self.given.constants, &mut lines)?;
-        print_glyphs(&self.given.glyphs, &mut lines)?;
-        self.print_characters(&mut lines)?;
-        self.print_growth(&mut lines)?;
-        print_operators(&self.given.operators, &mut lines)?;
+        self.print_lines(&mut lines)?;
         Ok(lines.into_bytes())
+    }
+
+    /// All lines, in order.
+    fn print_lines(&self, lines: &mut PrintedLines) -> Result<(), Memory>
+        requires { lines.old ≡ [] }
+        ensures print { OnOk result (lines.new ≡ print_of self.now) }
+        ensures reads_back { OnOk result (metrics_of lines.new ≡ Ok self.now) }
+    {
+        self.print_header(lines)?;
+        print_constants(&self.given.constants, lines)?;
+        print_glyphs(&self.given.glyphs, lines)?;
+        self.print_characters(lines)?;
+        self.print_growth(lines)?;
+        print_operators(&self.given.operators, lines)
     }
 
     /// The first line, and what is given once.

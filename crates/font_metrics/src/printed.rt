@@ -1,7 +1,7 @@
 ghost use Rattle.std.specs.Prelude.{◌≡◌, ◌<◌, [], ◌∷◌, ◌++◌, codes, flat_map, OnOk};
 ghost use Rattle.std.specs.Fmt.{signed_decimal};
 ghost use Rattle.op_dictionary.specs.Pairs.{IsLineText};
-ghost use Rattle.font_metrics.specs.Print.{code_text, operator_text, extender_text, version_words, upem_words, line_words, x_height_words, overlap_lines, constant_words, operator_words, measures_words, line_text};
+ghost use Rattle.font_metrics.specs.Print.{accent_text, code_text, operator_text, extender_text, version_words, upem_words, line_words, x_height_words, overlap_lines, constant_words, operator_words, measures_words, line_text};
 
 use crate::constants::text_of_place;
 use crate::glyph::Glyph;
@@ -55,34 +55,42 @@ impl PrintedLines {
     pub fn add_upem(&mut self, units: u16) -> Result<(), Memory>
         ensures { OnOk result (self.new ≡ self.old ++ line_text (upem_words units)) }
     {
-        writeln!(self.text, "upem {units}")?;
-        Ok(())
+        self.add_text("upem")?;
+        self.add_number(i64::from(units))?;
+        self.add_text("\n")
     }
 
     /// `line ASCENT DESCENT`
     pub fn add_extent(&mut self, ascent: u16, descent: u16) -> Result<(), Memory>
         ensures { OnOk result (self.new ≡ self.old ++ line_text (line_words ascent descent)) }
     {
-        writeln!(self.text, "line {ascent} {descent}")?;
-        Ok(())
+        self.add_text("line")?;
+        self.add_number(i64::from(ascent))?;
+        self.add_number(i64::from(descent))?;
+        self.add_text("\n")
     }
 
     /// `xheight HEIGHT`
     pub fn add_x_height(&mut self, height: u16) -> Result<(), Memory>
         ensures { OnOk result (self.new ≡ self.old ++ line_text (x_height_words height)) }
     {
-        writeln!(self.text, "xheight {height}")?;
-        Ok(())
+        self.add_text("xheight")?;
+        self.add_number(i64::from(height))?;
+        self.add_text("\n")
     }
 
     /// `overlap LEAST`, where it is given
     pub fn add_overlap(&mut self, overlap: Option<u16>) -> Result<(), Memory>
         ensures { OnOk result (self.new ≡ self.old ++ flat_map line_text (overlap_lines overlap)) }
     {
-        if let Some(least) = overlap {
-            writeln!(self.text, "overlap {least}")?;
+        match overlap {
+            None => Ok(()),
+            Some(least) => {
+                self.add_text("overlap")?;
+                self.add_number(i64::from(least))?;
+                self.add_text("\n")
+            }
         }
-        Ok(())
     }
 
     /// `const NAME VALUE`
@@ -90,22 +98,33 @@ impl PrintedLines {
         requires { place < 56 }
         ensures { OnOk result (self.new ≡ self.old ++ line_text (constant_words (place, value))) }
     {
-        let name = text_of_place(place);
-        writeln!(self.text, "const {name} {value}")?;
-        Ok(())
+        self.add_text("const")?;
+        self.add_word(text_of_place(place))?;
+        self.add_number(i64::from(value))?;
+        self.add_text("\n")
     }
 
     /// `glyph NAME ADVANCE INKASCENT INKDESCENT ITALIC [ACCENT]`
     pub fn add_glyph(&mut self, name: &str, glyph: Glyph) -> Result<(), Memory>
         ensures { OnOk result (self.new ≡ self.old ++ line_text (measures_words name.now glyph)) }
     {
-        write!(self.text, "glyph {name} {}", glyph.advance)?;
-        write!(self.text, " {} {}", glyph.ink_ascent, glyph.ink_descent)?;
-        write!(self.text, " {}", glyph.italic)?;
-        if let Some(accent) = glyph.accent {
-            write!(self.text, " {accent}")?;
-        }
+        self.add_text("glyph")?;
+        self.add_word(name)?;
+        self.add_number(glyph.advance)?;
+        self.add_number(glyph.ink_ascent)?;
+        self.add_number(glyph.ink_descent)?;
+        self.add_number(glyph.italic)?;
+        self.add_accent(glyph.accent)?;
         self.add_text("\n")
+    }
+
+    fn add_accent(&mut self, accent: Option<i64>) -> Result<(), Memory>
+        ensures { OnOk result (self.new ≡ self.old ++ accent_text accent) }
+    {
+        match accent {
+            None => Ok(()),
+            Some(accent) => self.add_number(accent),
+        }
     }
 
     /// `char CODE NAME`
@@ -115,8 +134,8 @@ impl PrintedLines {
     {
         self.add_text("char ")?;
         self.add_code(letter)?;
-        writeln!(self.text, " {name}")?;
-        Ok(())
+        self.add_word(name)?;
+        self.add_text("\n")
     }
 
     /// `KEYWORD BASE VARIANT MEASURE`
@@ -130,8 +149,11 @@ impl PrintedLines {
         ensures { OnOk result (self.new ≡ self.old
             ++ line_text (keyword.now ∷ base.now ∷ name.now ∷ signed_decimal variant.measure ∷ [])) }
     {
-        writeln!(self.text, "{keyword} {base} {name} {}", variant.measure)?;
-        Ok(())
+        self.add_text(keyword)?;
+        self.add_word(base)?;
+        self.add_word(name)?;
+        self.add_number(variant.measure)?;
+        self.add_text("\n")
     }
 
     /// `KEYWORD BASE PART FIX|EXT START END FULL`
@@ -146,10 +168,14 @@ impl PrintedLines {
             ++ line_text (keyword.now ∷ base.now ∷ name.now ∷ extender_text part.extender
             ∷ signed_decimal part.start ∷ signed_decimal part.end ∷ signed_decimal part.full ∷ [])) }
     {
-        let role = extender_text(part.extender);
-        write!(self.text, "{keyword} {base} {name} {role}")?;
-        writeln!(self.text, " {} {} {}", part.start, part.end, part.full)?;
-        Ok(())
+        self.add_text(keyword)?;
+        self.add_word(base)?;
+        self.add_word(name)?;
+        self.add_word(extender_text(part.extender))?;
+        self.add_number(part.start)?;
+        self.add_number(part.end)?;
+        self.add_number(part.full)?;
+        self.add_text("\n")
     }
 
     /// `operator CODES FORM CATEGORY AXIS`
@@ -159,10 +185,10 @@ impl PrintedLines {
     {
         self.add_text("operator ")?;
         self.add_operator_text(line.text)?;
-        let (form, category) = (form_text(line.form), category_text(line.category));
-        let axis = axis_text(line.axis);
-        writeln!(self.text, " {form} {category} {axis}")?;
-        Ok(())
+        self.add_word(form_text(line.form))?;
+        self.add_word(category_text(line.category))?;
+        self.add_word(axis_text(line.axis))?;
+        self.add_text("\n")
     }
 
     /// One code, or two that a plus joins.
@@ -186,6 +212,22 @@ impl PrintedLines {
         ensures { OnOk result (self.new ≡ self.old ++ code_text letter) }
     {
         write!(self.text, "{:04X}", u32::from(letter))?;
+        Ok(())
+    }
+
+    /// A word behind a space.
+    fn add_word(&mut self, word: &str) -> Result<(), Memory>
+        ensures { OnOk result (self.new ≡ self.old ++ 32 ∷ word.now) }
+    {
+        self.add_text(" ")?;
+        self.add_text(word)
+    }
+
+    /// A number behind a space.
+    fn add_number(&mut self, number: i64) -> Result<(), Memory>
+        ensures { OnOk result (self.new ≡ self.old ++ 32 ∷ signed_decimal number) }
+    {
+        write!(self.text, " {number}")?;
         Ok(())
     }
 

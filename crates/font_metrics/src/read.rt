@@ -19,22 +19,11 @@ pub fn read_metrics(alloc: Global, bytes: &[u8]) -> Result<Metrics, MetricsRefus
     requires { length bytes.now ≤ most_file_bytes }
     ensures reads { Reads (metrics_of bytes.now) result }
 {
-    let (first, mut rest) = first_line(bytes);
-    let mut number = 1;
+    let (first, _) = first_line(bytes);
     let mut given = match Given::begun(alloc, first) {
         Ok(given) => given,
-        Err(fault) => return Err(LineRefusal::Fault(fault).at(number)),
+        Err(fault) => return Err(LineRefusal::Fault(fault).at(1)),
     };
-    while !rest.is_empty() {
-        let (line, more) = first_line(rest);
-        number += 1;
-        if let Err(refusal) = given.take(alloc, line) {
-            return Err(refusal.at(number));
-        }
-        rest = more;
-    }
-    match given.needed() {
-        Ok(needs) => Ok(Metrics { needs, given }),
-        Err(fault) => Err(LineRefusal::Fault(fault).at(number + 1)),
-    }
+    let needs = given.take_lines(alloc, bytes)?;
+    Ok(Metrics { needs, given })
 }

@@ -1,14 +1,14 @@
 ghost use Rattle.std.specs.Prelude.{◌≡◌, ◌≤◌, length};
 ghost use Rattle.font_metrics.specs.Taken.{most_glyphs};
 ghost use Rattle.font_metrics.specs.Lines.{lent};
-ghost use Rattle.font_metrics.specs.Reading.{after, after_first, after_words, after_fields, first_in, is_first, is_version, needed};
-ghost use Rattle.font_metrics.specs.Reads.{Takes};
+ghost use Rattle.font_metrics.specs.Reading.{after, after_first, after_words, after_fields, first_in, is_first, is_version, needed, lines_of, metrics_of, most_file_bytes};
+ghost use Rattle.font_metrics.specs.Reads.{Takes, Begins, Ends};
 
 use crate::fault::{LineFault, fault_if};
 use crate::given::{Given, Needed};
 use crate::keyword::{Keyword, keyword_of};
-use crate::pieces::{LineWords, cut, is_comment, is_foreign};
-use crate::refusal::LineRefusal;
+use crate::pieces::{LineWords, cut, first_line, is_comment, is_foreign};
+use crate::refusal::{LineRefusal, MetricsRefusal};
 use crate::said::line_says;
 use crate::texts::is_text;
 use std::alloc::Global;
@@ -21,6 +21,29 @@ impl Given {
     {
         take_first(line)?;
         Ok(Given::nothing(alloc))
+    }
+
+    /// Takes all lines of a file behind the first, from which this was begun, and tells what metrics
+    /// need of them.
+    pub fn take_lines(&mut self, alloc: Global, bytes: &[u8]) -> Result<Needed, MetricsRefusal>
+        requires few { length bytes.now ≤ most_file_bytes }
+        requires begun { Begins (lines_of bytes.now) self.old }
+        ensures { Ends (metrics_of bytes.now) self.new result }
+    {
+        let (_, mut rest) = first_line(bytes);
+        let mut number = 1;
+        while !rest.is_empty() {
+            let (line, more) = first_line(rest);
+            number += 1;
+            if let Err(refusal) = self.take(alloc, line) {
+                return Err(refusal.at(number));
+            }
+            rest = more;
+        }
+        match self.needed() {
+            Ok(needs) => Ok(needs),
+            Err(fault) => Err(LineRefusal::Fault(fault).at(number + 1)),
+        }
     }
 
     /// Takes a line behind the first, without its line feed.
@@ -59,7 +82,8 @@ impl Given {
     {
         let said = line_says(&self.glyphs, keyword, fields)?;
         self.allow(said)?;
-        self.put(alloc, said)
+        self.put(alloc, said)?;
+        Ok(())
     }
 
     /// What metrics need of what is given.

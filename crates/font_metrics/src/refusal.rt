@@ -82,14 +82,3 @@ impl From<Memory> for LineRefusal {
         LineRefusal::Memory
     }
 }
-
-impl From<op_dictionary::Memory> for LineRefusal {
-    ghost use Rattle.font_metrics.specs.declared.refusal.LineRefusal.TheVariants.{Memory as NoMemory};
-    ghost use Rattle.std.specs.Prelude.{◌≡◌};
-
-    ghost from_gives = { λ _ refusal. refusal ≡ NoMemory };
-
-    fn from(_: op_dictionary::Memory) -> Self {
-        LineRefusal::Memory
-    }
-}

@@ -8,7 +8,9 @@ use crate::glyph::Measures;
 use crate::glyphs::GlyphTable;
 use crate::growth::{Part, Variant};
 use crate::keyword::Keyword;
-use crate::lines::{constant_line, extent_line, glyph_line, length_line, operator_line, upem_line};
+use crate::lines::{
+    constant_line, extent_line, glyph_line, operator_line, overlap_line, upem_line, x_height_line,
+};
 use crate::named_lines::{character_line, part_line, variant_line};
 use op_dictionary::{Axis, OperatorLine};
 
@@ -45,16 +47,16 @@ pub fn line_says<'a>(
     ensures text { IfOk result HasLineText }
 {
     match keyword {
-        Keyword::Upem => Ok(Said::Upem(upem_line(fields)?)),
-        Keyword::Line => Ok(Said::Line(extent_line(fields)?)),
-        Keyword::XHeight => Ok(Said::XHeight(length_line(fields)?)),
-        Keyword::Overlap => Ok(Said::Overlap(length_line(fields)?)),
-        Keyword::Constant => Ok(Said::Constant(constant_line(fields)?)),
-        Keyword::Glyph => Ok(Said::Glyph(glyph_line(fields)?)),
-        Keyword::Char => Ok(Said::Character(character_line(glyphs, fields)?)),
-        Keyword::Variant(axis) => Ok(Said::Variant(axis, variant_line(glyphs, fields)?)),
-        Keyword::Part(axis) => Ok(Said::Part(axis, part_line(glyphs, fields)?)),
-        Keyword::Operator => Ok(Said::Operator(operator_line(fields)?)),
+        Keyword::Upem => upem_line(fields),
+        Keyword::Line => extent_line(fields),
+        Keyword::XHeight => x_height_line(fields),
+        Keyword::Overlap => overlap_line(fields),
+        Keyword::Constant => constant_line(fields),
+        Keyword::Glyph => glyph_line(fields),
+        Keyword::Char => character_line(glyphs, fields),
+        Keyword::Variant(axis) => variant_line(glyphs, axis, fields),
+        Keyword::Part(axis) => part_line(glyphs, axis, fields),
+        Keyword::Operator => operator_line(fields),
         Keyword::Unknown => Err(LineFault::UnknownWord),
     }
 }

@@ -1,6 +1,7 @@
-ghost use Rattle.std.specs.Prelude.{◌≡◌, Ok};
+ghost use Rattle.std.specs.Prelude.{◌≡◌, [], ◌∷◌, ◌++◌, false, Ok, OnOk};
+ghost use Rattle.op_dictionary.specs.Dictionary.{is_named};
+ghost use Rattle.op_dictionary.specs.Pairs.{IsLineText};
 ghost use Rattle.font_metrics.specs.Reading.{nothing, allowed, put};
-ghost use Rattle.font_metrics.specs.Reads.{Takes};
 ghost use Rattle.font_metrics.specs.Said.{item_of, HasLineText};
 
 use crate::by_axis::ByAxis;
@@ -9,9 +10,9 @@ use crate::constant_table::ConstantTable;
 use crate::fault::{LineFault, fault_if};
 use crate::given::Given;
 use crate::glyphs::GlyphTable;
-use crate::refusal::LineRefusal;
 use crate::said::Said;
-use op_dictionary::Extra;
+use fixed_units::Memory;
+use op_dictionary::{Extra, OperatorLine};
 use std::alloc::Global;
 
 /// The most glyphs of a file, so that a glyph's number fits a `u16` of OpenType.
@@ -76,26 +77,48 @@ impl Given {
         }
     }
 
-    /// Keeps what a line says, where it may. It answers a refusal of memory alone.
-    pub fn put(&mut self, alloc: Global, said: Said<'_>) -> Result<(), LineRefusal>
+    /// Keeps what a line says, where it may.
+    pub fn put(&mut self, alloc: Global, said: Said<'_>) -> Result<(), Memory>
         requires free { allowed self.old (item_of said) ≡ Ok tt }
         requires text { HasLineText said }
-        ensures { Takes (Ok (put self.old (item_of said.entry))) self.new result }
+        ensures { OnOk result (self.new ≡ put self.old (item_of said.entry)) }
     {
         match said {
-            Said::Upem(units) => self.upem = Some(units),
-            Said::Line(extent) => self.line = Some(extent),
-            Said::XHeight(height) => self.x_height = Some(height),
-            Said::Overlap(least) => self.overlap = Some(least),
-            Said::Constant((place, value)) => self.constants.add(place, value)?,
-            Said::Glyph((name, measures)) => self.glyphs.add(alloc, name, measures)?,
-            Said::Character((letter, place)) => self.characters.add(letter, place)?,
-            Said::Variant(axis, (place, variant)) => {
-                self.variants.add(alloc, axis, place, variant)?
+            Said::Upem(units) => {
+                self.upem = Some(units);
+                Ok(())
             }
-            Said::Part(axis, (place, part)) => self.parts.add(alloc, axis, place, part)?,
-            Said::Operator(line) => self.operators.add(line)?,
+            Said::Line(extent) => {
+                self.line = Some(extent);
+                Ok(())
+            }
+            Said::XHeight(height) => {
+                self.x_height = Some(height);
+                Ok(())
+            }
+            Said::Overlap(least) => {
+                self.overlap = Some(least);
+                Ok(())
+            }
+            Said::Constant((place, value)) => self.constants.add(place, value),
+            Said::Glyph((name, measures)) => self.glyphs.add(alloc, name, measures),
+            Said::Character((letter, place)) => self.characters.add(letter, place),
+            Said::Variant(axis, (place, variant)) => {
+                self.variants.add(alloc, axis, place, variant)
+            }
+            Said::Part(axis, (place, part)) => self.parts.add(alloc, axis, place, part),
+            Said::Operator(line) => add_operator(&mut self.operators, line),
         }
-        Ok(())
+    }
+}
+
+fn add_operator(operators: &mut Extra, line: OperatorLine) -> Result<(), Memory>
+    requires text { IsLineText line.text }
+    requires new { is_named operators.old line.text line.form ≡ false }
+    ensures { OnOk result (operators.new ≡ operators.old ++ line ∷ []) }
+{
+    match operators.add(line) {
+        Ok(()) => Ok(()),
+        Err(_) => Err(Memory),
     }
 }

@@ -1,11 +1,9 @@
-use Rattle.std.proofs.Common.{◌≡◌, ◌≢◌, ◌∙◌, ◌+◌, ap, sym, subst, [], Err, rules, arith, true}
+use Rattle.std.proofs.Common.{sym, subst, Err}
 use Rattle.std.specs.Str.Lines.{lines}
 use Rattle.font_metrics.specs.declared.refusal.LineRefusal.TheVariants.{Fault as FaultyLine}
-use Rattle.font_metrics.specs.Reading.{nothing, after, after_first, finished, numbered, metrics_of}
-use Rattle.font_metrics.specs.Reads.{Reads}
-use Rattle.font_metrics.proofs.Finish.{ends_with, ends_without}
-use Rattle.font_metrics.proofs.Forward.{continued, from_line, from_first, stopped, more, ended, none_left, lacks}
-use Rattle.font_metrics.proofs.Ranges.{after_keeps, first_keeps}
+use Rattle.font_metrics.specs.Reading.{nothing, after_first, metrics_of}
+use Rattle.font_metrics.specs.Reads.{Reads, Begins}
+use Rattle.font_metrics.proofs.Forward.{from_first, stopped}
 use Rattle.font_metrics.proofs.read.read_metrics.Goals as goal
 
 pub returns-in-Err : goal.returns-in-Err
@@ -19,71 +17,6 @@ returns-in-Err c =
           (sym c.in-Err.ensures));
     }
 
-pub loop-rest-init : goal.loop-rest-init
-loop-rest-init c =
-    let first = c.first_line.result.0.now in
-    let rest = lines c.first_line.result.1.now in
-    record {
-      says =
-          from_first c.args.bytes.now first rest c.first_line.ensures.line
-          ∙ ap (λ s. continued 1 s (λ next. from_line 1 next rest)) (sym c.in-Ok.ensures);
-      given = first_keeps first c.in-Ok.given (sym c.in-Ok.ensures);
-      small = let bound = c.first_line.ensures.bound in omega (arith, bound, c.requires);
-    }
-
-pub loop-rest-preserved : goal.loop-rest-preserved
-loop-rest-preserved c =
-    let n = c.loop-rest.number in
-    let line = c.first_line-in-loop-rest.result.0.now in
-    let left = c.first_line-in-loop-rest.result.1.now in
-    let some : c.loop-rest.rest.now ≢ [] = search rules in
-    record {
-      says =
-          c.loop-rest.invariant.says
-          ∙ more c.loop-rest.rest.now line left n c.loop-rest.given some c.first_line-in-loop-rest.ensures.line
-          ∙ ap (λ s. continued (n + 1) s (λ next. from_line (n + 1) next (lines left))) c.in_default.ensures;
-      given = after_keeps c.loop-rest.given line c.take.new.self c.loop-rest.invariant.given c.in_default.ensures;
-      small =
-          let shorter = c.first_line-in-loop-rest.ensures.rest some in
-          let small = c.loop-rest.invariant.small in
-          omega (arith, shorter, small);
-    }
-
-pub returns-in-Err-take : goal.returns-in-Err-take
-returns-in-Err-take c =
-    let line = c.first_line-in-loop-rest.result.0.now in
-    let left = c.first_line-in-loop-rest.result.1.now in
-    let some : c.loop-rest.rest.now ≢ [] = search rules in
-    record {
-      reads =
-          subst (λ r. Reads (metrics_of c.args.bytes.now) (Err r)) (sym c.at-in-Err-take.ensures)
-          (stopped _ (c.loop-rest.number + 1) (after c.loop-rest.given line) c.take.new.self _ c.in-Err-take.refusal
-          (c.loop-rest.invariant.says
-          ∙ more c.loop-rest.rest.now line left c.loop-rest.number c.loop-rest.given some c.first_line-in-loop-rest.ensures.line)
-          c.in-Err-take.ensures);
-    }
-
-pub returns-in-Ok-needed : goal.returns-in-Ok-needed
-returns-in-Ok-needed c =
-    let n = c.loop-rest.number in
-    let g = c.loop-rest.given in
-    let at_end : c.is_empty.result ≡ true = search rules in
-    let none = none_left c.loop-rest.rest.now c.is_empty.result c.is_empty.ensures at_end in
-    record {
-      reads =
-          c.loop-rest.invariant.says ∙ ended c.loop-rest.rest.now n g none
-          ∙ ap (numbered (n + 1)) (sym (ends_with g c.in-Ok-needed.needs c.in-Ok-needed.ensures));
-    }
-
-pub returns-in-Err-needed : goal.returns-in-Err-needed
-returns-in-Err-needed c =
-    let n = c.loop-rest.number in
-    let g = c.loop-rest.given in
-    let at_end : c.is_empty.result ≡ true = search rules in
-    let none = none_left c.loop-rest.rest.now c.is_empty.result c.is_empty.ensures at_end in
-    record {
-      reads =
-          subst (λ r. Reads (metrics_of c.args.bytes.now) (Err r)) (sym c.at-in-Err-needed.ensures)
-          (lacks _ (n + 1) c.in-Err-needed.fault (finished g) (c.loop-rest.invariant.says ∙ ended c.loop-rest.rest.now n g none)
-          (ends_without g c.in-Err-needed.fault c.in-Err-needed.ensures));
-    }
+pub take_lines-requires-clause-begun : goal.take_lines-requires-clause-begun
+take_lines-requires-clause-begun c =
+    subst (λ ls. Begins ls c.in-Ok.given) (sym c.first_line.ensures.line) (sym c.in-Ok.ensures)
