@@ -3,6 +3,7 @@
 import re
 import shlex
 import sys
+import unittest
 from xml.etree import ElementTree
 
 import picture
@@ -10,7 +11,7 @@ from companion.command import Fault
 from companion.marks import Box, Built, Glyph, pieces_of, read_marks
 from companion.metrics import Drawn, Part
 from companion.metrics import Glyph as Measured
-from tests.common import InFolder, make_font, needs_font_tools, run
+from tests.common import TOP, InFolder, make_font, needs_font_tools, run
 
 # Of each glyph its advance, and its ink as left, bottom, right and top; 1,024 units an em.
 GLYPHS = {
@@ -142,6 +143,37 @@ class Pictures(InFolder):
         [frame] = svg.iter(f"{SVG}rect")
         self.assertEqual([frame.get(name) for name in ("x", "y", "width", "height")], ["0", "-14400", "8192", "19200"])
 
+    def test_a_formula_in_mathml_or_in_a_page_is_laid_out_by_its_tree(self):
+        told = self.file("told", "")
+        echo = self.file("echo.py", f"import sys\nopen({told!r}, 'wb').write(open(sys.argv[3], 'rb').read())\n"
+                         "print('glyph 0 0 1024 one')\n")
+        program = f"{shlex.quote(sys.executable)} {shlex.quote(echo)}"
+        tree = b'{"children":[{"name":"mi","text":"\xce\xb1"}],"name":"math"}\n'
+        formula = b"<math><mi>&alpha;</mi></math>"
+        for text in (formula, b"<p>one: " + formula + b", <math></math>", tree, b" \n" + tree):
+            status, written, errors = run(picture, self.metrics, self.font, self.file("formula", text), "--program", program)
+            self.assertEqual((status, written.count(b"#g-one"), errors), (0, 1, ""))
+            self.assertEqual((self.folder / "told").read_bytes(), text if text.strip() == tree.strip() else tree)
+        for text, fault in (("<p>nothing", "holds no formula"), ("[]", "holds no formula"), ("", "holds no formula"),
+                            ("<math>\n<mrow>x</mrow></math>", "formula:2:7: text inside <mrow>"), ("<math><mi>", "isn't XML")):
+            self.assert_refused(run(picture, self.metrics, self.font, self.file("formula", text), "--program", program), fault)
+        self.assert_refused(run(picture, self.metrics, self.font, self.folder / "absent", "--program", program), "No such file")
+
+    def test_lines_beside_the_picture(self):
+        text = "box 1 math 0 0 1 1 1 1 1\nglyph 0 0 16384 one\n"
+        lines = self.folder / "lines.txt"
+        self.draw(text, "--lines", lines)
+        self.assertEqual(lines.read_text(), text)
+        words = (self.metrics, self.font, self.tree)
+        for written, status, told in (("range\n", 8, "out of range"), ("hello\n", 0, "neither a box nor a mark")):
+            outcome = run(picture, *words, "--program", self.program(written, status), "--lines", lines)
+            self.assert_refused(outcome, told)
+        outcome = run(picture, "--html", *words, self.tree, "--program", self.program(text), "--lines", lines)
+        self.assert_refused(outcome, "leave out --lines")
+        self.assertEqual(lines.read_text(), text)
+        outcome = run(picture, *words, "--program", self.program(text), "--lines", self.folder / "no" / "where")
+        self.assert_refused(outcome, "No such file")
+
     def test_a_page_of_two(self):
         program = self.program("box 1 math 0 0 1 1 1 1 1\nglyph 0 0 16384 one\n")
         other = self.file("a&b.json", "{}")
@@ -182,3 +214,31 @@ class Pictures(InFolder):
         for words in (("a", "b"), ("a", "b", "c", "--zoom", "0"), ("a", "b", "c", "--zoom", "nan")):
             status, _, errors = run(picture, *words)
             self.assertEqual((status, errors.count("\n")), (2, 1))
+
+
+# Three assemblies of the samples, which are in Latin Modern Math with 1,000 units an em, and where their pieces stand by hand.
+FENCE = ("matrix", "uni239", [
+    # built 34137 47438 16384 block parenleft 7 379: 1495 units are 24494, less 379 is 24115; 498 are 8159, less 379 is 7780
+    ("uni239D", 34137, 47438), ("uni239C", 34137, 23323), ("uni239C", 34137, 15543), ("uni239C", 34137, 7763),
+    ("uni239C", 34137, -17), ("uni239C", 34137, -7797), ("uni239C", 34137, -15577), ("uni239C", 34137, -23357),
+    ("uni239B", 34137, -31137)])
+BRACE = ("braces_and_accents", "uni23DF", [
+    # built 0 2615 11469 inline uni23DF 3 805: 1002 units are 11492, 994 are 11400 and 2003 are 22972; each less 805
+    ("uni23DF.lft", 0, 2615), ("uni23DF.ex", 10687, 2615), ("uni23DF.ex", 21282, 2615), ("uni23DF.ex", 31877, 2615),
+    ("uni23DF.md", 42472, 2615), ("uni23DF.ex", 64639, 2615), ("uni23DF.ex", 75234, 2615), ("uni23DF.ex", 85829, 2615),
+    ("uni23DF.rt", 96424, 2615)])
+SURD = ("nested_roots", "(?:uni23B7|radical.(?:ex|tp))", [
+    # built 4555 20991 16384 block radical 2 1878: 1820 units are 29819, less 1878 is 27941; 640 are 10486, less 1878 is 8608
+    ("uni23B7", 4555, 20991), ("radical.ex", 4555, -6950), ("radical.ex", 4555, -15558), ("radical.tp", 4555, -24166)])
+
+
+class Samples(unittest.TestCase):
+    def test_pieces_of_three_assemblies(self):
+        for name, glyphs, pieces in (FENCE, BRACE, SURD):
+            picture_of_it = (TOP / "samples" / f"{name}.svg").read_text()
+            found = re.findall(rf'<use href="#g-({glyphs}[^"]*)" transform="translate\((\S+) (\S+)\)', picture_of_it)
+            self.assertEqual([(glyph, int(x), int(y)) for glyph, x, y in found[:len(pieces)]], pieces)
+
+    def test_the_rule_of_a_radical_begins_at_the_top_of_its_surd(self):
+        # the last piece of the surd stands at -24166 and is 620 units high, which are 10158
+        self.assertIn(f'y="{-24166 - 10158}" width="174374"', (TOP / "samples" / "nested_roots.svg").read_text())
