@@ -1,10 +1,10 @@
 -- What stretches children can be stored, where the element's own stretch and the answers can.
-use Rattle.std.proofs.Common.{◌≡◌, refl, sym, ap, subst, ℕ, zero, suc, ◌+◌, ◌^◌, ◌≤◌, arith, Bool, true, false, cond, List, [], ◌∷◌, ◌++◌, length, map, take, fold, All, Option, Some, None, ℤ, pos}
+use Rattle.std.proofs.Common.{◌≡◌, refl, sym, ap, subst, ℕ, zero, suc, ◌+◌, arith, Bool, true, false, cond, List, [], ◌∷◌, length, map, take, fold, All, Option, Some, None, ℤ, pos}
 use Rattle.std.proofs.lemmas.List.Elements.{All-append, All-cons, All-head, All-map, All-nil, All-tail}
 use Rattle.std.specs.Int.{int_max}
 use Rattle.std.specs.Prelude.{⊤}
 use Rattle.std.specs.List.{AllPass, list_all}
-use Rattle.fixed_units.specs.Boxes.{IsStored, all_joined, farthest}
+use Rattle.fixed_units.specs.Boxes.{IsStored, farthest}
 use Rattle.fixed_units.specs.Numbers.{IsWithin}
 use Rattle.fixed_units.specs.Sums.{list_to}
 use Rattle.fixed_units.specs.declared.boxes.MathBox.{MathBox}
@@ -23,7 +23,7 @@ use Rattle.op_dictionary.specs.declared.operator.Axis.TheVariants.{Block as Upwa
 use Rattle.scripts.specs.Questions.{first_limit_asks_of, rest, second_limit_asks_of, widest_of}
 use Rattle.layout_model.specs.Contexts.{pull_of, stretch_of}
 use Rattle.layout_model.specs.Fits.{IsStretch}
-use Rattle.layout_model.specs.Questions.{asked, asking, cells_at, columns_at, columns_over, first, first_asks, kid_pulls, row_asked, second, second_as, second_asks, unstretched}
+use Rattle.layout_model.specs.Questions.{asked, asking, cells_at, columns_over, first, first_asks, kid_pulls, row_asked, second, second_as, second_asks, unstretched}
 use Rattle.layout_model.specs.Range.{answer_fits}
 use Rattle.layout_model.specs.declared.asking.Asking.{Asking}
 use Rattle.layout_model.specs.declared.asking.Asking.TheVariants.{Nothing, Plainly, ForTheBase, AsRow, AsLimits, AsTable}
@@ -32,7 +32,7 @@ use Rattle.layout_model.specs.declared.context.Question.{Question}
 use Rattle.layout_model.specs.declared.context.Stretch.{Stretch}
 use Rattle.layout_model.specs.declared.context.Stretch.TheVariants.{None as Unstretched, Block as Upright, Inline as Sideways, Columns}
 use Rattle.layout_model.specs.declared.outcome.Answer.{Answer}
-use Rattle.layout_model.proofs.Ranges.{IsAnswerStored, answers_stored, columns_in}
+use Rattle.layout_model.proofs.Ranges.{answers_stored, columns_in}
 
 -- ---- pulls
 
@@ -86,11 +86,11 @@ asks_stored place plan (kid ∷ kids) s o =
     (ask_stored place (planned plan kid) (planned_stored plan kid s o)) (asks_stored (place + 1) plan kids s o)
 
 -- the plan of a first wave, where it is known whether all children stretch
-abbrev first_plan : Axis → Pull → Bool → Plan
+abbrev pub first_plan : Axis → Pull → Bool → Plan
 first_plan axis least true = record { axis = axis; stretching = Some least; others = None }
 first_plan axis least false = record { axis = axis; stretching = None; others = Some Free }
 
-plan_is : (axis : Axis) (least : Pull) (kids : List KidPull) (b : Bool) → list_all (stretches axis) kids ≡ b
+pub plan_is : (axis : Axis) (least : Pull) (kids : List KidPull) (b : Bool) → list_all (stretches axis) kids ≡ b
     → first_of_two kids axis least ≡ first_plan axis least b
 plan_is axis least kids true e = ap (λ (all : Bool). cond all (first_plan axis least true) (first_plan axis least false)) e
 plan_is axis least kids false e = ap (λ (all : Bool). cond all (first_plan axis least true) (first_plan axis least false)) e

@@ -12,7 +12,7 @@ use Rattle.embellished.specs.Seen.{Seen, seen_of}
 use Rattle.embellished.specs.declared.facts.Core.{Core}
 use Rattle.layout_model.specs.Answers.{last_answer}
 use Rattle.layout_model.specs.Elements.{Element, frames_of, outcome_with}
-use Rattle.layout_model.specs.Equations.{multi_outcome, operator_outcome, operator_with, outcome_by, over_outcome, sub_outcome, sub_sup_outcome, space_outcome, sup_outcome, token_outcome, under_outcome, under_over_outcome, unless_moved, widths_of}
+use Rattle.layout_model.specs.Equations.{multi_outcome, operator_outcome, operator_with, outcome_by, over_outcome, sub_outcome, sub_sup_outcome, space_outcome, sup_outcome, token_outcome, under_outcome, under_over_outcome, unless_moved}
 use Rattle.layout_model.specs.Layout.{equation, last_answers, lay, lay_by}
 use Rattle.layout_model.specs.Laws.{answer_of}
 use Rattle.layout_model.specs.Questions.{first, has_moved_limits, second}

@@ -1,9 +1,9 @@
 -- What fits lies in the stored range, and so do the columns of a table over answers that fit.
-use Rattle.std.proofs.Common.{◌≡◌, ◌∙◌, refl, sym, ap, ℕ, zero, suc, ◌+◌, ◌*◌, ◌<◌, ◌≤◌, max, arith, Bool, true, false, ◌&&◌, List, [], ◌∷◌, length, map, fold, All, Option, Some, None, ℤ, pos, slice_get}
+use Rattle.std.proofs.Common.{◌≡◌, refl, ap, ℕ, zero, suc, ◌≤◌, max, arith, Bool, true, ◌&&◌, List, [], ◌∷◌, length, map, fold, All, ℤ, slice_get}
 use Rattle.std.proofs.lemmas.Bool.{and_parts}
-use Rattle.std.proofs.lemmas.List.Elements.{All-append, All-cons, All-head, All-map, All-nil, All-tail}
+use Rattle.std.proofs.lemmas.List.Elements.{All-append, All-cons, All-head, All-nil, All-tail}
 use Rattle.std.specs.Int.{int_max}
-use Rattle.std.specs.List.{AllPass, cons_option, filter_map, list_all}
+use Rattle.std.specs.List.{AllPass, cons_option, list_all}
 use Rattle.fixed_units.specs.Boxes.{IsStored, empty_box, farthest, is_box_stored, is_stored}
 use Rattle.fixed_units.specs.Numbers.{IsWithin}
 use Rattle.fixed_units.specs.Sums.{list_to}

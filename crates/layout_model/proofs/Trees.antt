@@ -1,5 +1,5 @@
 -- The layout of an element of a tree, in terms of the nodes in flow below it.
-use Rattle.std.proofs.Common.{◌≡◌, ◌∙◌, refl, sym, ap, ℕ, zero, suc, ◌+◌, Bool, true, false, cond, List, [], ◌∷◌, ◌++◌, length, map, take, Option, Some, None, slice_get}
+use Rattle.std.proofs.Common.{◌≡◌, ◌∙◌, refl, sym, ap, ℕ, zero, suc, ◌+◌, cond, List, [], ◌∷◌, ◌++◌, length, map, take, Option, Some, None, slice_get}
 use Rattle.std.proofs.lemmas.List.{length-map}
 use Rattle.std.proofs.lemmas.Option.{slice_get-map}
 use Rattle.fixed_units.specs.Sums.{list_to}
@@ -15,7 +15,7 @@ use Rattle.math_tree.proofs.Nodes.{by_children}
 use Rattle.embellished.specs.Facts.{facts, facts_over}
 use Rattle.embellished.specs.Flow.{flow_by, may_show, shown_by}
 use Rattle.embellished.specs.Kinds.{shows_its_first, shows_none}
-use Rattle.embellished.specs.Seen.{Child, Kid, Seen, children_from, flow_children, flow_nodes, kid_of, laid_child, seen_of, seen_over}
+use Rattle.embellished.specs.Seen.{Child, Seen, children_from, flow_children, flow_nodes, kid_of, laid_child, seen_of, seen_over}
 use Rattle.embellished.specs.declared.facts.Facts.{Facts}
 use Rattle.embellished.proofs.InFlow.{flow_map}
 use Rattle.embellished.proofs.Nodes.{facts_out}

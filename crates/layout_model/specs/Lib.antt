@@ -5,6 +5,8 @@ pub mod Fits
 pub mod Equations
 pub mod Laws
 pub mod Layout
+pub mod Made
 pub mod Questions
 pub mod Range
 pub mod Rows
+pub mod Waves

@@ -3,6 +3,8 @@
 //! A law is proved where it is a contract, so each function here has one and computes nothing.
 //! Proofs above cite `proofs/Trees` itself.
 ghost use Rattle.layout_model.specs.Laws.{LaidLaw, LayoutLaw, VisitsLaw};
+ghost use Rattle.layout_model.specs.Made.{MadeLaw, ReadsLaw, TwoContextsLaw};
+ghost use Rattle.layout_model.specs.Waves.{AlikeLaw, EachWaveLaw, HandedLaw, OnceLaw, PlainLaw};
 
 /// An element is laid out by its equation, over the layouts of its children in flow.
 pub fn an_element_is_its_equation_over_its_children()
@@ -18,4 +20,50 @@ pub fn what_is_asked_is_made()
 /// last question to it.
 pub fn children_are_laid_out_as_asked_last()
     ensures { LaidLaw }
+{}
+
+/// No wave asks a child twice.
+pub fn each_wave_asks_a_child_at_most_once()
+    ensures { EachWaveLaw }
+{}
+
+/// An element that is asked with a stretch asks each of its children just once in both waves, and so
+/// does a row of a table.
+pub fn who_is_stretched_asks_each_child_once()
+    ensures { OnceLaw }
+{}
+
+/// A question to a child has the style and the form of the child's place. All that one element asks
+/// one child have a stretch or none has, and without one they are the same question; but for the rows
+/// of a table.
+pub fn a_child_is_asked_alike()
+    ensures { AlikeLaw }
+{}
+
+/// A child that is no operator is asked with form infix and without stretch, but for the rows of a
+/// table.
+pub fn who_is_no_operator_is_asked_plainly()
+    ensures { PlainLaw }
+{}
+
+/// Only operators are asked with a pull, along the axis along which they stretch, and only rows of
+/// tables with columns.
+pub fn operators_alone_are_stretched()
+    ensures { HandedLaw }
+{}
+
+/// Which layouts are made for that of an element: its own, and with each those of all that it asks,
+/// and no others.
+pub fn what_is_made_is_what_is_asked()
+    ensures { MadeLaw }
+{}
+
+/// A layout reads nothing of a child but its head, its facts, and its answers to what it is asked.
+pub fn children_are_read_by_their_answers()
+    ensures { ReadsLaw }
+{}
+
+/// No element of a tree is laid out in more than two contexts.
+pub fn no_element_is_laid_out_in_three_contexts()
+    ensures { TwoContextsLaw }
 {}

@@ -1,7 +1,7 @@
 -- How often a wave asks a child: once, where the plan has a pull for it.
-use Rattle.std.proofs.Common.{◌≡◌, ◌≢◌, ◌∙◌, refl, ap, ℕ, zero, suc, ◌+◌, ◌<◌, ◌==◌, arith, Bool, true, false, cond, List, [], ◌∷◌, ◌++◌, length, get_or, Option, Some, None, pos}
+use Rattle.std.proofs.Common.{◌≡◌, ◌≢◌, ◌∙◌, refl, ap, ℕ, zero, suc, ◌+◌, ◌<◌, ◌≤◌, ◌==◌, inl, inr, arith, Bool, true, false, cond, List, [], ◌∷◌, ◌++◌, length, get_or, Option, Some, None, pos}
 use Rattle.std.proofs.lemmas.Bool.{true≢false, false≢true}
-use Rattle.std.proofs.lemmas.Bool.Decides.{nat_tests}
+use Rattle.std.proofs.lemmas.Bool.Decides.{eqb_tells, nat_tests}
 use Rattle.std.proofs.lemmas.List.Sums.{sum_by-append, list_all-from_AllPass, AllPass-from_list_all}
 use Rattle.std.proofs.lemmas.Bool.{and_parts}
 use Rattle.std.specs.List.{list_all}
@@ -17,7 +17,7 @@ use Rattle.row_stretch.specs.Laws.{asked, IsPulled, AllStretch}
 use Rattle.row_stretch.specs.Questions.{stretches, planned, ask_of, asks_from, under, second_of_two, row_second, target_of, first_asks_of, second_asks_of}
 
 -- one question or none
-questions : Option Pull → ℕ
+unfoldable pub questions : Option Pull → ℕ
 questions None = 0
 questions (Some pull) = 1
 
@@ -34,7 +34,7 @@ asked-other q p None other = refl
 asked-other q p (Some pull) other = grind (arith, nat_tests)
 
 -- a child before the first is not asked
-asked-before : (q p : ℕ) (plan : Plan) (kids : List KidPull) → q < p → asked q (asks_from p plan kids) ≡ 0
+pub asked-before : (q p : ℕ) (plan : Plan) (kids : List KidPull) → q < p → asked q (asks_from p plan kids) ≡ 0
 unfolding asks_from
 asked-before q p plan [] h = refl
 asked-before q p plan (kid ∷ kids) h =
@@ -43,7 +43,24 @@ asked-before q p plan (kid ∷ kids) h =
     let rest = asked-before q (p + 1) plan kids (omega arith) in
     omega (arith, asked-ask_of q p (planned plan kid) (asks_from (p + 1) plan kids))
 
-asked-asks_from : (p i : ℕ) (plan : Plan) (kids : List KidPull) (d : KidPull) → i < length kids
+-- no plan asks a child twice
+ask_of-few : (q p : ℕ) (pull : Option Pull) → asked q (ask_of p pull) ≤ 1
+ask_of-few q p None = omega arith
+ask_of-few q p (Some pull) = grind (arith, nat_tests)
+
+pub asked-few : (q p : ℕ) (plan : Plan) (kids : List KidPull) → asked q (asks_from p plan kids) ≤ 1
+unfolding asks_from
+asked-few q p plan [] = omega arith
+asked-few q p plan (kid ∷ kids) =
+    let rest = asked-few q (p + 1) plan kids in
+    let few = ask_of-few q p (planned plan kid) in
+    let both = asked-ask_of q p (planned plan kid) (asks_from (p + 1) plan kids) in
+    elim (eqb_tells p q) [
+      inl same ↦ omega (arith, same.1, few, both, asked-before q (p + 1) plan kids (omega (arith, same.1)))
+      | inr apart ↦ omega (arith, rest, both, asked-other q p (planned plan kid) apart.1)
+    ]
+
+pub asked-asks_from : (p i : ℕ) (plan : Plan) (kids : List KidPull) (d : KidPull) → i < length kids
     → asked (p + i) (asks_from p plan kids) ≡ questions (planned plan (get_or kids i d))
 unfolding asks_from
 asked-asks_from p i plan [] d h = absurd (omega arith)
@@ -61,18 +78,18 @@ asked-asks_from p (suc i) plan (kid ∷ kids) d h =
     let rest = ap (λ (k : ℕ). asked k (asks_from (p + 1) plan kids)) e ∙ asked-asks_from (p + 1) i plan kids d (omega arith) in
     omega (arith, here, rest, asked-ask_of q p (planned plan kid) (asks_from (p + 1) plan kids))
 
-no_kid : KidPull
+abbrev pub no_kid : KidPull
 no_kid = record { axis = None }
 
 -- the plan of the row's first child at place 0
-counted : (plan : Plan) (kids : List KidPull) (place : ℕ) → place < length kids
+pub counted : (plan : Plan) (kids : List KidPull) (place : ℕ) → place < length kids
     → asked place (asks_from 0 plan kids) ≡ questions (planned plan (get_or kids place no_kid))
 counted plan kids place h =
     let e : place ≡ 0 + place = omega arith in
     ap (λ (k : ℕ). asked k (asks_from 0 plan kids)) e ∙ asked-asks_from 0 place plan kids no_kid h
 
 -- ---- under a pull
-under_asks : (axis : Axis) (pull : Pull) (kid : KidPull) → questions (planned (under axis pull) kid) ≡ 1
+pub under_asks : (axis : Axis) (pull : Pull) (kid : KidPull) → questions (planned (under axis pull) kid) ≡ 1
 unfolding questions planned
 under_asks axis pull kid = by (stretches axis kid)
   where
@@ -90,7 +107,7 @@ asked_once kids (Inline w) first place h pulled =
 
 -- ---- under none
 -- those that don't stretch, then those that do
-either_asks : (axis : Axis) (pull : Pull) (kid : KidPull)
+pub either_asks : (axis : Axis) (pull : Pull) (kid : KidPull)
     → questions (planned (record { axis = axis; stretching = None; others = Some Free }) kid) + questions (planned (second_of_two axis pull) kid) ≡ 1
 unfolding questions planned
 either_asks axis pull kid = by (stretches axis kid)
