@@ -3,6 +3,7 @@ pub mod Contexts
 pub mod Elements
 pub mod Fits
 pub mod Equations
+pub mod Laid
 pub mod Laws
 pub mod Layout
 pub mod Made

@@ -2,6 +2,7 @@
 //!
 //! A law is proved where it is a contract, so each function here has one and computes nothing.
 //! Proofs above cite `proofs/Trees` itself.
+ghost use Rattle.layout_model.specs.Laid.{DrawnLaw, LevelsLaw, OffsetsLaw, StoredLaw};
 ghost use Rattle.layout_model.specs.Laws.{LaidLaw, LayoutLaw, VisitsLaw};
 ghost use Rattle.layout_model.specs.Made.{MadeLaw, ReadsLaw, TwoContextsLaw};
 ghost use Rattle.layout_model.specs.Waves.{AlikeLaw, EachWaveLaw, HandedLaw, OnceLaw, PlainLaw};
@@ -66,4 +67,25 @@ pub fn children_are_read_by_their_answers()
 /// No element of a tree is laid out in more than two contexts.
 pub fn no_element_is_laid_out_in_three_contexts()
     ensures { TwoContextsLaw }
+{}
+
+/// Where all layouts that are made for an element can be stored, so can each outcome in its laid-out
+/// tree.
+pub fn what_is_laid_out_can_be_stored()
+    ensures { StoredLaw }
+{}
+
+/// The marks of a laid-out tree name glyphs of the font.
+pub fn marks_name_glyphs_of_the_font()
+    ensures { DrawnLaw }
+{}
+
+/// A laid-out tree has no more levels than the tree.
+pub fn layout_makes_no_tree_deeper()
+    ensures { LevelsLaw }
+{}
+
+/// An outcome has one offset for each child in flow, in order.
+pub fn outcomes_place_all_children()
+    ensures { OffsetsLaw }
 {}

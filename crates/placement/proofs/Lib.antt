@@ -1,0 +1,4 @@
+pub mod Glyphs
+pub mod Near
+pub mod Showing
+mod Worked
