@@ -10,8 +10,7 @@ of the program's, 1/1024 px. With --boxes each element's box stands on it with i
 page with a picture of each formula, in their order. --lines writes a file too, of the boxes and marks as the program wrote
 them.
 
-The program is crates/mathlay/out/mathlay of this repository, which `rt run` in crates/mathlay has proved and built. Today it lays
-out short trees only (a `math` over at most one `mn` of one character), and refuses every other one with `tree later`. With
+The program is crates/mathlay/out/mathlay of this repository, which `rt run` in crates/mathlay has proved and built. With
 --program, COMMAND is run in its place: words as a shell parts them, behind which `layout FILE.metrics TREE.json` is put.
 
 Glyphs stand on their baselines. A built mark is drawn as the parts of its assembly in the metrics' order, an extender as often as

@@ -3,19 +3,20 @@ use Rattle.std.proofs.Common.{◌≡◌, ◌⊎◌, inl, inr, ℕ, List, refl, a
 use Rattle.std.specs.Prelude.{Result, Ok, Err, IsErrOf, IsSomeAnd, IsNone, IsOk}
 use Rattle.std.specs.Option.{option_map}
 use Rattle.doc_io.specs.Causes.{Files, InputsTold}
+use Rattle.fixed_units.specs.declared.refusal.LayRefusal.{LayRefusal}
+use Rattle.fixed_units.specs.declared.refusal.LayRefusal.TheVariants as layout
 use Rattle.font_metrics.specs.Metrics.{MetricsValue}
 use Rattle.math_tree.specs.Trees.{TreeValue}
-use Rattle.box_writer.specs.Lines.{text_of}
 use Rattle.commands.specs.Command.{Asked}
 use Rattle.std.specs.Prelude.{Bool, true, false, if◌then◌else◌}
-use Rattle.commands.specs.Built.{is_built}
+use Rattle.layout_model.specs.Layout.{is_tree_in_range}
 use Rattle.commands.specs.declared.command.Task.{Task}
 use Rattle.commands.specs.declared.command.Task.TheVariants.{Layout, Check}
-use Rattle.commands.specs.Placed.{place}
-use Rattle.commands.specs.Answer.{content, metrics_in, tree_in, ◌>>=◌, done, answer_over, answer_in, answer}
+use Rattle.commands.specs.Answer.{content, metrics_in, tree_in, ◌>>=◌, done, answer_over, answer_in, answer, laid_out, lines_of}
+use Rattle.commands.specs.Refusals.{of_layout}
 use Rattle.commands.specs.Ends.{LacksFile, HasReadCause, IsCut, GivesOr, Answers}
 use Rattle.commands.specs.declared.refusal.Refusal.{Refusal}
-use Rattle.commands.specs.declared.refusal.Refusal.TheVariants.{ReadFault, TreeLater}
+use Rattle.commands.specs.declared.refusal.Refusal.TheVariants.{ReadFault, Range}
 
 -- the same refusal, of another type of answer
 cut_again : {A B : Type 0} (r : Refusal) → IsCut {V = A} (Err r) → IsCut {V = B} (Err r)
@@ -142,9 +143,9 @@ without_files wanted result seen own gives = record {
 -- a task fails for no read
 done_no_fault : (task : Task) (metrics : MetricsValue) (tree : TreeValue) → done task metrics tree ≡ Err ReadFault → ⊥
 unfolding done
-done_no_fault Layout metrics tree h = by (is_built tree.root) h
+done_no_fault Layout metrics tree h = by (is_tree_in_range metrics tree) h
   where
-    by : (built : Bool) → (if built then Ok (text_of metrics (place metrics tree.root)) else Err TreeLater) ≡ Err ReadFault → ⊥
+    by : (fits : Bool) → (if fits then Ok (lines_of metrics tree) else Err Range) ≡ Err ReadFault → ⊥
     by true h = cc
     by false h = cc
 done_no_fault Check metrics tree h = cc
@@ -215,3 +216,17 @@ pub answered : (task : Task) (m t : List ℕ) (metrics : MetricsValue) (tree : T
 unfolding answer_in answer_over
 answered task m t metrics tree h k =
     ap (λ x. x >>= λ metrics. answer_over task metrics t) h ∙ ap (λ x. x >>= λ tree. done task metrics tree) k
+
+-- ---- the layout
+
+pub in_range_lines : (metrics : MetricsValue) (tree : TreeValue) → is_tree_in_range metrics tree ≡ true → laid_out metrics tree ≡ Ok (lines_of metrics tree)
+in_range_lines metrics tree e = ap (λ (fits : Bool). if fits then Ok (lines_of metrics tree) else Err Range) e
+
+pub out_of_range : (metrics : MetricsValue) (tree : TreeValue) → is_tree_in_range metrics tree ≡ false → laid_out metrics tree ≡ Err Range
+out_of_range metrics tree e = ap (λ (fits : Bool). if fits then Ok (lines_of metrics tree) else Err Range) e
+
+-- the refusal of a layout is the wanted one, or want of memory
+pub refused_layout : (refused : LayRefusal) (metrics : MetricsValue) (tree : TreeValue) → (refused ≡ layout.Range → is_tree_in_range metrics tree ≡ false)
+    → GivesOr (laid_out metrics tree) (Err (of_layout refused))
+refused_layout layout.Range metrics tree h = inr (sym (out_of_range metrics tree (h refl)))
+refused_layout layout.Memory metrics tree h = inl refl

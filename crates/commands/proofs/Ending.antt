@@ -12,7 +12,7 @@ use Rattle.commands.specs.Ends.{LacksFile, HasReadCause, IsCut, IsCutShort, Answ
 use Rattle.commands.specs.declared.status.Status.{Status}
 use Rattle.commands.specs.declared.status.Status.TheVariants as status
 use Rattle.commands.specs.declared.refusal.Refusal.{Refusal}
-use Rattle.commands.specs.declared.refusal.Refusal.TheVariants.{MetricsLong, Metrics, TreeLong, TreeJson, Tree, TreeLater, ReadFault, Memory}
+use Rattle.commands.specs.declared.refusal.Refusal.TheVariants.{MetricsLong, Metrics, TreeLong, TreeJson, Tree, Range, ReadFault, Memory}
 
 -- the status tells a failed read and want of memory
 is_read_fault : (refusal : Refusal) → status_of refusal ≡ status.ReadFault → refusal ≡ ReadFault
@@ -21,7 +21,7 @@ is_read_fault (Metrics fault) e = cc
 is_read_fault TreeLong e = cc
 is_read_fault TreeJson e = cc
 is_read_fault (Tree fault) e = cc
-is_read_fault TreeLater e = cc
+is_read_fault Range e = cc
 is_read_fault ReadFault e = refl
 is_read_fault Memory e = cc
 
@@ -31,7 +31,7 @@ is_memory (Metrics fault) e = cc
 is_memory TreeLong e = cc
 is_memory TreeJson e = cc
 is_memory (Tree fault) e = cc
-is_memory TreeLater e = cc
+is_memory Range e = cc
 is_memory ReadFault e = cc
 is_memory Memory e = refl
 
@@ -42,7 +42,7 @@ not_usage (Metrics fault) e = cc
 not_usage TreeLong e = cc
 not_usage TreeJson e = cc
 not_usage (Tree fault) e = cc
-not_usage TreeLater e = cc
+not_usage Range e = cc
 not_usage ReadFault e = cc
 not_usage Memory e = cc
 
@@ -53,7 +53,7 @@ not_write_fault (Metrics fault) e = cc
 not_write_fault TreeLong e = cc
 not_write_fault TreeJson e = cc
 not_write_fault (Tree fault) e = cc
-not_write_fault TreeLater e = cc
+not_write_fault Range e = cc
 not_write_fault ReadFault e = cc
 not_write_fault Memory e = cc
 

@@ -1,5 +1,5 @@
 pub mod Ending
 pub mod Loading
 pub mod Answering
-pub mod Placing
+pub mod Steps
 mod Worked

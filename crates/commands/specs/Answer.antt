@@ -1,5 +1,5 @@
 -- What the program answers to a command, where the files are told: the table of its endings.
-use Rattle.std.specs.Prelude.{ℕ, List, [], ◌∷◌, ◌++◌, length, nat_lt, if◌then◌else◌, Option, Some, None, Result, Ok, Err, unwrap_or}
+use Rattle.std.specs.Prelude.{ℕ, pos, List, [], ◌∷◌, ◌++◌, length, nat_lt, if◌then◌else◌, Option, Some, None, Result, Ok, Err, unwrap_or}
 use Rattle.std.specs.Str.{is_utf8}
 use Rattle.serde_json.specs.Data.{Data}
 use Rattle.serde_json.specs.Read.{read}
@@ -8,21 +8,22 @@ use Rattle.font_metrics.specs.Metrics.{MetricsValue}
 use Rattle.font_metrics.specs.Print.{print_of as metrics_print}
 use Rattle.font_metrics.specs.Reading.{Fault, metrics_of, most_file_bytes}
 use Rattle.font_metrics.specs.Reads.{told}
-use Rattle.commands.specs.Built.{is_built}
 use Rattle.math_tree.specs.Print.{print_of as tree_print}
 use Rattle.math_tree.specs.Reading.{tree_of}
 use Rattle.math_tree.specs.Trees.{TreeValue}
 use Rattle.math_tree.specs.declared.fault.TreeFault.{TreeFault}
+use Rattle.layout_model.specs.Layout.{is_tree_in_range, laid_tree}
 use Rattle.box_writer.specs.Lines.{text_of}
+use Rattle.box_writer.specs.declared.placed.PlacedItem.{PlacedItem}
+use Rattle.placement.specs.Placing.{placed}
 use Rattle.commands.specs.Command.{Asked, usage_line}
 use Rattle.commands.specs.declared.command.Task.{Task}
 use Rattle.commands.specs.declared.command.Task.TheVariants.{Layout, Check}
 use Rattle.commands.specs.Refusals.{line_of, status_of}
-use Rattle.commands.specs.Placed.{place}
 use Rattle.commands.specs.declared.status.Status.{Status}
 use Rattle.commands.specs.declared.status.Status.TheVariants.{Done, Usage}
 use Rattle.commands.specs.declared.refusal.Refusal.{Refusal}
-use Rattle.commands.specs.declared.refusal.Refusal.TheVariants.{MetricsLong, Metrics, TreeLong, TreeJson, Tree, TreeLater}
+use Rattle.commands.specs.declared.refusal.Refusal.TheVariants.{MetricsLong, Metrics, TreeLong, TreeJson, Tree, Range}
 
 -- ---- the two files
 
@@ -71,10 +72,17 @@ abbrev pub ◌>>=◌ : {A B : Type 0} → Result A Refusal → (A → Result B R
 Ok value >>= next = next value
 Err refusal >>= next = Err refusal
 
--- the lines of the boxes, where the tree is one that is laid out so far
+-- the boxes and marks of the tree as it is laid out, whose baseline begins at (0, 0)
+abbrev pub page_of : MetricsValue → TreeValue → List PlacedItem
+page_of metrics tree = placed (laid_tree metrics tree) (pos 0) (pos 0)
+
+-- their lines
+abbrev pub lines_of : MetricsValue → TreeValue → List ℕ
+lines_of metrics tree = text_of metrics (page_of metrics tree)
+
+-- the lines, unless a number of the layout can't be stored
 abbrev pub laid_out : MetricsValue → TreeValue → Result (List ℕ) Refusal
-laid_out metrics tree =
-    if is_built tree.root then Ok (text_of metrics (place metrics tree.root)) else Err TreeLater
+laid_out metrics tree = if is_tree_in_range metrics tree then Ok (lines_of metrics tree) else Err Range
 
 -- the canonical print of both files, and a line feed
 abbrev pub checked : MetricsValue → TreeValue → List ℕ

@@ -4,8 +4,10 @@ use Rattle.std.specs.Io.KnownBytes.{Appends, Keeps}
 use Rattle.doc_io.specs.Causes.{Files, InputsTold, Rose, SinkTold}
 use Rattle.commands.specs.Command.{Asked, usage_line}
 use Rattle.commands.specs.Answer.{content, metrics_in, output, output_of}
+use Rattle.commands.specs.declared.command.Task.{Task}
+use Rattle.commands.specs.declared.command.Task.TheVariants.{Layout, Check}
 use Rattle.commands.specs.declared.status.Status.{Status}
-use Rattle.commands.specs.declared.status.Status.TheVariants.{Usage, ReadFault, WriteFault, Memory}
+use Rattle.commands.specs.declared.status.Status.TheVariants.{Usage, Metrics, Tree, ReadFault, WriteFault, Memory}
 use Rattle.commands.specs.declared.refusal.Refusal.{Refusal}
 use Rattle.commands.specs.declared.refusal.Refusal.TheVariants as refusal
 
@@ -113,3 +115,23 @@ pub record Ends (asked : Option Asked) (before after : InputsTold) (old new : Si
   pub faults : before.faults ≤ after.faults
   pub missing : before.missing ≤ after.missing
   pub write_faults : old.faults ≤ new.faults
+
+-- ---- steps
+
+-- the run ended before any tree was laid out
+abbrev pub EndsUnlaid : Status → Type 0
+EndsUnlaid Usage = Unit {0}
+EndsUnlaid Metrics = Unit {0}
+EndsUnlaid Tree = Unit {0}
+EndsUnlaid ReadFault = Unit {0}
+EndsUnlaid other = ⊥
+
+-- a task that lays out no tree, or one that ended before
+abbrev pub StepsStand : Task → Status → Type 0
+StepsStand Check status = Unit {0}
+StepsStand Layout status = EndsUnlaid status
+
+-- a run that lays out no tree takes no steps
+abbrev pub TakesNoSteps : Option Asked → Status → Type 0
+TakesNoSteps None status = Unit {0}
+TakesNoSteps (Some asked) status = StepsStand asked.task status

@@ -4,6 +4,8 @@ use Rattle.std.specs.Fmt.{decimal}
 use Rattle.doc_io.specs.Lines.{line}
 use Rattle.doc_io.specs.declared.whole.ReadRefusal.{ReadRefusal}
 use Rattle.doc_io.specs.declared.whole.ReadRefusal.TheVariants as reading
+use Rattle.fixed_units.specs.declared.refusal.LayRefusal.{LayRefusal}
+use Rattle.fixed_units.specs.declared.refusal.LayRefusal.TheVariants as layout
 use Rattle.font_metrics.specs.declared.refusal.MetricsRefusal.{MetricsRefusal}
 use Rattle.font_metrics.specs.declared.refusal.MetricsRefusal.TheVariants as metrics
 use Rattle.math_tree.specs.declared.refusal.TreeRefusal.{TreeRefusal}
@@ -11,7 +13,7 @@ use Rattle.math_tree.specs.declared.refusal.TreeRefusal.TheVariants as tree
 use Rattle.commands.specs.declared.status.Status.{Status}
 use Rattle.commands.specs.declared.status.Status.TheVariants as status
 use Rattle.commands.specs.declared.refusal.Refusal.{Refusal}
-use Rattle.commands.specs.declared.refusal.Refusal.TheVariants.{MetricsLong, Metrics, TreeLong, TreeJson, Tree, TreeLater, ReadFault, Memory}
+use Rattle.commands.specs.declared.refusal.Refusal.TheVariants.{MetricsLong, Metrics, TreeLong, TreeJson, Tree, Range, ReadFault, Memory}
 
 -- the line of a fault: where it is, and the number of its kind
 abbrev pub fault_line : List ℕ → ℕ → ℕ → List ℕ
@@ -24,7 +26,7 @@ line_of (Metrics fault) = fault_line (codes "metrics") fault.line fault.kind
 line_of TreeLong = codes "tree long\n"
 line_of TreeJson = codes "tree json\n"
 line_of (Tree fault) = fault_line (codes "tree") fault.element fault.kind
-line_of TreeLater = codes "tree later\n"
+line_of Range = codes "range\n"
 line_of ReadFault = []
 line_of Memory = []
 
@@ -35,7 +37,7 @@ status_of (Metrics fault) = status.Metrics
 status_of TreeLong = status.Tree
 status_of TreeJson = status.Tree
 status_of (Tree fault) = status.Tree
-status_of TreeLater = status.Tree
+status_of Range = status.Range
 status_of ReadFault = status.ReadFault
 status_of Memory = status.Memory
 
@@ -52,3 +54,7 @@ of_metrics metrics.Memory = Memory
 abbrev pub of_tree : TreeRefusal → Refusal
 of_tree (tree.Fault fault) = Tree fault
 of_tree tree.Memory = Memory
+
+abbrev pub of_layout : LayRefusal → Refusal
+of_layout layout.Range = Range
+of_layout layout.Memory = Memory

@@ -4,18 +4,15 @@
 //! name, writes the answer, and says how the run ended. `layout` writes the lines of a tree's boxes,
 //! `check` prints both files in their canonical form.
 //!
-//! - Models: tokens and rows of MathML Core 3.2 and 3.3.1; words, lines and statuses are own.
+//! - Models: words, lines and statuses, which are own.
 //! - Proved: `run` ends as `Ends` says (`specs/Ends.antt`): with the bytes and the status of
 //!   `output` (`specs/Answer.antt`), or cut short for a cause.
-//! - Knows nothing of: the system, operators, styles, edits; how a metrics file or a tree is read.
+//! - Knows nothing of: the system, edits; how a metrics file or a tree is read, and how a tree is laid out.
 //! - Change what is answered: `specs/Answer.antt`, then the file of `src/` below, then `rt check`.
 #![tactic(auto)]
 
-mod built; // which trees are laid out so far
 mod command; // the words of the command line
-mod layout; // the boxes of tokens and rows
 mod load; // the two files
-mod place; // what stands where
 mod program; // the top call
 mod refusal; // why the answer is another
 mod status; // how a run ends

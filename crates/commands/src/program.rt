@@ -1,23 +1,25 @@
-ghost use Rattle.std.specs.Prelude.{◌≡◌, ◌≢◌, Some, None, All, IfOk, map, string_bytes};
+ghost use Rattle.std.specs.Prelude.{◌≡◌, ◌≢◌, true, false, Some, None, All, Err, IfOk, OnOk, map, string_bytes};
 ghost use Rattle.std.specs.Option.{option_map};
 ghost use Rattle.box_writer.specs.Items.{IsOfFont};
 ghost use Rattle.box_writer.specs.Lines.{text_of};
 ghost use Rattle.commands.specs.Command.{asked_by, asked_of};
-ghost use Rattle.commands.specs.Answer.{answer, answer_over, checked, content, done, laid_out};
-ghost use Rattle.commands.specs.Ends.{Answered, Delivers, Ends, LacksFile, Written};
+ghost use Rattle.commands.specs.Answer.{answer, answer_over, checked, content, done, laid_out, page_of};
+ghost use Rattle.commands.specs.Ends.{Answered, Delivers, Ends, EndsUnlaid, LacksFile, StepsStand, TakesNoSteps, Written};
+ghost use Rattle.fixed_units.specs.declared.refusal.LayRefusal.TheVariants.{Range};
+ghost use Rattle.layout_model.specs.Layout.{is_tree_in_range};
 ghost use Rattle.commands.specs.Refusals.{line_of, status_of};
 
-use crate::built::is_built;
 use crate::command::{NoCommand, Request, Task, USAGE};
 use crate::load::{load_metrics, load_tree};
-use crate::place::place;
 use crate::refusal::Refusal;
 use crate::status::Status;
 use box_writer::{Placed, write_placed};
 use doc_io::{Inputs, Sink, write_all};
-use fixed_units::{List, Memory, Steps};
+use fixed_units::{LayRefusal, List, Memory, Steps};
 use font_metrics::Metrics;
+use layout_core::lay_fresh;
 use math_tree::Tree;
+use placement::place;
 use std::alloc::Global;
 use std::sync::ledger::Ledger;
 
@@ -33,30 +35,40 @@ pub fn run<I: Inputs, O: Sink, L: Ledger>(
     ensures ends { Ends (asked_by (map string_bytes words.now))
         (I.told inputs.old) (I.told inputs.new)
         (O.told out.old) (O.told out.new) result }
-    ensures steps { steps.new ≡ steps.old }
+    ensures steps { TakesNoSteps (asked_by (map string_bytes words.now)) result → steps.new ≡ steps.old }
 {
     match Request::from_words(words) {
         Err(NoCommand) => deliver(out, USAGE.as_bytes(), Status::Usage),
-        Ok(request) => answer(alloc, request, inputs, out),
+        Ok(request) => answer(alloc, request, inputs, out, steps),
     }
 }
 
 /// Does what a request asks for, or tells why it isn't done.
-fn answer<I: Inputs, O: Sink>(
+fn answer<I: Inputs, O: Sink, L: Ledger>(
     alloc: Global,
     request: Request,
     inputs: &mut I,
     out: &mut O,
+    steps: &mut Steps<L>,
 ) -> Status
-    ensures { Answered
+    ensures answered { Answered
         (option_map (answer (asked_of request.entry)) (I.told inputs.old).files)
         (LacksFile (Some (asked_of request.entry)))
         (I.told inputs.old) (I.told inputs.new)
         (O.told out.old) (O.told out.new) result }
+    ensures steps { StepsStand request.entry.task result → steps.new ≡ steps.old }
 {
     match load_metrics(alloc, request.metrics, inputs) {
         Ok(metrics) => {
-            let status = answer_over(alloc, request.task, &metrics, request.tree, inputs, out);
+            let status = answer_over(
+                alloc,
+                request.task,
+                &metrics,
+                request.tree,
+                inputs,
+                out,
+                steps,
+            );
             // Dropped by a call, so that the proof of this function doesn't go through all their
             // parts.
             drop(metrics);
@@ -67,54 +79,81 @@ fn answer<I: Inputs, O: Sink>(
 }
 
 /// Does a task with these metrics and a tree file, or tells why it isn't done.
-fn answer_over<I: Inputs, O: Sink>(
+fn answer_over<I: Inputs, O: Sink, L: Ledger>(
     alloc: Global,
     task: Task,
     metrics: &Metrics,
     name: &str,
     inputs: &mut I,
     out: &mut O,
+    steps: &mut Steps<L>,
 ) -> Status
-    ensures { Answered
+    ensures answered { Answered
         (option_map (λ files. answer_over task metrics.now (content files name.now))
         (I.told inputs.old).files)
         (λ files. files name.now ≡ None)
         (I.told inputs.old) (I.told inputs.new)
         (O.told out.old) (O.told out.new) result }
+    ensures steps { StepsStand task result → steps.new ≡ steps.old }
 {
     match load_tree(alloc, name, inputs) {
-        Ok(tree) => do_task(alloc, task, metrics, &tree, out),
+        Ok(tree) => do_task(alloc, task, metrics, &tree, out, steps),
         Err(refusal) => tell(out, refusal),
     }
 }
 
 /// Does a task with the two files.
-fn do_task<O: Sink>(
+fn do_task<O: Sink, L: Ledger>(
     alloc: Global,
     task: Task,
     metrics: &Metrics,
     tree: &Tree,
     out: &mut O,
+    steps: &mut Steps<L>,
 ) -> Status
-    ensures { Written (done task metrics.now tree.now) (O.told out.old) (O.told out.new) result }
+    ensures written { Written (done task metrics.now tree.now) (O.told out.old) (O.told out.new) result }
+    ensures steps { StepsStand task result → steps.new ≡ steps.old }
 {
     match task {
-        Task::Layout => lay_out(alloc, metrics, tree, out),
+        Task::Layout => lay_out(alloc, metrics, tree, out, steps),
         Task::Check => check(alloc, metrics, tree, out),
     }
 }
 
-/// Writes the lines of the boxes, where the tree is one that is laid out so far.
-fn lay_out<O: Sink>(alloc: Global, metrics: &Metrics, tree: &Tree, out: &mut O) -> Status
-    ensures { Written (laid_out metrics.now tree.now) (O.told out.old) (O.told out.new) result }
+/// Lays out the tree and writes the lines of its boxes and marks, or tells why it isn't laid out.
+fn lay_out<O: Sink, L: Ledger>(
+    alloc: Global,
+    metrics: &Metrics,
+    tree: &Tree,
+    out: &mut O,
+    steps: &mut Steps<L>,
+) -> Status
+    ensures written { Written (laid_out metrics.now tree.now) (O.told out.old) (O.told out.new) result }
+    ensures late { ¬ EndsUnlaid result }
 {
-    if !is_built(tree.root()) {
-        return tell(out, Refusal::TreeLater);
-    }
-    match place(alloc, tree.root(), metrics) {
+    match place_tree(alloc, metrics, tree, steps) {
         Ok(placed) => deliver_lines(out, &placed, metrics),
-        Err(Memory) => tell(out, Refusal::Memory),
+        Err(refusal) => tell(out, Refusal::of_layout(refusal)),
     }
+}
+
+/// Lays out the tree, and says where its boxes and marks stand.
+fn place_tree<L: Ledger>(
+    alloc: Global,
+    metrics: &Metrics,
+    tree: &Tree,
+    steps: &mut Steps<L>,
+) -> Result<Placed, LayRefusal>
+    ensures ok { IfOk result (λ items. items ≡ page_of metrics.now tree.now) }
+    ensures fit { OnOk result (is_tree_in_range metrics.now tree.now ≡ true) }
+    ensures glyphs { IfOk result (All (IsOfFont metrics.now)) }
+    ensures range { result ≡ Err Range → is_tree_in_range metrics.now tree.now ≡ false }
+{
+    let laid = lay_fresh(alloc, tree, metrics, steps)?;
+    // What placing needs to know of both files: neither call does anything.
+    metrics.is_taken();
+    let _root = tree.root();
+    Ok(place(alloc, &laid)?)
 }
 
 /// Writes the canonical print of both files, and a line feed.

@@ -1,9 +1,9 @@
 ghost use Rattle.std.specs.Prelude.{◌≡◌, ◌≤◌, length};
-ghost use Rattle.commands.specs.Refusals.{fault_line, line_of, status_of, of_reading};
+ghost use Rattle.commands.specs.Refusals.{fault_line, line_of, status_of, of_layout, of_reading};
 
 use crate::status::Status;
 use doc_io::{ReadRefusal, ShortText};
-use fixed_units::Memory;
+use fixed_units::{LayRefusal, Memory};
 use font_metrics::{MetricsFault, MetricsRefusal};
 use math_tree::{TreeFault, TreeRefusal};
 use thiserror::Error;
@@ -26,9 +26,9 @@ pub enum Refusal {
     /// The tree has this fault.
     #[error("element {} of the tree has a fault of kind {}", .0.element, .0.kind)]
     Tree(TreeFault),
-    /// The tree is none of those that are laid out yet.
-    #[error("only a `math` over at most one `mn` of one character is laid out for now")]
-    TreeLater,
+    /// A number of the tree's layout can't be stored.
+    #[error("a size is out of range")]
+    Range,
     /// A read failed, or a file isn't there.
     #[error("a read failed")]
     ReadFault,
@@ -49,7 +49,7 @@ impl Refusal {
             Refusal::TreeLong => ShortText::of("tree long\n"),
             Refusal::TreeJson => ShortText::of("tree json\n"),
             Refusal::Tree(fault) => fault_line("tree", fault.element, fault.kind),
-            Refusal::TreeLater => ShortText::of("tree later\n"),
+            Refusal::Range => ShortText::of("range\n"),
             Refusal::ReadFault | Refusal::Memory => ShortText::of(""),
         }
     }
@@ -60,9 +60,8 @@ impl Refusal {
     {
         match self {
             Refusal::MetricsLong | Refusal::Metrics(_) => Status::Metrics,
-            Refusal::TreeLong | Refusal::TreeJson | Refusal::Tree(_) | Refusal::TreeLater => {
-                Status::Tree
-            }
+            Refusal::TreeLong | Refusal::TreeJson | Refusal::Tree(_) => Status::Tree,
+            Refusal::Range => Status::Range,
             Refusal::ReadFault => Status::ReadFault,
             Refusal::Memory => Status::Memory,
         }
@@ -76,6 +75,16 @@ impl Refusal {
             ReadRefusal::ReadFault => Refusal::ReadFault,
             ReadRefusal::TooLong => long,
             ReadRefusal::Memory => Refusal::Memory,
+        }
+    }
+
+    /// Why a tree wasn't laid out.
+    pub fn of_layout(refusal: LayRefusal) -> Refusal
+        ensures { result ≡ of_layout refusal }
+    {
+        match refusal {
+            LayRefusal::Range => Refusal::Range,
+            LayRefusal::Memory => Refusal::Memory,
         }
     }
 }

@@ -21,6 +21,8 @@ pub enum Status {
     WriteFault,
     /// Memory was refused.
     Memory,
+    /// A number of the tree's layout can't be stored.
+    Range,
 }
 
 impl Status {
@@ -36,6 +38,7 @@ impl Status {
             Status::ReadFault => 5,
             Status::WriteFault => 6,
             Status::Memory => 7,
+            Status::Range => 8,
         }
     }
 

@@ -12,6 +12,9 @@ use std::test::Fail;
 const METRICS: &[u8] =
     b"mathlay-metrics 1\nupem 1024\nline 900 300\nxheight 512\nglyph missing 512 600 0\n";
 
+const WIDE: &[u8] =
+    b"{\"name\":\"math\",\"children\":[{\"name\":\"mspace\",\"attributes\":{\"width\":\"2000000px\"}}]}";
+
 const EMPTY_BOX: &[u8] = b"box 1 math 0 0 0 0 0 0 0\n";
 
 const USAGE: &[u8] = b"usage: mathlay layout METRICS TREE | check METRICS TREE\n";
@@ -45,7 +48,7 @@ impl Env for Made {
 
 #[test]
 fn words_lead_to_an_exit_status(rt: HostRuntime) -> Result<(), Fail> {
-    let rows: [(&'static [&'static [u8]], usize, u8, &[u8]); 9] = [
+    let rows: [(&'static [&'static [u8]], usize, u8, &[u8]); 10] = [
         (&[b"mathlay", b"layout", b"m", b"t"], 100, 0, EMPTY_BOX),
         (&[b"mathlay", b"layout", b"m"], 100, 2, USAGE),
         (&[b"mathlay", b"layout", b"m", b"t", b"t"], 100, 2, USAGE),
@@ -62,11 +65,14 @@ fn words_lead_to_an_exit_status(rt: HostRuntime) -> Result<(), Fail> {
         (&[b"mathlay", b"layout", b"m", b"m"], 100, 4, b"tree json\n"),
         (&[b"mathlay", b"layout", b"m", b"none"], 100, 5, b""),
         (&[b"mathlay", b"layout", b"m", b"t"], 3, 6, b"box"),
+        // a space of 2000000 px
+        (&[b"mathlay", b"layout", b"m", b"w"], 100, 8, b"range\n"),
     ];
     for (words, room, status, written) in rows {
         let mut inputs = MemoryInputs::make(rt.alloc());
         inputs.add_file("m", METRICS)?;
         inputs.add_file("t", b"{\"name\":\"math\"}")?;
+        inputs.add_file("w", WIDE)?;
         let mut out = MemorySink::make(rt.alloc(), room)?;
         let env = (Made { words }, rt.alloc());
         let code = started::<Brand>(&env, &mut inputs, &mut out, Blank::new(1));

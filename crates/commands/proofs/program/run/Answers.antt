@@ -1,3 +1,5 @@
+use Rattle.std.proofs.Common.{subst}
+use Rattle.commands.specs.Ends.{TakesNoSteps}
 use Rattle.commands.proofs.Ending.{answered_ends, usage_ends}
 use Rattle.commands.proofs.program.run.Goals as goal
 
@@ -5,4 +7,7 @@ pub returns-in-Err-clause-ends : goal.returns-in-Err-clause-ends
 returns-in-Err-clause-ends g c = usage_ends _ _ _ _ _ _ c.in-Err.ensures.err c.as_bytes.ensures.value c.deliver.ensures
 
 pub returns-in-Ok-clause-ends : goal.returns-in-Ok-clause-ends
-returns-in-Ok-clause-ends g c = answered_ends _ _ _ _ _ _ _ c.in-Ok.ensures.ok c.answer.ensures
+returns-in-Ok-clause-ends g c = answered_ends _ _ _ _ _ _ _ c.in-Ok.ensures.ok c.answer.ensures.answered
+
+pub returns-in-Ok-clause-steps : goal.returns-in-Ok-clause-steps
+returns-in-Ok-clause-steps g c = λ none. c.answer.ensures.steps (subst (λ asked. TakesNoSteps asked c.answer.result) c.in-Ok.ensures.ok none)
