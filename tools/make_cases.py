@@ -6,7 +6,7 @@
 The expected values aren't the product's: they come from the modules of the folder REFERENCE, a second program of the
 same behaviour that was written on its own, and from a small model of inputs and sinks in memory (cases/runs.py).
 A program of cases sees the files of its own folder data/ alone. The sample is written in crates/cases/data and copied
-from there into the data/ of the others.
+from there into the data/ of the others, and the formulas of samples/ with their font are copied from there.
 With --check nothing is written: the first line that differs from a stored file is told, and the status is 1.
 """
 
@@ -20,9 +20,10 @@ from cases.source import Known, take_line
 from cases.values import value_of
 
 CRATES = Path(__file__).resolve().parent.parent / "crates"
-SAMPLE = "sample.metrics"
-# The crate whose data/ has the sample that is written by hand.
-OWNER = "cases"
+# The files that programs load and that are written by hand somewhere else, each with its folder.
+TOP = CRATES.parent
+OWNERS = {"sample.metrics": CRATES / "cases" / "data"} | {
+    path.name: path.parent for path in (TOP / "samples").iterdir() if path.suffix in (".json", ".metrics")}
 
 
 class Parser(argparse.ArgumentParser):
@@ -51,12 +52,20 @@ def main():
 
 
 def made_files(modules):
-    """Each file that is made, with its content: the samples first, since the cases behind them load these."""
+    """Each file that is made, with its content: the copies first, since the cases behind them load these."""
     for name in kinds.PROGRAMS:
-        if name != OWNER:
-            yield CRATES / name / "data" / SAMPLE, (CRATES / OWNER / "data" / SAMPLE).read_bytes()
+        for file in loaded_files(name):
+            owner, here = OWNERS.get(file), CRATES / name / "data"
+            if owner not in (None, here):
+                yield here / file, (owner / file).read_bytes()
     for name in kinds.PROGRAMS:
         yield CRATES / name / "stdout", outcome_of(modules, name)
+
+
+def loaded_files(name):
+    """The names of the files that the cases of a program load."""
+    lines = (CRATES / name / "stdin").read_text(encoding="utf-8", errors="replace").split("\n")
+    return sorted({line.removeprefix("load ") for line in lines if line.startswith("load ")})
 
 
 def outcome_of(modules, name):

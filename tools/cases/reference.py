@@ -10,8 +10,8 @@ MODULES = (
     "layout")
 
 # The second program does all that is planned, in stages. At this one it has the commands `layout` and `check`, reads
-# both files whole, and lays out a `math` over at most one `mn` of at most one character.
-SO_FAR = 4
+# both files whole, and lays out every tree.
+SO_FAR = 9
 
 
 def load(folder):
