@@ -190,8 +190,9 @@ class Pictures(InFolder):
 
     def test_refusals_of_the_program(self):
         target = self.folder / "out.svg"
-        for text, status, told in (("tree later\n", 4, "status 4, it refuses the tree: tree later"),
-                                   ("metrics 3 9\n", 3, "it refuses the metrics: metrics 3 9"), ("", 7, "it had no memory: it wrote nothing"),
+        for text, status, told in (("tree 2 4\n", 4, "status 4, it refuses the tree: tree 2 4"),
+                                   ("metrics 3 9\n", 3, "it refuses the metrics: metrics 3 9"),
+                                   ("", 7, "it had no memory: it wrote nothing"), ("range\n", 8, "the layout is out of range"),
                                    ("", 1, "none of its refusals"), ("hello\n", 0, "neither a box nor a mark: hello")):
             outcome = run(picture, self.metrics, self.font, self.tree, "--program", self.program(text, status), "-o", target)
             self.assert_refused(outcome, told)
