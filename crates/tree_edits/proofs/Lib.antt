@@ -1,0 +1,8 @@
+mod Known
+mod OnLiterals
+mod Reading
+mod Paths
+-- for the crates above: the map over all elements is one change at the end of a way
+pub mod OneElement
+mod Lines
+mod Worked

@@ -1,0 +1,158 @@
+-- Edits of a small tree, and each reason for which one is refused.
+use Rattle.std.proofs.Common.{◌≡◌, ◌∙◌, refl, ap, map, ℕ, ◌+◌, ◌^◌, List, [], ◌∷◌, Some, None, true, false, codes}
+use Rattle.math_tree.proofs.OnLiterals.{math_tree_on_literals}
+use Rattle.math_tree.specs.Print.{renumbered, renumbered_layer}
+use Rattle.math_tree.specs.Reading.{Planted}
+use Rattle.math_tree.specs.Trees.{Listed, node}
+use Rattle.math_tree.specs.declared.attributes.Attribute.{Attribute}
+use Rattle.math_tree.specs.declared.kind.Kind.{Kind}
+use Rattle.math_tree.specs.declared.kind.Kind.TheVariants.{Math, Mi, Mn, Mrow}
+use Rattle.math_tree.specs.declared.node.Head.{Head}
+use Rattle.math_tree.specs.declared.node.Node.{Node}
+use Rattle.math_tree.specs.declared.node.Node.TheFolds.{fold-roll-Node}
+use Rattle.math_tree.specs.declared.node.NodeId.{NodeId}
+use Rattle.tree_edits.specs.Edits.{made, layer_made, edited_node, is_deep, is_large, first_refusal}
+use Rattle.tree_edits.specs.declared.edit.Edit.{Edit}
+use Rattle.tree_edits.specs.declared.edit.Edit.TheVariants.{Text, Attr, Insert, Remove, Replace}
+use Rattle.tree_edits.specs.declared.edit.EditRefusal.{EditRefusal}
+use Rattle.tree_edits.specs.declared.edit.EditRefusal.TheVariants.{UnknownNode, NotText, IsText, IndexPast, RootFixed, BadName, RightToLeft, TooDeep, TooMany, IdsSpent}
+
+abbrev head : ℕ → List ℕ → Kind → List Attribute → List ℕ → Head
+head id name kind attributes text =
+    record { id = record { 0 = id }; name = name; kind = kind; attributes = attributes; text = text }
+
+abbrev id : ℕ → NodeId
+id n = record { 0 = n }
+
+abbrev attribute : List ℕ → List ℕ → Attribute
+attribute name value = record { name = name; value = value }
+
+abbrev math : Head
+math = head 1 (codes "math") Math [] []
+
+abbrev letter : ℕ → List ℕ → Head
+letter n text = head n (codes "mi") Mi [] text
+
+abbrev row : List Attribute → Head
+row attributes = head 3 (codes "mrow") Mrow attributes []
+
+abbrev one : Node
+one = node (head 4 (codes "mn") Mn [] (codes "1")) []
+
+abbrev x : Node
+x = node (letter 2 (codes "x")) []
+
+-- a letter and a row of one number in a `math`
+abbrev formula : Node → List Node → Node
+formula first others = node math (first ∷ others)
+
+abbrev tree : Node
+tree = formula x (node (row []) (one ∷ []) ∷ [])
+
+-- ---- what an edit makes of it
+
+-- an element, from what the edit makes of its children
+edited_out : (edit : Edit) (next : ℕ) (head : Head) (children : List Node)
+    → edited_node edit next (node head children) ≡ made edit next head (map (edited_node edit next) children)
+unfolding edited_node
+edited_out edit next head children = fold-roll-Node Node (layer_made edit next) (record { head = head; children = children })
+
+-- an element without children gets an id
+leaf_renumbered : (id : ℕ) (n : ℕ) (text : List ℕ) → renumbered id (node (letter n text) []) ≡ node (letter id text) []
+unfolding renumbered
+leaf_renumbered id n text =
+    ap (λ part. part.node id) (fold-roll-Node Planted renumbered_layer (record { head = letter n text; children = [] }))
+
+abbrev Makes : Edit → Node → Type 0
+Makes edit meant = edited_node edit 5 tree ≡ meant
+
+-- what an edit makes of the tree, from what it makes of the elements in it
+steps : (edit : Edit) → edited_node edit 5 tree
+    ≡ made edit 5 math (made edit 5 (letter 2 (codes "x")) [] ∷ made edit 5 (row []) (made edit 5 (head 4 (codes "mn") Mn [] (codes "1")) [] ∷ []) ∷ [])
+steps edit =
+    edited_out edit 5 math (x ∷ node (row []) (one ∷ []) ∷ [])
+    ∙ ap (λ n. made edit 5 math (n ∷ edited_node edit 5 (node (row []) (one ∷ [])) ∷ [])) (edited_out edit 5 (letter 2 (codes "x")) [])
+    ∙ ap (λ n. made edit 5 math (made edit 5 (letter 2 (codes "x")) [] ∷ n ∷ [])) (edited_out edit 5 (row []) (one ∷ []))
+    ∙ ap (λ n. made edit 5 math (made edit 5 (letter 2 (codes "x")) [] ∷ made edit 5 (row []) (n ∷ []) ∷ []))
+    (edited_out edit 5 (head 4 (codes "mn") Mn [] (codes "1")) [])
+
+text_set : Makes (Text (id 2) (codes "y")) (formula (node (letter 2 (codes "y")) []) (node (row []) (one ∷ []) ∷ []))
+text_set = steps (Text (id 2) (codes "y"))
+
+attribute_set : Makes (Attr (id 3) (codes "a") (Some (codes "1")))
+    (formula x (node (row (attribute (codes "a") (codes "1") ∷ [])) (one ∷ []) ∷ []))
+attribute_set = steps (Attr (id 3) (codes "a") (Some (codes "1")))
+
+-- removing an attribute that isn't there changes nothing
+attribute_absent : Makes (Attr (id 3) (codes "a") None) tree
+attribute_absent = steps (Attr (id 3) (codes "a") None)
+
+-- ---- why an edit is refused
+
+abbrev listed_at : ℕ → Head → ℕ → Listed
+listed_at level head children = record { level = level; head = head; children = children }
+
+-- the elements of the tree
+abbrev elements : List Listed
+elements =
+    listed_at 1 math 2
+    ∷ listed_at 2 (letter 2 (codes "x")) 0
+    ∷ listed_at 2 (row []) 1
+    ∷ listed_at 3 (head 4 (codes "mn") Mn [] (codes "1")) 0
+    ∷ []
+
+-- whatever the edited tree would be
+abbrev Refused : Edit → EditRefusal → Type 0
+Refused edit refusal = (after : List Listed) (next : ℕ) → first_refusal elements after next edit ≡ Some refusal
+
+unknown : Refused (Text (id 5) (codes "y")) UnknownNode
+unknown after next = refl
+
+text_of_a_row : Refused (Text (id 3) (codes "y")) NotText
+unfolding math_tree_on_literals
+text_of_a_row after next = refl
+
+-- both hold, and the first is told
+into_a_letter : Refused (Insert (id 2) 7 x) IsText
+unfolding math_tree_on_literals
+into_a_letter after next = refl
+
+behind_the_end : Refused (Insert (id 3) 2 x) IndexPast
+unfolding math_tree_on_literals
+behind_the_end after next = refl
+
+root_removed : Refused (Remove (id 1)) RootFixed
+unfolding math_tree_on_literals
+root_removed after next = refl
+
+root_replaced : Refused (Replace (id 1) x) RootFixed
+unfolding math_tree_on_literals
+root_replaced after next = refl
+
+-- also where nothing would be removed
+name_with_digit_first : Refused (Attr (id 3) (codes "2d") None) BadName
+unfolding math_tree_on_literals
+name_with_digit_first after next = refl
+
+direction_in_capitals : Refused (Attr (id 3) (codes "dir") (Some (codes "RTL"))) RightToLeft
+unfolding math_tree_on_literals
+direction_in_capitals after next = refl
+
+-- elements that stay within all limits
+level_sixty_one : (next : ℕ) → first_refusal elements (listed_at 61 math 0 ∷ []) next (Remove (id 4)) ≡ Some TooDeep
+unfolding math_tree_on_literals
+level_sixty_one next = refl
+
+too_large : (after : List Listed) (next : ℕ) → is_deep after ≡ false → is_large after ≡ true
+    → first_refusal elements after next (Remove (id 4)) ≡ Some TooMany
+unfolding math_tree_on_literals
+too_large after next deep large = rw (deep, large) refl
+
+-- 2^32 may be the next id, and no more
+one_id_too_many : first_refusal elements elements (2 ^ 32 + 1) (Insert (id 3) 1 x) ≡ Some IdsSpent
+unfolding math_tree_on_literals
+one_id_too_many = refl
+
+last_id : first_refusal elements elements (2 ^ 32) (Insert (id 3) 1 x) ≡ None
+unfolding math_tree_on_literals
+last_id = refl

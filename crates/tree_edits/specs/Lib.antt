@@ -1,0 +1,4 @@
+pub mod Commands
+pub mod Edits
+pub mod Laws
+pub mod Paths

@@ -1,0 +1,73 @@
+use fixed_units::{Memory, Txt};
+use math_tree::{Node, NodeId};
+use thiserror::Error;
+
+/// A change of one element of a tree.
+#[derive(Debug, Drop)]
+pub enum Edit {
+    /// Sets the text of a text element.
+    Text(NodeId, Txt),
+    /// Sets the attribute of that name, or removes it where there is no value. Where there is none
+    /// to remove, nothing changes.
+    Attr(NodeId, Txt, Option<Txt>),
+    /// Puts an element into the element of that id, before the child at the index or behind the
+    /// last one. It gets new ids, with all below it.
+    Insert(NodeId, u32, Node),
+    /// Removes an element with all below it.
+    Remove(NodeId),
+    /// Puts an element in place of another. It gets new ids, with all below it.
+    Replace(NodeId, Node),
+}
+
+/// Why an edit is refused, in the order in which it is looked for; the tree is then as it was.
+#[derive(Clone, Copy, Debug, PartialEq, Eq, Error)]
+pub enum EditRefusal {
+    /// No element has the id.
+    #[error("no element has the id")]
+    UnknownNode,
+    /// Only a text element has a text.
+    #[error("only a text element has a text")]
+    NotText,
+    /// A text element has no children.
+    #[error("a text element has no children")]
+    IsText,
+    /// The index is above the number of children.
+    #[error("the index is above the number of children")]
+    IndexPast,
+    /// The root is neither removed nor replaced.
+    #[error("the root is neither removed nor replaced")]
+    RootFixed,
+    /// The name of the attribute isn't in its form.
+    #[error("the name of the attribute isn't in its form")]
+    BadName,
+    /// `dir` would be `rtl`, which isn't laid out yet.
+    #[error("`dir` would be `rtl`, which isn't laid out yet")]
+    RightToLeft,
+    /// The text or the value has more than 65,536 bytes.
+    #[error("the text or the value is too long")]
+    TextLong,
+    /// The tree would have more than 60 levels.
+    #[error("the tree would have too many levels")]
+    TooDeep,
+    /// The tree would have more than 65,536 elements, or names, attributes and texts of more than
+    /// 4,194,304 bytes.
+    #[error("the tree would have too many elements or bytes")]
+    TooMany,
+    /// No ids are left for the new elements.
+    #[error("no ids are left for the new elements")]
+    IdsSpent,
+    /// Memory was refused.
+    #[error("memory was refused")]
+    Memory,
+}
+
+impl From<Memory> for EditRefusal {
+    ghost use Rattle.std.specs.Prelude.{◌≡◌};
+    ghost use Rattle.tree_edits.specs.declared.edit.EditRefusal.TheVariants.{Memory as OutOfMemory};
+
+    ghost from_gives = { λ _ refusal. refusal ≡ OutOfMemory };
+
+    fn from(_: Memory) -> Self {
+        EditRefusal::Memory
+    }
+}
