@@ -5,7 +5,6 @@ use Rattle.std.specs.List.{list_all}
 use Rattle.fixed_units.specs.Boxes.{farthest}
 use Rattle.fixed_units.specs.Numbers.{IsWithin}
 use Rattle.fixed_units.proofs.Signed.{signed}
-use Rattle.embellished.specs.Seen.{Seen}
 use Rattle.token_boxes.specs.Operator.{IsPull}
 use Rattle.token_boxes.specs.Token.{IsLeaf, far}
 use Rattle.token_boxes.specs.declared.leaf.Leaf.{Leaf}

@@ -1,9 +1,2 @@
-mod CellBounds
-mod Kids
-mod FontSizes
-mod Lasts
-mod Lists
-mod Roots
-mod RowBounds
 mod Exactly
 mod Leaves

@@ -6,9 +6,9 @@ ghost use Rattle.layout_model.specs.Fits.{AnswersAll, IsContext};
 ghost use Rattle.layout_model.specs.Layout.{equation};
 ghost use Rattle.layout_model.specs.Range.{is_font_size, outcome_fits};
 
-use crate::element::Element;
 use crate::outcomes::outcome_of;
 use crate::range::fits;
+use child_answers::Element;
 use embellished::View;
 use fixed_units::{LayRefusal, List, MathBox, Steps};
 use font_metrics::Metrics;

@@ -7,7 +7,7 @@ ghost use Rattle.layout_model.specs.Elements.{font};
 ghost use Rattle.layout_model.specs.Equations.{leaf_outcome, operator_outcome, operator_with, space_outcome, token_outcome};
 ghost use Rattle.element_outcomes.specs.Outcomes.{IsOutcome};
 
-use crate::element::Element;
+use child_answers::Element;
 use child_questions::pull_of;
 use embellished::{Core, View};
 use fixed_units::{List, MathBox, Memory};

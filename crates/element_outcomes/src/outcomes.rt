@@ -2,20 +2,20 @@ ghost use Rattle.std.specs.Prelude.{◌≡◌, IfOk};
 ghost use Rattle.layout_model.specs.Equations.{outcome_by, outcome_of};
 ghost use Rattle.element_outcomes.specs.Outcomes.{IsOutcome};
 
-use crate::element::Element;
-use crate::fraction::fraction_outcome;
 use crate::leaf::{operator_outcome, space_outcome, token_outcome};
-use crate::limits::{limits_or_scripts, over_or_sup, under_or_sub};
-use crate::padding::padded_outcome;
-use crate::pairs::multi_outcome;
-use crate::root::root_outcome;
-use crate::rows::{cell_outcome, error_outcome, row_outcome, square_root_outcome};
-use crate::script::{sub_outcome, sub_sup_outcome, sup_outcome};
-use crate::tables::{table_outcome, table_row_outcome};
+use child_answers::Element;
 use embellished::View;
 use fixed_units::Memory;
 use layout_model::Outcome;
 use math_tree::Kind;
+use part_outcomes::{
+    fraction_outcome, limits_or_scripts, multi_outcome, over_or_sup, root_outcome, sub_outcome,
+    sub_sup_outcome, sup_outcome, under_or_sub,
+};
+use row_outcomes::{
+    cell_outcome, error_outcome, padded_outcome, row_outcome, square_root_outcome, table_outcome,
+    table_row_outcome,
+};
 use std::alloc::Global;
 
 /// The outcome of an element, or one that can't be stored where that can't be.

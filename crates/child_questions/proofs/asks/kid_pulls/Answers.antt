@@ -1,4 +1,4 @@
-use Rattle.std.proofs.Common.{◌≡◌, ◌∙◌, sym, ap, ◌≤◌, length, arith}
+use Rattle.std.proofs.Common.{◌∙◌, sym, ap, length, arith}
 use Rattle.std.specs.declared.option.Option.{Option}
 use Rattle.fixed_units.proofs.Sums.{length-list_to, list_to-zero, list_to-add_one}
 use Rattle.op_dictionary.specs.declared.operator.Axis.{Axis}

@@ -1,6 +1,5 @@
-use Rattle.std.proofs.Common.{◌≡◌, ◌∙◌, ap, codes}
+use Rattle.std.proofs.Common.{◌∙◌, ap, codes}
 use Rattle.math_tree.specs.declared.node.Head.{Head}
-use Rattle.embellished.specs.Seen.{seen_of}
 use Rattle.layout_model.specs.Contexts.{is_true}
 use Rattle.child_questions.proofs.children.place_of.Goals as goal
 

@@ -1,4 +1,4 @@
-use Rattle.std.proofs.Common.{◌≡◌, ◌∙◌, ap, subst, sym, length}
+use Rattle.std.proofs.Common.{subst, sym, length}
 use Rattle.std.specs.List.{All}
 use Rattle.embellished.specs.Seen.{seen_of}
 use Rattle.layout_model.specs.Questions.{IsAskBelow}

@@ -7,7 +7,7 @@ use Rattle.token_boxes.specs.declared.leaf.Leaf.{Leaf}
 use Rattle.layout_model.specs.Contexts.{pull_of}
 use Rattle.layout_model.specs.Elements.{font}
 use Rattle.layout_model.specs.declared.context.Context.{Context}
-use Rattle.element_outcomes.proofs.FontSizes.{size_back}
+use Rattle.child_answers.proofs.FontSizes.{size_back}
 use Rattle.element_outcomes.proofs.Leaves.{pull_stored}
 use Rattle.element_outcomes.proofs.leaf.operator_in.Goals as goal
 

@@ -1,7 +1,7 @@
 use Rattle.std.proofs.Common.{◌≡◌, ◌∙◌, ap, w64, to_z, of_z}
 use Rattle.embellished.specs.Seen.{Seen}
 use Rattle.layout_model.specs.Elements.{font}
-use Rattle.element_outcomes.proofs.FontSizes.{size_back}
+use Rattle.child_answers.proofs.FontSizes.{size_back}
 use Rattle.element_outcomes.proofs.leaf.space_in.Goals as goal
 
 pub returns : goal.returns

@@ -4,7 +4,7 @@ use Rattle.embellished.specs.Seen.{Seen}
 use Rattle.token_boxes.specs.Token.{IsLeaf, token_of}
 use Rattle.token_boxes.specs.declared.leaf.Leaf.{Leaf}
 use Rattle.layout_model.specs.Elements.{font}
-use Rattle.element_outcomes.proofs.FontSizes.{size_back}
+use Rattle.child_answers.proofs.FontSizes.{size_back}
 use Rattle.element_outcomes.proofs.leaf.token_in.Goals as goal
 
 pub returns : goal.returns

@@ -1,0 +1,77 @@
+-- What holds of the answers of an element's children.
+use Rattle.std.proofs.Common.{◌≡◌, refl, ap, subst, ℕ, ◌^◌, ◌<◌, ◌≤◌, arith, Bool, true, false, cond, List, ◌++◌, length, map, get_or, All, Option, Some, None, unwrap_or, ℤ, pos}
+use Rattle.std.specs.Prelude.{int_le}
+use Rattle.std.specs.Borrow.{Bor}
+use Rattle.std.specs.List.{AllPass}
+use Rattle.std.proofs.lemmas.List.{get_or-map, length-map}
+use Rattle.std.proofs.lemmas.List.Elements.{All-append, All-get_or}
+use Rattle.fixed_units.specs.Boxes.{is_stored}
+use Rattle.fixed_units.specs.Sums.{list_to}
+use Rattle.fixed_units.proofs.Sums.{length-list_to}
+use Rattle.font_metrics.specs.Metrics.{MetricsValue}
+use Rattle.embellished.specs.Seen.{Seen}
+use Rattle.style_scope.specs.Sizes.{IsSize, font_size_of, in_range_of, size_of}
+use Rattle.style_scope.specs.declared.style.Style.{Style}
+use Rattle.layout_model.specs.Answers.{last_answer, no_answer}
+use Rattle.layout_model.specs.Fits.{AnswersAll, IsContext}
+use Rattle.layout_model.specs.Layout.{last_answers}
+use Rattle.layout_model.specs.Questions.{first, second}
+use Rattle.layout_model.specs.Range.{answer_fits}
+use Rattle.layout_model.specs.declared.context.Context.{Context}
+use Rattle.layout_model.specs.declared.context.Question.{Question}
+use Rattle.layout_model.specs.declared.outcome.Answer.{Answer}
+use Rattle.layout_model.proofs.Ranges.{IsAnswerStored, answers_stored}
+use Rattle.child_answers.specs.Elements.{IsWhole, answered}
+use Rattle.child_answers.proofs.Lasts.{last_answer-holds}
+use Rattle.child_answers.proofs.Lists.{All-list_to}
+
+abbrev pub now_of : Bor Answer → Answer
+now_of answer = answer.now
+
+pub answer_in : (kids : List Answer) (index : ℕ) (other : Answer) → AllPass answer_fits kids → index < length kids → IsAnswerStored (get_or kids index other)
+answer_in kids index other fit l = All-get_or IsAnswerStored kids index other l (answers_stored kids fit)
+
+pub lent_answer_in : (kids : List (Bor Answer)) (index : ℕ) (other : Bor Answer) → AllPass answer_fits (map now_of kids) → index < length kids
+    → IsAnswerStored (get_or kids index other).now
+lent_answer_in kids index other fit l =
+    subst IsAnswerStored (get_or-map now_of kids index other other.now l)
+    (answer_in (map now_of kids) index other.now fit (omega (arith, l, length-map kids now_of)))
+
+-- ---- the answers that count
+
+no_answer_fits : answer_fits no_answer ≡ true
+unfolding answer_fits is_stored
+no_answer_fits = refl
+
+abbrev pub cells_few : Answer → Type 0
+cells_few answer = length answer.cells ≤ 65536
+
+all_last : (P : Answer → Type 0) → P no_answer → (n : ℕ) (asks : List Question) (one two : List Answer) → All P one → All P two
+    → All P (list_to n (last_answer asks (one ++ two)))
+all_last P none n asks one two a b = All-list_to P n (last_answer asks (one ++ two)) (λ i l. last_answer-holds P none asks (one ++ two) i (All-append P one two a b))
+
+pub whole : (m : MetricsValue) (seen : Seen) (context : Context) (one two : List Answer) (size : ℤ) → IsContext context
+    → AnswersAll m seen context one two → size ≡ size_of m context.style → IsSize size → length seen.kids ≤ 65535 → IsWhole (answered m seen context one two) size
+unfolding last_answers
+whole m seen context one two size fits answers e s few =
+    let n = length seen.kids in
+    let asks = first m seen context ++ second m seen context one in
+    let count = length-list_to n (last_answer asks (one ++ two)) in
+    record {
+      fits = fits;
+      is_font = e;
+      low = s.low;
+      high = s.high;
+      each = count;
+      few = omega (arith, count, few);
+      stored = all_last (λ answer. answer_fits answer ≡ true) no_answer_fits n asks one two answers.one_fits.fit answers.two_fits.fit;
+      cells = all_last cells_few (omega arith) n asks one two answers.one_fits.few answers.two_fits.few;
+    }
+
+pub size_found : (m : MetricsValue) (style : Style) (size : ℤ) → Some size ≡ font_size_of m style → size ≡ size_of m style
+unfolding font_size_of in_range_of
+size_found m style size e = by (int_le (size_of m style) (pos (2 ^ 20))) e
+  where
+    by : (v : Bool) → Some size ≡ cond v (Some (size_of m style)) None → size ≡ size_of m style
+    by true h = ap (λ (found : Option ℤ). unwrap_or found (size_of m style)) h
+    by false h = ap (λ (found : Option ℤ). unwrap_or found (size_of m style)) h

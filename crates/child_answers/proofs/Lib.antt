@@ -1,0 +1,4 @@
+pub mod FontSizes
+pub mod Kids
+mod Lasts
+pub mod Lists

@@ -1,0 +1,27 @@
+-- What holds of an element whose outcome is made.
+use Rattle.std.specs.Prelude.{◌≡◌, ◌^◌, ◌≤◌, ℤ, pos, ◌≤ℤ◌, List, length}
+use Rattle.std.specs.List.{All, AllPass}
+use Rattle.font_metrics.specs.Metrics.{MetricsValue}
+use Rattle.embellished.specs.Seen.{Seen}
+use Rattle.layout_model.specs.Elements.{Element, font}
+use Rattle.layout_model.specs.Fits.{IsContext}
+use Rattle.layout_model.specs.Layout.{last_answers}
+use Rattle.layout_model.specs.Range.{answer_fits}
+use Rattle.layout_model.specs.declared.context.Context.{Context}
+use Rattle.layout_model.specs.declared.outcome.Answer.{Answer}
+
+-- an element over the answers that count of those to both waves
+abbrev pub answered : MetricsValue → Seen → Context → List Answer → List Answer → Element
+answered m seen context one two =
+    record { metrics = m; seen = seen; context = context; kids = last_answers m seen context one two }
+
+-- its size is its font size, which is in range, and each child in flow has an answer that can be stored
+pub record IsWhole (e : Element) (size : ℤ) : Type 0 where
+  pub fits : IsContext e.context
+  pub is_font : size ≡ font e
+  pub low : pos 0 ≤ℤ size
+  pub high : size ≤ℤ pos (2 ^ 20)
+  pub each : length e.kids ≡ length e.seen.kids
+  pub few : length e.kids ≤ 65_535
+  pub stored : AllPass answer_fits e.kids
+  pub cells : All (λ answer. length answer.cells ≤ 65_536) e.kids

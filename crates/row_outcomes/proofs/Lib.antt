@@ -1,0 +1,3 @@
+mod CellBounds
+mod Roots
+mod RowBounds

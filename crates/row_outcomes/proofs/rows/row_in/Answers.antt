@@ -1,0 +1,17 @@
+use Rattle.std.proofs.Common.{◌≡◌, arith, subst, sym}
+use Rattle.std.proofs.lemmas.Result.{IfOk-weaker}
+use Rattle.row_stretch.specs.declared.parts.Row.{Row}
+use Rattle.row_stretch.specs.Equation.{row_of}
+use Rattle.row_outcomes.specs.Rows.{IsRowWithin}
+use Rattle.row_outcomes.proofs.RowBounds.{row_within}
+use Rattle.row_outcomes.proofs.rows.row_in.Goals as goal
+
+pub row_finish-requires-clause-few : goal.row_finish-requires-clause-few
+row_finish-requires-clause-few g c = omega (arith, (c.in_ok-kids.ensures {u = tt}).few)
+
+pub returns-clause-within : goal.returns-clause-within
+returns-clause-within g c =
+    let kids = c.in_ok-kids.ensures {u = tt} in
+    IfOk-weaker c.row_finish.result (λ (row : Row). row ≡ row_of c.shows_spaces.result c.in_ok-kids.kids) IsRowWithin
+    (λ row e. subst IsRowWithin (sym e) (row_within c.shows_spaces.result c.in_ok-kids.kids kids.few kids.stored))
+    c.row_finish.ensures
