@@ -1,5 +1,5 @@
 -- A child in flow among all children: where it stands, what is known of it, and that it is smaller.
-use Rattle.std.proofs.Common.{◌≡◌, ◌∙◌, refl, sym, ap, subst, ℕ, ◌+◌, ◌<◌, ◌≤◌, max, arith, List, [], ◌∷◌, length, map, All, get_or, Option, Some, None, slice_get}
+use Rattle.std.proofs.Common.{◌≡◌, ◌∙◌, sym, ap, subst, ℕ, ◌+◌, ◌<◌, ◌≤◌, max, arith, List, length, map, All, get_or, Some, slice_get}
 use Rattle.std.proofs.lemmas.List.{get_or-map, length-map}
 use Rattle.std.proofs.lemmas.Option.{get_or_from_slice_get, same_Some, slice_get-map, slice_get_within}
 use Rattle.std.specs.Option.{option_map}
@@ -13,7 +13,7 @@ use Rattle.embellished.specs.Known.{known_of}
 use Rattle.embellished.specs.Seen.{Child, HasChild, flow_children, flow_nodes, kid_of, laid_kid, seen_of}
 use Rattle.embellished.specs.declared.known.Known.{Known}
 use Rattle.embellished.specs.declared.known.Known.TheViews.{out-Known}
-use Rattle.embellished.proofs.InFlow.{among, flow_length, kids_are_nodes}
+use Rattle.embellished.proofs.InFlow.{flow_length, kids_are_nodes}
 use Rattle.embellished.proofs.KnownFacts.{is_known}
 
 abbrev children : Node → List Node

@@ -1,10 +1,10 @@
 -- Answers of layouts that can be stored can be stored.
-use Rattle.std.proofs.Common.{◌≡◌, ◌∙◌, refl, sym, ap, subst, ℕ, zero, suc, ◌+◌, ◌<◌, ◌≤◌, arith, Bool, true, false, ◌&&◌, List, [], ◌∷◌, ◌++◌, length, map, All, Option, Some, None, slice_get}
+use Rattle.std.proofs.Common.{◌≡◌, ◌∙◌, refl, sym, ap, ℕ, ◌≤◌, arith, true, ◌&&◌, List, [], ◌∷◌, length, map, All, Option, Some, None, slice_get}
 use Rattle.std.proofs.lemmas.Bool.{and_parts}
 use Rattle.std.proofs.lemmas.List.Elements.{All-cons, All-map, All-nil}
 use Rattle.std.proofs.lemmas.List.Folds.{list_all-append}
 use Rattle.std.proofs.lemmas.Option.{none-some, same_Some, slice_get-map}
-use Rattle.std.specs.List.{AllPass, flat_map, list_all}
+use Rattle.std.specs.List.{flat_map, list_all}
 use Rattle.std.specs.Option.{option_map, option_map_or}
 use Rattle.fixed_units.specs.Boxes.{is_stored}
 use Rattle.font_metrics.specs.Metrics.{MetricsValue}
@@ -18,7 +18,7 @@ use Rattle.style_scope.specs.Sizes.{size_of}
 use Rattle.layout_model.specs.Answers.{no_answer}
 use Rattle.layout_model.specs.Fits.{AreAnswers}
 use Rattle.layout_model.specs.Laws.{answer_of, visits_below}
-use Rattle.layout_model.specs.Layout.{Visit, in_range, lay, questions, visit_fits, visits}
+use Rattle.layout_model.specs.Layout.{in_range, lay, questions, visit_fits, visits}
 use Rattle.layout_model.specs.Range.{answer_fits, is_font_size, mark_fits, offset_fits, outcome_fits}
 use Rattle.layout_model.specs.declared.context.Context.{Context}
 use Rattle.layout_model.specs.declared.context.Question.{Question}

@@ -1,8 +1,7 @@
 -- The layout of a tree is that of its root in the root's context.
-use Rattle.std.proofs.Common.{◌≡◌, ◌∙◌, ap, Bool}
+use Rattle.std.proofs.Common.{◌≡◌, ◌∙◌, ap}
 use Rattle.font_metrics.specs.Metrics.{MetricsValue}
 use Rattle.math_tree.specs.Trees.{TreeValue}
-use Rattle.math_tree.specs.declared.node.Head.{Head}
 use Rattle.math_tree.specs.declared.node.Node.{Node}
 use Rattle.math_tree.specs.declared.node.Node.TheViews.{out-Node}
 use Rattle.op_dictionary.specs.declared.operator.Form.TheVariants.{Infix}
@@ -11,7 +10,6 @@ use Rattle.style_scope.specs.declared.style.Style.{Style}
 use Rattle.layout_model.specs.Layout.{in_range, is_tree_in_range, laid, laid_tree, root_context}
 use Rattle.layout_model.specs.declared.context.Context.{Context}
 use Rattle.layout_model.specs.declared.context.Stretch.TheVariants.{None as Unstretched}
-use Rattle.layout_model.specs.declared.laid.Laid.{Laid}
 
 abbrev pub context_of : Style → Context
 context_of style = record { style = style; form = Infix; stretch = Unstretched }

@@ -1,5 +1,5 @@
 -- One question more of a wave: its answer, the child at its place, and what was made for it.
-use Rattle.std.proofs.Common.{◌≡◌, ◌∙◌, refl, sym, ap, ℕ, zero, suc, add-one, ◌+◌, ◌<◌, arith, Bool, true, false, ◌&&◌, List, [], ◌∷◌, ◌++◌, length, map, take, get_or, Option, Some, None, slice_get, slice_set}
+use Rattle.std.proofs.Common.{◌≡◌, ◌∙◌, refl, sym, ap, ℕ, zero, suc, ◌+◌, ◌<◌, arith, Bool, true, false, ◌&&◌, List, [], ◌∷◌, ◌++◌, length, map, take, get_or, Option, Some, slice_get, slice_set}
 use Rattle.std.proofs.lemmas.List.{append-nil, length-set, map_more, take_more}
 use Rattle.std.proofs.lemmas.List.Folds.{list_all-append}
 use Rattle.std.proofs.lemmas.List.Sums.{fold-append}
@@ -8,7 +8,6 @@ use Rattle.std.specs.List.{flat_map, fold, list_all}
 use Rattle.std.specs.Option.{option_map_or}
 use Rattle.font_metrics.specs.Metrics.{MetricsValue}
 use Rattle.math_tree.specs.declared.node.Node.{Node}
-use Rattle.math_tree.specs.declared.node.Node.TheViews.{out-Node}
 use Rattle.embellished.specs.Seen.{flow_nodes}
 use Rattle.layout_model.specs.Answers.{no_answer}
 use Rattle.layout_model.specs.Laws.{answer_of, visits_below}

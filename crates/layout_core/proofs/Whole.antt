@@ -1,23 +1,21 @@
 -- An element over both waves: its layout, what is made for it, and the children that are kept.
-use Rattle.std.proofs.Common.{◌≡◌, ◌∙◌, refl, sym, ap, subst, ℕ, ◌+◌, ◌<◌, ◌≤◌, arith, Bool, true, false, ◌&&◌, List, [], ◌∷◌, ◌++◌, length, map, replicate, All, Option, Some, None, slice_set}
-use Rattle.std.proofs.lemmas.Bool.{and_parts}
+use Rattle.std.proofs.Common.{◌≡◌, ◌∙◌, refl, sym, ap, subst, ℕ, Bool, true, false, ◌&&◌, List, ◌++◌, length, map, replicate, All, Option, Some, slice_set}
 use Rattle.std.proofs.lemmas.Grind.{flat_map-append}
 use Rattle.std.proofs.lemmas.List.{length-map}
 use Rattle.std.proofs.lemmas.List.Elements.{All-append}
 use Rattle.std.proofs.lemmas.List.Folds.{list_all-append}
 use Rattle.std.proofs.lemmas.List.Sums.{fold-append}
-use Rattle.std.specs.List.{AllPass, flat_map, fold, list_all}
+use Rattle.std.specs.List.{flat_map, list_all}
 use Rattle.font_metrics.specs.Metrics.{MetricsValue}
-use Rattle.math_tree.specs.Trees.{element_count}
 use Rattle.math_tree.specs.declared.node.Head.{Head}
 use Rattle.math_tree.specs.declared.node.Node.{Node}
 use Rattle.math_tree.specs.declared.node.Node.TheViews.{out-Node}
 use Rattle.embellished.specs.Seen.{flow_nodes, seen_of}
 use Rattle.style_scope.specs.Sizes.{size_of}
 use Rattle.fixed_units.specs.Sums.{list_to}
-use Rattle.layout_model.specs.Fits.{AnswersAll, AreAnswers, IsContext, IsStretch}
+use Rattle.layout_model.specs.Fits.{AnswersAll, AreAnswers, IsStretch}
 use Rattle.layout_model.specs.Laws.{answer_of, laid_below, visits_below}
-use Rattle.layout_model.specs.Layout.{equation, in_range, laid, lay, lay_by, questions, somes, visit_fits}
+use Rattle.layout_model.specs.Layout.{equation, in_range, laid, lay, lay_by, questions, visit_fits}
 use Rattle.layout_model.specs.Questions.{IsBelow, first, second}
 use Rattle.layout_model.specs.Range.{is_font_size, outcome_fits}
 use Rattle.layout_model.specs.declared.context.Context.{Context}
@@ -31,7 +29,7 @@ use Rattle.layout_model.proofs.Places.{first_below, second_below}
 use Rattle.layout_model.proofs.Trees.{laid_is, lay_is}
 use Rattle.layout_core.specs.Slots.{filled, laid_for, with_laid}
 use Rattle.layout_core.proofs.Children.{as_many_nodes}
-use Rattle.layout_core.proofs.Fits.{answers_are, range_is}
+use Rattle.layout_core.proofs.Fits.{range_is}
 use Rattle.layout_core.proofs.KeptLast.{kept_as_asked_last, none_kept, nothing}
 use Rattle.layout_core.proofs.Waves.{all_fit}
 

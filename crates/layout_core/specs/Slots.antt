@@ -1,6 +1,6 @@
 -- The children in flow of an element as they are laid out one after another: in each place, the last
 -- layout of that child.
-use Rattle.std.specs.Prelude.{ℕ, List, [], ◌∷◌, Option, Some, None, slice_get, slice_set, fold}
+use Rattle.std.specs.Prelude.{List, Option, Some, slice_get, slice_set, fold}
 use Rattle.std.specs.List.{filter_map}
 use Rattle.std.specs.Option.{option_map_or}
 use Rattle.font_metrics.specs.Metrics.{MetricsValue}

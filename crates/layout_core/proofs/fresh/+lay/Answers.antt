@@ -1,16 +1,14 @@
-use Rattle.std.proofs.Common.{rules, ◌≡◌, ◌∙◌, refl, sym, ap, subst, ℕ, ◌+◌, ◌*◌, ◌<◌, ◌≤◌, arith, Bool, ◌&&◌, List, [], ◌∷◌, ◌++◌, length, map, replicate, get_or, Err, Option, All}
+use Rattle.std.proofs.Common.{rules, ◌∙◌, refl, sym, ap, subst, ◌<◌, arith, List, [], ◌∷◌, ◌++◌, length, map, Err}
 use Rattle.std.proofs.lemmas.List.{length-map, length-replicate}
-use Rattle.fixed_units.specs.declared.refusal.LayRefusal.TheVariants.{Range}
 use Rattle.math_tree.specs.declared.node.Node.{Node}
 use Rattle.math_tree.specs.declared.node.Node.TheViews.{out-Node, size-Node}
 use Rattle.embellished.specs.Known.{known_of}
-use Rattle.embellished.specs.Seen.{Child, HasChild, flow_nodes, seen_of}
+use Rattle.embellished.specs.Seen.{seen_of}
 use Rattle.embellished.specs.declared.known.Known.{Known}
 use Rattle.embellished.specs.declared.known.Known.TheViews.{out-Known}
 use Rattle.embellished.proofs.KnownFacts.{is_known}
 use Rattle.layout_model.specs.Fits.{AreAnswers, HasStyle}
 use Rattle.layout_model.specs.Laws.{answer_of}
-use Rattle.layout_model.specs.Questions.{second}
 use Rattle.layout_model.specs.Layout.{lay}
 use Rattle.layout_model.specs.Range.{is_font_size, outcome_fits}
 use Rattle.layout_model.specs.declared.laid.Laid.{Laid}

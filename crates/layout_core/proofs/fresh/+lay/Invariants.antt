@@ -1,4 +1,4 @@
-use Rattle.std.proofs.Common.{◌≡◌, true, length, map, take}
+use Rattle.std.proofs.Common.{◌≡◌, true, map, take}
 use Rattle.layout_core.specs.Slots.{with_laid}
 use Rattle.layout_model.specs.Laws.{answer_of}
 use Rattle.layout_core.proofs.Waves.{all_fit}

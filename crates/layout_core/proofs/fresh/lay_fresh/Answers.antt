@@ -1,4 +1,4 @@
-use Rattle.std.proofs.Common.{◌≡◌, ◌∙◌, sym, subst, IfOk, OnOk, Bool, true, Ok, Err, Result}
+use Rattle.std.proofs.Common.{◌≡◌, ◌∙◌, sym, subst, IfOk, OnOk, Bool, true}
 use Rattle.layout_model.specs.declared.laid.Laid.{Laid}
 use Rattle.layout_core.proofs.Roots.{tree_laid, tree_ranged}
 use Rattle.layout_core.proofs.fresh.lay_fresh.Goals as goal
