@@ -56,7 +56,7 @@ asked-few q p plan (kid ∷ kids) =
     let few = ask_of-few q p (planned plan kid) in
     let both = asked-ask_of q p (planned plan kid) (asks_from (p + 1) plan kids) in
     elim (eqb_tells p q) [
-      inl same ↦ omega (arith, same.1, few, both, asked-before q (p + 1) plan kids (omega (arith, same.1)))
+      | inl same ↦ omega (arith, same.1, few, both, asked-before q (p + 1) plan kids (omega (arith, same.1)))
       | inr apart ↦ omega (arith, rest, both, asked-other q p (planned plan kid) apart.1)
     ]
 
