@@ -63,6 +63,12 @@ part_of P list (first ∷ nodes) zero child at h =
 part_of P list (first ∷ nodes) (suc i) child at h =
     part_of P list nodes i child at (all_parts P (list first) (flat_map list nodes) h).1
 
+-- the child that is read at a place
+pub from_place : (nodes : List Node) (i : ℕ) (child : Node) → i < length nodes → child ≡ get_or nodes i child → slice_get nodes i ≡ Some child
+from_place [] i child h e = absurd (omega arith)
+from_place (first ∷ nodes) zero child h e = ap Some (sym e)
+from_place (first ∷ nodes) (suc i) child h e = from_place nodes i child (omega arith) e
+
 pub in_child : (P : Listed → Type 0) (level : ℕ) (element : Node) (i : ℕ) (child : Node)
     → slice_get (children_of element) i ≡ Some child → AllByRecursion P (listed level element) → AllByRecursion P (listed (level + 1) child)
 in_child P level element i child at h =

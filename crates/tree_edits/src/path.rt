@@ -1,0 +1,69 @@
+ghost use Rattle.std.specs.Prelude.{◌≡◌, ◌≤◌, ◌<◌, ◌∷◌, [], length};
+ghost use Rattle.std.specs.List.{AllByRecursion};
+ghost use Rattle.math_tree.specs.Forms.{most_levels};
+ghost use Rattle.math_tree.specs.Trees.{listed};
+ghost use Rattle.tree_edits.specs.Paths.{Finds};
+
+use arrayvec::ArrayVec;
+use math_tree::{Node, NodeId};
+use std::marker::Model;
+
+/// The way down from an element to one below it: the place of a child, that of one of its children,
+/// and so on. A tree has at most 60 levels, so there are at most 59 places. It takes no memory.
+#[derive(Debug, Drop)]
+pub struct Path {
+    places: ArrayVec<usize, 59>,
+}
+
+impl Model for Path {
+    ghost use Rattle.std.specs.Prelude.{ℕ, List as Sequence};
+
+    ghost Value = { Sequence ℕ };
+
+    ghost view = { λ path. path.places.items };
+}
+
+impl Path {
+    /// The way to where one stands.
+    fn here() -> Path
+        ensures { result ≡ [] }
+    {
+        Path {
+            places: ArrayVec::new(),
+        }
+    }
+
+    /// The way from one level higher, where this one begins at the child at a place.
+    fn under(mut self, place: usize) -> Path
+        requires { length self < 59 }
+        ensures { result ≡ place ∷ self }
+    {
+        self.places.insert(0, place);
+        self
+    }
+
+    /// The places, from the highest down.
+    pub fn as_slice(&self) -> &[usize]
+        ensures { result.now ≡ self.now }
+    {
+        self.places.as_slice()
+    }
+}
+
+/// The way to the element of an id, from an element at that level down.
+#[tactic(auto, using(crate::proofs::Paths::leads_here, crate::proofs::Paths::leads_further, crate::proofs::Paths::level_within, crate::proofs::Paths::in_child, crate::proofs::Paths::none_more, crate::proofs::Paths::none_in))]
+pub fn path_to(node: &Node, id: NodeId, level: usize) -> Option<Path>
+    requires shallow { AllByRecursion (λ e. e.level ≤ most_levels) (listed level node.now) }
+    requires level { 1 ≤ level }
+    ensures { Finds id.0 level node.now result }
+{
+    if node.head.id.0 == id.0 {
+        return Some(Path::here());
+    }
+    for (place, child) in node.children.as_slice().iter().enumerate() {
+        if let Some(path) = path_to(child, id, level + 1) {
+            return Some(path.under(place));
+        }
+    }
+    None
+}
