@@ -101,10 +101,10 @@ second_few AsTable kids own frames kid = omega arith
 
 -- ---- just once
 
-abbrev IsOnce : Asking → List KidPull → Pull → List MathBox → ℕ → Type 0
+abbrev pub IsOnce : Asking → List KidPull → Pull → List MathBox → ℕ → Type 0
 IsOnce how kids own frames kid = times kid (first_asks how kids own) + times kid (second_asks how kids own frames) ≡ 1
 
-plainly_once : (kids : List KidPull) (own : Pull) (frames : List MathBox) (kid : ℕ) → kid < length kids → IsOnce Plainly kids own frames kid
+pub plainly_once : (kids : List KidPull) (own : Pull) (frames : List MathBox) (kid : ℕ) → kid < length kids → IsOnce Plainly kids own frames kid
 unfolding first_asks second_asks
 plainly_once kids own frames kid l =
     omega (arith, counted unstretched kids kid l, under_asks Upwards Free (get_or kids kid no_kid))
@@ -116,7 +116,7 @@ behind plan others kid l =
     let e : suc kid ≡ 1 + kid = omega arith in
     ap (λ (k : ℕ). times k (asks_from 1 plan others)) e ∙ asked-asks_from 1 kid plan others no_kid l
 
-base_once : (kids : List KidPull) (own : Pull) (frames : List MathBox) (kid : ℕ) → kid < length kids → IsOnce ForTheBase kids own frames kid
+pub base_once : (kids : List KidPull) (own : Pull) (frames : List MathBox) (kid : ℕ) → kid < length kids → IsOnce ForTheBase kids own frames kid
 unfolding first_asks second_asks
 base_once [] own frames kid l = absurd (omega (arith, l))
 base_once (base ∷ others) own frames zero l = omega (arith, at_the_base own unstretched others, asked-before 0 1 unstretched others (omega arith))
@@ -127,7 +127,7 @@ row_once : (kids : List KidPull) (own : Pull) (frames : List MathBox) (kid : ℕ
 unfolding first_asks second_asks
 row_once kids own frames kid l h = asked_once kids own frames kid l h
 
-limits_once : (kids : List KidPull) (own : Pull) (frames : List MathBox) (kid : ℕ) → kid < length kids → IsPulled own → IsOnce AsLimits kids own frames kid
+pub limits_once : (kids : List KidPull) (own : Pull) (frames : List MathBox) (kid : ℕ) → kid < length kids → IsPulled own → IsOnce AsLimits kids own frames kid
 unfolding first_asks second_asks
 limits_once kids Free frames kid l h = absurd h
 limits_once kids (Inline width) frames kid l h =
@@ -148,7 +148,7 @@ limits_once (base ∷ others) (Block ascent descent) frames (suc kid) l h =
 -- ---- questions
 
 module _ (m : MetricsValue) (seen : Seen) (context : Context) where
-  times_all : (kid : ℕ) (asks : List Ask) → times_asked kid (asked_all m seen context asks) ≡ times kid asks
+  pub times_all : (kid : ℕ) (asks : List Ask) → times_asked kid (asked_all m seen context asks) ≡ times kid asks
   times_all kid [] = refl
   times_all kid (ask ∷ asks) =
       counted_one (λ (question : Question). question.kid == kid) (asked m seen context ask) (asked_all m seen context asks)
@@ -193,10 +193,10 @@ module _ (m : MetricsValue) (seen : Seen) (context : Context) where
               omega (arith, rows_once kid n, here)
         ]
 
-    abbrev frames : List MathBox
+    abbrev pub frames : List MathBox
     frames = map (λ (answer : Answer). answer.frame) rows
 
-    abbrev further : Asking → List Ask
+    abbrev pub further : Asking → List Ask
     further how = second_asks how (kid_pulls m seen context) (pull_of context.stretch) frames
 
     further_once : (how : Asking) (kid : ℕ) → times_asked kid (asked_all m seen context (further how)) ≤ 1
@@ -220,7 +220,7 @@ module _ (m : MetricsValue) (seen : Seen) (context : Context) where
     abbrev asks_once : Asking → ℕ → Type 0
     asks_once how kid = IsOnce how (kid_pulls m seen context) (pull_of context.stretch) frames kid
 
-    both_are : (how : Asking) (kid : ℕ)
+    pub both_are : (how : Asking) (kid : ℕ)
         → times_asked kid (asked_all m seen context (first_asks how (kid_pulls m seen context) (pull_of context.stretch)) ++ asked_all m seen context (further how))
         ≡ times kid (first_asks how (kid_pulls m seen context) (pull_of context.stretch)) + times kid (further how)
     both_are how kid =
@@ -229,7 +229,7 @@ module _ (m : MetricsValue) (seen : Seen) (context : Context) where
         ∙ ap (λ (n : ℕ). n + times_asked kid (asked_all m seen context (further how))) (times_all kid ones)
         ∙ ap (λ (n : ℕ). times kid ones + n) (times_all kid (further how))
 
-    abbrev asked_by : Asking → List Question
+    abbrev pub asked_by : Asking → List Question
     asked_by how = asked_all m seen context (first_asks how (kid_pulls m seen context) (pull_of context.stretch)) ++ second_as how m seen context rows
 
     pub both_by : both_waves m seen context rows ≡ asked_by (asking m seen context)

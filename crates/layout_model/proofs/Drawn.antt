@@ -1,6 +1,6 @@
 -- The marks of an outcome name glyphs of the font.
-use Rattle.std.proofs.Common.{◌≡◌, ◌∙◌, refl, sym, ap, subst, ℕ, zero, suc, ◌-◌, ◌<◌, arith, ltb, Bool, true, false, ◌&&◌, cond, codes, nat_eq, List, [], ◌∷◌, ◌++◌, length, All, Option, Some, None, ℤ, pos, slice_get}
-use Rattle.std.specs.Prelude.{⊤, find, IsSome, int_le, int_lt, nat_lt, if◌then◌else◌, unwrap_or}
+use Rattle.std.proofs.Common.{◌≡◌, ◌∙◌, refl, ap, ℕ, zero, suc, ◌-◌, ◌<◌, Bool, true, false, ◌&&◌, cond, codes, nat_eq, List, [], ◌∷◌, length, All, Option, Some, None, ℤ, pos, slice_get}
+use Rattle.std.specs.Prelude.{⊤, find, IsSome, int_lt, if◌then◌else◌, unwrap_or}
 use Rattle.std.proofs.lemmas.Bool.{lt-ltb}
 use Rattle.std.proofs.lemmas.List.Elements.{All-head, All-tail, All-weaker}
 use Rattle.std.proofs.lemmas.List.Folds.{list_all-append}
@@ -42,7 +42,7 @@ use Rattle.radicals.specs.Lengths.{index_lengths_of}
 use Rattle.radicals.specs.Placing.{covered_of, root_of, root_with_index_of, with_index_of}
 use Rattle.style_scope.specs.declared.style.Style.{Style}
 use Rattle.token_boxes.specs.Letters.{letters_of, lone, slanted}
-use Rattle.token_boxes.specs.Operator.{large, lone_operator, lowered_glyph, operator_of, sideways, span_of, unspaced_leaf, upward}
+use Rattle.token_boxes.specs.Operator.{large, lone_operator, lowered_glyph, operator_of, sideways, unspaced_leaf, upward}
 use Rattle.token_boxes.specs.Token.{glyph_of, inks_of, leaf_of, lone_letter, mark_at, marks_of, token_of, word_leaf}
 use Rattle.token_boxes.specs.declared.leaf.Drawn.{Drawn}
 use Rattle.token_boxes.specs.declared.leaf.Leaf.{Leaf}

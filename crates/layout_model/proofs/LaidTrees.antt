@@ -1,12 +1,12 @@
 -- What holds of each element of a laid-out tree, and how deep it is.
-use Rattle.std.proofs.Common.{◌≡◌, ◌∙◌, refl, sym, ap, subst, ℕ, zero, suc, ◌+◌, ◌-◌, ◌<◌, ◌≤◌, max, arith, Bool, true, false, ◌&&◌, cond, nat_eq, List, [], ◌∷◌, ◌++◌, length, map, filter, fold, All, Option, Some, None, slice_get}
+use Rattle.std.proofs.Common.{◌≡◌, ◌∙◌, refl, sym, ap, subst, ℕ, zero, suc, ◌+◌, ◌-◌, ◌≤◌, max, arith, Bool, true, false, ◌&&◌, cond, nat_eq, List, [], ◌∷◌, ◌++◌, length, map, filter, fold, All, Option, Some, None, slice_get}
 use Rattle.std.specs.Prelude.{unwrap_or}
 use Rattle.std.proofs.lemmas.Bool.{and_parts}
 use Rattle.std.proofs.lemmas.Bool.Decides.{nat_tests}
 use Rattle.std.proofs.lemmas.List.Folds.{list_all-append}
 use Rattle.std.proofs.lemmas.List.Elements.{All-head, All-tail}
 use Rattle.std.proofs.lemmas.Option.{same_Some, slice_get-map}
-use Rattle.std.specs.List.{AllByRecursion, cons_option, filter_map, flat_map, list_all}
+use Rattle.std.specs.List.{AllByRecursion, flat_map, list_all}
 use Rattle.std.specs.Option.{IfSome, option_and_then, option_map, option_map_or}
 use Rattle.fixed_units.specs.Sums.{list_to}
 use Rattle.font_metrics.specs.Metrics.{MetricsValue}
@@ -21,7 +21,7 @@ use Rattle.layout_model.specs.Answers.{last_some}
 use Rattle.layout_model.specs.Elements.{Element}
 use Rattle.layout_model.specs.Laid.{DrawnLaw, LevelsLaw, StoredLaw, all_outcomes, draws_of_font, levels, one_level_more, passes}
 use Rattle.layout_model.specs.Laws.{answer_of, laid_below, visits_below}
-use Rattle.layout_model.specs.Layout.{Visit, equation, in_range, laid, last_answers, last_context, lay, lay_by, questions, somes, visit_fits, visits}
+use Rattle.layout_model.specs.Layout.{equation, in_range, laid, last_answers, last_context, lay, lay_by, questions, somes, visit_fits, visits}
 use Rattle.layout_model.specs.Questions.{first, second}
 use Rattle.layout_model.specs.Range.{is_font_size, outcome_fits}
 use Rattle.layout_model.specs.declared.context.Context.{Context}
@@ -82,7 +82,7 @@ record Asked (asks : List Question) (i : ℕ) (context : Context) (test : Questi
   context_is : question.context ≡ context
   passed : test question ≡ true
 
-last_behind : {A : Type 0} (x : A) (xs : List A) → last_some (x ∷ xs) ≡ Some (unwrap_or (last_some xs) x)
+pub last_behind : {A : Type 0} (x : A) (xs : List A) → last_some (x ∷ xs) ≡ Some (unwrap_or (last_some xs) x)
 last_behind x [] = refl
 last_behind x (y ∷ xs) = last_behind y xs ∙ ap (λ (o : Option _). Some (unwrap_or o x)) (sym (last_behind y xs))
 

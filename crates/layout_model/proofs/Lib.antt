@@ -1,4 +1,5 @@
 pub mod Alike
+pub mod AllAsked
 pub mod Asked
 pub mod Carried
 pub mod Cells
@@ -12,3 +13,4 @@ pub mod Places
 pub mod Ranges
 pub mod Trees
 pub mod TwoContexts
+mod Worked

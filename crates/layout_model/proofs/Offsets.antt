@@ -1,5 +1,5 @@
 -- An outcome has one offset for each child in flow, in order.
-use Rattle.std.proofs.Common.{◌≡◌, ◌∙◌, refl, sym, ap, subst, ℕ, zero, suc, ◌+◌, arith, Bool, true, false, cond, List, [], ◌∷◌, ◌++◌, length, map, Option, Some, None, ℤ, pos}
+use Rattle.std.proofs.Common.{◌≡◌, ◌∙◌, refl, sym, ap, subst, ℕ, zero, suc, Bool, true, false, cond, List, [], ◌∷◌, ◌++◌, length, map, Option, Some, None, ℤ}
 use Rattle.std.proofs.lemmas.List.{length-map, map-append}
 use Rattle.std.specs.Option.{IfSome, option_map_or}
 use Rattle.embellished.proofs.ElementLaws.{children_counted}
@@ -12,20 +12,17 @@ use Rattle.embellished.specs.Seen.{Kid, Seen, flow_nodes, kid_of, laid_kid, seen
 use Rattle.embellished.specs.declared.facts.Core.{Core}
 use Rattle.fixed_units.specs.Sums.{list_to}
 use Rattle.fixed_units.specs.declared.boxes.MathBox.{MathBox}
-use Rattle.font_metrics.specs.Metrics.{MetricsValue}
 use Rattle.font_metrics.specs.declared.mark.Mark.{Mark}
 use Rattle.math_tree.specs.declared.kind.Kind.{Kind}
-use Rattle.math_tree.specs.declared.kind.Kind.TheVariants.{Annotation, AnnotationXml, Merror, Mfrac, Mi, Mmultiscripts, Mn, Mo, Mover, Mpadded, Mroot, Ms, Mspace, Msqrt, Msub, Msubsup, Msup, Mtable, Mtd, Mtext, Mtr, Munder, Munderover}
+use Rattle.math_tree.specs.declared.kind.Kind.TheVariants.{Merror, Mfrac, Mi, Mmultiscripts, Mn, Mo, Mover, Mpadded, Mroot, Ms, Mspace, Msqrt, Msub, Msubsup, Msup, Mtable, Mtd, Mtext, Mtr, Munder, Munderover}
 use Rattle.math_tree.specs.declared.node.Node.{Node}
 use Rattle.math_tree.specs.declared.node.Node.TheViews.{out-Node}
 use Rattle.layout_model.specs.Elements.{Element, outcome_with}
 use Rattle.layout_model.specs.Equations.{multi_outcome, operator_outcome, operator_with, outcome_by, over_outcome, space_outcome, sub_outcome, sub_sup_outcome, sup_outcome, token_outcome, under_outcome, under_over_outcome}
 use Rattle.layout_model.specs.Laid.{OffsetsLaw}
 use Rattle.layout_model.specs.Laws.{answer_of}
-use Rattle.layout_model.specs.Layout.{equation, last_answers, lay, lay_by}
+use Rattle.layout_model.specs.Layout.{equation, last_answers, lay_by}
 use Rattle.layout_model.specs.Questions.{first, has_moved_limits, second}
-use Rattle.layout_model.specs.declared.context.Context.{Context}
-use Rattle.layout_model.specs.declared.outcome.Answer.{Answer}
 use Rattle.layout_model.specs.declared.outcome.Offset.{Offset}
 use Rattle.layout_model.specs.declared.outcome.Outcome.{Outcome}
 use Rattle.layout_model.proofs.Trees.{lay_is}

@@ -1,5 +1,5 @@
 -- What holds of all elements of a laid-out tree, and how many levels it has.
-use Rattle.std.specs.Prelude.{◌≡◌, ℕ, ◌+◌, ◌≤◌, max, nat_lt, Bool, true, ◌&&◌, List, length, fold, map}
+use Rattle.std.specs.Prelude.{◌≡◌, ℕ, ◌+◌, ◌≤◌, max, nat_lt, Bool, true, ◌&&◌, length, fold, map}
 use Rattle.std.specs.List.{All, list_all}
 use Rattle.fixed_units.specs.Sums.{list_to}
 use Rattle.font_metrics.specs.Metrics.{MetricsValue}
@@ -8,6 +8,7 @@ use Rattle.font_metrics.specs.declared.mark.Mark.TheVariants.{Glyph, Rule, Built
 use Rattle.font_metrics.specs.Taken.{IsTaken}
 use Rattle.math_tree.specs.Trees.{listed}
 use Rattle.math_tree.specs.declared.node.Node.{Node}
+use Rattle.math_tree.specs.declared.node.Node.TheViews.{out-Node}
 use Rattle.embellished.specs.Seen.{flow_nodes}
 use Rattle.layout_model.specs.Layout.{in_range, laid, lay}
 use Rattle.layout_model.specs.Range.{outcome_fits}
@@ -15,6 +16,7 @@ use Rattle.layout_model.specs.declared.context.Context.{Context}
 use Rattle.layout_model.specs.declared.laid.Laid.{Laid}
 use Rattle.layout_model.specs.declared.laid.Laid.TheFolds.{fold-Laid}
 use Rattle.layout_model.specs.declared.laid.Laid.TheOpen.{Laid-F}
+use Rattle.layout_model.specs.declared.laid.Laid.TheViews.{out-Laid}
 use Rattle.layout_model.specs.declared.outcome.Outcome.{Outcome}
 
 -- ---- each outcome in it
@@ -69,3 +71,8 @@ LevelsLaw = (m : MetricsValue) (node : Node) (context : Context) (most : ℕ) �
 abbrev pub OffsetsLaw : Type 0
 OffsetsLaw = (m : MetricsValue) (node : Node) (context : Context) →
     map (λ offset. offset.kid) (lay m node context).offsets ≡ list_to (length (flow_nodes node)) (λ place. place)
+
+-- a laid-out element has its children in flow, in order
+abbrev pub LaidKidsLaw : Type 0
+LaidKidsLaw = (m : MetricsValue) (node : Node) (context : Context) →
+    map (λ kid. (out-Laid kid).head) (out-Laid (laid m node context)).kids ≡ map (λ kid. (out-Node kid).head) (flow_nodes node)

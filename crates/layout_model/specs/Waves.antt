@@ -69,6 +69,11 @@ OnceLaw = (m : MetricsValue) (node : Node) (context : Context) (one : List Answe
     (is_stretched context.stretch || is_table_row (facts node).laid) ≡ true →
     times_asked kid (both_waves m (seen_of node) context one) ≡ 1
 
+-- each child in flow is asked, whatever the answers to wave one are
+abbrev pub AskedLaw : Type 0
+AskedLaw = (m : MetricsValue) (node : Node) (context : Context) (one : List Answer) (kid : ℕ) →
+    kid < length (seen_of node).kids → 1 ≤ times_asked kid (both_waves m (seen_of node) context one)
+
 -- a question to a child has its place's style and form; of two to one child, both have a stretch or none
 -- does, and then they are the same, but for the rows of a table
 pub record AsksAlike (m : MetricsValue) (seen : Seen) (context : Context) (one : List Answer) : Type 0 where

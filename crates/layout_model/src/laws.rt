@@ -2,10 +2,10 @@
 //!
 //! A law is proved where it is a contract, so each function here has one and computes nothing.
 //! Proofs above cite `proofs/Trees` itself.
-ghost use Rattle.layout_model.specs.Laid.{DrawnLaw, LevelsLaw, OffsetsLaw, StoredLaw};
+ghost use Rattle.layout_model.specs.Laid.{DrawnLaw, LaidKidsLaw, LevelsLaw, OffsetsLaw, StoredLaw};
 ghost use Rattle.layout_model.specs.Laws.{LaidLaw, LayoutLaw, VisitsLaw};
 ghost use Rattle.layout_model.specs.Made.{MadeLaw, ReadsLaw, TwoContextsLaw};
-ghost use Rattle.layout_model.specs.Waves.{AlikeLaw, EachWaveLaw, HandedLaw, OnceLaw, PlainLaw};
+ghost use Rattle.layout_model.specs.Waves.{AlikeLaw, AskedLaw, EachWaveLaw, HandedLaw, OnceLaw, PlainLaw};
 
 /// An element is laid out by its equation, over the layouts of its children in flow.
 pub fn an_element_is_its_equation_over_its_children()
@@ -32,6 +32,11 @@ pub fn each_wave_asks_a_child_at_most_once()
 /// does a row of a table.
 pub fn who_is_stretched_asks_each_child_once()
     ensures { OnceLaw }
+{}
+
+/// Each child in flow is asked.
+pub fn each_child_in_flow_is_asked()
+    ensures { AskedLaw }
 {}
 
 /// A question to a child has the style and the form of the child's place. All that one element asks
@@ -88,4 +93,9 @@ pub fn layout_makes_no_tree_deeper()
 /// An outcome has one offset for each child in flow, in order.
 pub fn outcomes_place_all_children()
     ensures { OffsetsLaw }
+{}
+
+/// A laid-out element has its children in flow, in order.
+pub fn all_children_in_flow_are_laid_out()
+    ensures { LaidKidsLaw }
 {}
