@@ -25,7 +25,8 @@ use std::sync::ledger::Ledger;
 use style_scope::root_style;
 
 /// Lays out a tree, every element afresh. It is refused with `Range` exactly where a number of a
-/// layout that is made on the way can't be stored. Each element that is laid out is a step.
+/// layout that is made on the way can't be stored. `finish` ticks a step for each layout that is made;
+/// how many those are is no clause.
 pub fn lay_fresh<L: Ledger>(
     alloc: Global,
     tree: &Tree,

@@ -124,9 +124,6 @@ root_outcome e = with_index e (root_with_index_of e.metrics (frame_at e 0) (fram
 abbrev pub has_large_base : Element → Bool
 has_large_base e = option_map_or (λ base. base.largeop) (base_properties e.metrics e.seen e.context) false
 
-abbrev pub base_at_start : ℤ → ℤ
-base_at_start x = x
-
 abbrev pub sub_outcome : Element → Outcome
 sub_outcome e =
     let scripted = sub_of e.metrics (frame_at e 0) (has_large_base e) (frame_at e 1) (font e) in
