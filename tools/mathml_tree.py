@@ -41,7 +41,7 @@ def whole(word):
 def work(words):
     """The bytes of the tree file."""
     if words.file is None:
-        path, data = "standard input", sys.stdin.buffer.read()
+        path, data = "standard input", command.standard(sys.stdin, "input").read()
     else:
         path, data = words.file, command.read(words.file)
     formulas = read_formulas(path, data)

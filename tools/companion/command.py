@@ -33,6 +33,9 @@ def run(parser, work, argv=None):
     except Fault as fault:
         warn(parser.prog, fault)
         return 1
+    except UnicodeError as fault:
+        warn(parser.prog, f"a name or text that can't be written: {fault}")
+        return 1
     return 0
 
 
@@ -59,8 +62,11 @@ def write(path, data):
     """Writes to standard output, or a file by way of another one beside it, so that nobody meets half of it."""
     try:
         if path is None:
-            sys.stdout.buffer.write(data)
+            standard(sys.stdout, "output").write(data)
             sys.stdout.buffer.flush()
+        elif Path(path).exists() and not Path(path).is_file():
+            # a pipe or a device, whose real name may lead nowhere
+            Path(path).write_bytes(data)
         else:
             replace(Path(os.path.realpath(path)), data)
     except BrokenPipeError:
@@ -71,11 +77,15 @@ def write(path, data):
         raise Fault(f"{path or 'standard output'}: {reason(fault)}") from None
 
 
+def standard(stream, name):
+    """The bytes of standard input or output; raises a Fault where it was closed before."""
+    if stream is None:
+        raise Fault(f"standard {name} is closed")
+    return stream.buffer
+
+
 def replace(path, data):
-    """Puts a file with just these bytes in the place of another; an output that is no plain file is written as it is."""
-    if path.exists() and not path.is_file():
-        path.write_bytes(data)
-        return
+    """Puts a file with just these bytes in the place of another."""
     handle, beside = tempfile.mkstemp(dir=path.parent, prefix=f".{path.name}.")
     try:
         with os.fdopen(handle, "wb") as file:

@@ -70,7 +70,7 @@ class MathFont:
     @property
     def title(self):
         """The full name and the version, or else the file's name."""
-        return self.told(4, 5) or Path(self.path).name
+        return self.told(4, 5) or one_line(Path(self.path).name).encode("ascii", "replace").decode()
 
     @property
     def copyright(self):
