@@ -1,4 +1,6 @@
+pub mod Applying
 pub mod Commands
 pub mod Edits
 pub mod Laws
 pub mod Paths
+pub mod Spare

@@ -16,6 +16,7 @@
 //!   form: `specs/Commands.antt`, then `src/read.rt`, then `rt check`.
 #![tactic(auto)]
 
+mod applying; // a whole edit, and back
 mod change; // of one element, in place
 mod command; // Command, CommandRefusal
 mod edit; // Edit, EditRefusal
@@ -23,7 +24,9 @@ mod keys; // what a line says under each key
 pub mod laws; // of the definitions
 mod path; // ways down a tree
 mod read;
+mod spare; // a root for the meantime
 
+pub use applying::{Taken, apply, restore};
 pub use change::{Change, Former, carry_out_at};
 pub use command::{Command, CommandRefusal};
 pub use edit::{Edit, EditRefusal};

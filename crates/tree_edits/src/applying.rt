@@ -1,0 +1,71 @@
+//! An edit carried out on a tree, in place, and undone again.
+ghost use Rattle.std.specs.Prelude.{◌≡◌, None, IfOk, IfErr, OnOk, OnErr};
+ghost use Rattle.tree_edits.specs.Applying.{CanRestore, IsProperEdit, IsReason, Undoes, restored};
+ghost use Rattle.tree_edits.specs.Edits.{edited, refusal_of};
+
+use crate::change::carry_out_at;
+use crate::spare::Spare;
+use crate::{Change, Edit, EditRefusal, Path};
+use math_tree::Tree;
+use std::alloc::Global;
+use std::marker::Model;
+
+/// What an edit took out of a tree: `restore` makes the tree of it that was there before.
+#[derive(Debug, Drop)]
+pub struct Taken {
+    path: Path,
+    change: Change,
+    next_id: u64,
+    elements: u32,
+    bytes: u64,
+    /// It stands in for the root while the elements are changed.
+    spare: Spare,
+}
+
+impl Model for Taken {
+    ghost use Rattle.std.specs.Coded.{codes};
+    ghost use Rattle.tree_edits.specs.Applying.{TakenValue};
+    ghost use Rattle.tree_edits.specs.contracts.change.Change as one;
+
+    ghost Value = { TakenValue };
+
+    ghost coded = { Prim.hlevel (codes, one.the_row.coded) };
+
+    ghost view = { λ taken. record {
+        path = taken.path;
+        change = taken.change;
+        next_id = taken.next_id;
+        elements = taken.elements;
+        bytes = taken.bytes;
+    } };
+}
+
+/// Edits a tree. Where the edit is refused the tree stays as it is.
+pub fn apply(alloc: Global, tree: &mut Tree, edit: Edit) -> Result<Taken, EditRefusal>
+    requires proper { IsProperEdit edit }
+    ensures accepted { OnOk result (refusal_of tree.old edit ≡ None) }
+    ensures tree { OnOk result (tree.new ≡ edited tree.old edit) }
+    ensures taken { IfOk result (λ taken. Undoes taken tree.new tree.old) }
+    ensures refused { IfErr result (IsReason tree.old edit) }
+    ensures unchanged { OnErr result (tree.new ≡ tree.old) }
+{
+    Err(EditRefusal::Memory)
+}
+
+/// Gives back the tree before an edit, with its next id. It takes no memory.
+pub fn restore(tree: &mut Tree, taken: Taken)
+    requires { CanRestore taken tree.old }
+    ensures { tree.new ≡ restored taken tree.old }
+{
+    let Taken {
+        path,
+        change,
+        next_id,
+        elements,
+        bytes,
+        spare,
+    } = taken;
+    let mut root = tree.exchange(spare.into_root(), 2, 1, 4);
+    carry_out_at(&mut root, path.as_slice(), change);
+    tree.exchange(root, next_id, elements, bytes);
+}
