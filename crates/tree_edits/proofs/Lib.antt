@@ -4,5 +4,6 @@ mod Reading
 mod Paths
 -- for the crates above: the map over all elements is one change at the end of a way
 pub mod OneElement
+mod StandIn
 mod Lines
 mod Worked

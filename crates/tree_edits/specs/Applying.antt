@@ -1,5 +1,5 @@
 -- An edit carried out on a tree, and what gives back the tree that was there before.
-use Rattle.std.specs.Prelude.{◌≡◌, ◌≢◌, ◌⊎◌, ℕ, List, All, Option, Some}
+use Rattle.std.specs.Prelude.{◌≡◌, ◌⊎◌, ℕ, List, All, Some}
 use Rattle.math_tree.specs.Trees.{TreeValue, IsProper, IsTotalled, listed}
 use Rattle.tree_edits.specs.Edits.{refusal_of}
 use Rattle.tree_edits.specs.Paths.{changed_at, changed, FitsAt}

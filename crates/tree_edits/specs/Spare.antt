@@ -1,5 +1,5 @@
 -- The root that stands in a tree while its elements are changed.
-use Rattle.std.specs.Prelude.{List, [], codes}
+use Rattle.std.specs.Prelude.{[], codes}
 use Rattle.math_tree.specs.Trees.{node}
 use Rattle.math_tree.specs.declared.kind.Kind.TheVariants.{Math}
 use Rattle.math_tree.specs.declared.node.Head.{Head}

@@ -32,11 +32,11 @@ impl Model for Taken {
     ghost coded = { Prim.hlevel (codes, one.the_row.coded) };
 
     ghost view = { λ taken. record {
-        path = taken.path;
-        change = taken.change;
-        next_id = taken.next_id;
-        elements = taken.elements;
-        bytes = taken.bytes;
+      path = taken.path;
+      change = taken.change;
+      next_id = taken.next_id;
+      elements = taken.elements;
+      bytes = taken.bytes;
     } };
 }
 
@@ -53,6 +53,7 @@ pub fn apply(alloc: Global, tree: &mut Tree, edit: Edit) -> Result<Taken, EditRe
 }
 
 /// Gives back the tree before an edit, with its next id. It takes no memory.
+#[tactic(auto, using(crate::proofs::StandIn::stands_in))]
 pub fn restore(tree: &mut Tree, taken: Taken)
     requires { CanRestore taken tree.old }
     ensures { tree.new ≡ restored taken tree.old }

@@ -31,8 +31,8 @@ impl Model for Spare {
 
 impl Spare {
     /// Such a root.
-    pub fn make(alloc: Global) -> Result<Spare, Memory>
-    {
+    #[tactic(auto, unfolding(crate::specs::Spare::spare_root))]
+    pub fn make(alloc: Global) -> Result<Spare, Memory> {
         Ok(Spare {
             root: Node {
                 head: Head {
