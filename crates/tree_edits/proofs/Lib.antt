@@ -7,3 +7,5 @@ pub mod OneElement
 mod StandIn
 mod Lines
 mod Worked
+-- the elements of a tree in which one element is changed
+pub mod Frames
