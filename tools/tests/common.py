@@ -49,13 +49,13 @@ def run(tool, *words):
 
 def make_font(path, glyphs, characters, variants=None, parts=None, upem=1024, typo=False, math=True, italics=None,
               accents=None, kerns=(), named=True):
-    """Writes a font. Of each glyph there are its advance and its ink as left, bottom, right and top, or none; of each axis
-    `v` and `h` and base glyph the variants as (name, measure), and the parts as (name, extender, start, end, full)."""
+    """Writes a font. Of each glyph there are its advance and its ink as left, bottom, right and top, or a curve, or none; of
+    each axis `v` and `h` and base glyph the variants as (name, measure), and the parts as (name, extender, start, end, full)."""
     from fontTools.fontBuilder import FontBuilder
     builder = FontBuilder(upem, isTTF=True)
     builder.setupGlyphOrder(list(glyphs))
     builder.setupCharacterMap(characters)
-    builder.setupGlyf({name: rectangle(ink) for name, (_, ink) in glyphs.items()})
+    builder.setupGlyf({name: outline(ink) for name, (_, ink) in glyphs.items()})
     builder.setupHorizontalMetrics({name: (advance, ink[0] if ink else 0) for name, (advance, ink) in glyphs.items()})
     builder.setupHorizontalHeader(ascent=900, descent=-300)
     builder.setupOS2(sTypoAscender=800, sTypoDescender=-200, sTypoLineGap=90, sxHeight=512, fsSelection=0x80 if typo else 0)
@@ -66,11 +66,30 @@ def make_font(path, glyphs, characters, variants=None, parts=None, upem=1024, ty
     builder.save(path)
 
 
-def rectangle(ink):
-    """A glyph that is a filled rectangle, or empty."""
+class Arcs:
+    """Two arcs from a place on the baseline to another and back: each reaches half as far as the point that bends it."""
+
+    def __init__(self, left, right, above, below):
+        self.left, self.right, self.above, self.below = left, right, above, below
+
+    def __getitem__(self, place):
+        return (self.left, -self.below, self.right, self.above)[place]
+
+    def draw(self, pen):
+        middle = (self.left + self.right) // 2
+        pen.moveTo((self.left, 0))
+        pen.qCurveTo((middle, self.above), (self.right, 0))
+        pen.qCurveTo((middle, -self.below), (self.left, 0))
+        pen.closePath()
+
+
+def outline(ink):
+    """A glyph that is a filled rectangle, or two arcs, or empty."""
     from fontTools.pens.ttGlyphPen import TTGlyphPen
     pen = TTGlyphPen(None)
-    if ink:
+    if isinstance(ink, Arcs):
+        ink.draw(pen)
+    elif ink:
         left, bottom, right, top = ink
         pen.moveTo((left, bottom))
         for point in ((left, top), (right, top), (right, bottom)):

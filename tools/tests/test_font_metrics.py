@@ -10,7 +10,7 @@ from companion.command import Fault
 from companion.constants import CONSTANTS, SCALE_DOWNS
 from companion.fonts import fit_names
 from companion.metrics import FIT_NAME, Part, Stretch
-from tests.common import TOP, InFolder, make_font, needs_font_tools, run
+from tests.common import TOP, Arcs, InFolder, make_font, needs_font_tools, run
 
 GLYPHS = {
     ".notdef": (500, (0, 0, 400, 600)),
@@ -49,6 +49,15 @@ class OfAFont(InFolder):
             "hvariant x odd_name.6 640\nvvariant paren paren 1025\nvvariant paren paren.v1 1537\n"
             "vassembly paren bot FIX 0 200 600\nvassembly paren ext EXT 200 200 400\n")
         self.assertEqual(run(font_metrics, font), (0, expected.encode(), ""))
+
+    def test_ink_is_rounded_outward(self):
+        arcs = {"up": Arcs(10, 110, 101, 40), "down": Arcs(10, 110, 100, 1), "x": Arcs(10, 110, 897, 13)}
+        font = self.font(glyphs=GLYPHS | {name: (580, arc) for name, arc in arcs.items()},
+                         characters=CHARACTERS | {0x61: "up", 0x62: "down"})
+        lines = run(font_metrics, font)[1].decode().splitlines()
+        # The arcs reach up to 50.5, 50 and 448.5 units, and down to 20, 0.5 and 6.5.
+        for line in ("glyph up 580 51 20 0", "glyph down 580 50 1 0", "glyph x 580 449 7 0"):
+            self.assertIn(line, lines)
 
     def test_typographic_line_where_the_font_asks(self):
         self.assertIn(b"\nline 800 200\n", run(font_metrics, self.font(typo=True))[1])
