@@ -9,3 +9,6 @@ mod Lines
 mod Worked
 -- the elements of a tree in which one element is changed
 pub mod Frames
+-- at another level, and with ids that are given anew
+pub mod Levels
+pub mod Renumbered
