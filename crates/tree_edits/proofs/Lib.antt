@@ -12,3 +12,5 @@ pub mod Frames
 -- at another level, and with ids that are given anew
 pub mod Levels
 pub mod Renumbered
+-- the element that an edit names, among those of a tree
+pub mod Target
