@@ -44,7 +44,7 @@ length_set [] i m = refl
 length_set (n ∷ nodes) zero m = refl
 length_set (n ∷ nodes) (suc i) m = ap suc (length_set nodes i m)
 
-put_back : (nodes : List Node) (i : ℕ) (child : Node) → slice_get nodes i ≡ Some child → slice_set nodes i child ≡ nodes
+pub put_back : (nodes : List Node) (i : ℕ) (child : Node) → slice_get nodes i ≡ Some child → slice_set nodes i child ≡ nodes
 put_back [] i child at = absurd (none-some child at)
 put_back (n ∷ nodes) zero child at = ap (λ m. m ∷ nodes) (sym (same_Some n child at))
 put_back (n ∷ nodes) (suc i) child at = ap (◌∷◌ n) (put_back nodes i child at)

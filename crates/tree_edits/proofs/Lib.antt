@@ -14,3 +14,6 @@ pub mod Levels
 pub mod Renumbered
 -- the element that an edit names, among those of a tree
 pub mod Target
+-- elements of which some go and others come
+pub mod Splices
+pub mod Ids
