@@ -17,3 +17,5 @@ pub mod Target
 -- elements of which some go and others come
 pub mod Splices
 pub mod Ids
+-- how many elements and bytes there are after an edit, and of how many levels
+pub mod Sizes
