@@ -19,3 +19,6 @@ pub mod Splices
 pub mod Ids
 -- how many elements and bytes there are after an edit, and of how many levels
 pub mod Sizes
+-- an edit that isn't refused leaves a whole tree
+pub mod Refusals
+pub mod Reached

@@ -1,0 +1,83 @@
+-- An edit that isn't refused passes each test.
+use Rattle.std.proofs.Common.{◌≡◌, ◌∙◌, sym, ap, refl, ℕ, ◌^◌, List, [], ◌∷◌, ◌++◌, Bool, true, false, cond, nat_lt, Option, Some, None, is_some}
+use Rattle.std.proofs.lemmas.Bool.{cond-true, cond-false, not-false}
+use Rattle.std.proofs.lemmas.Option.{none-some}
+use Rattle.std.specs.List.{AllByRecursion, find}
+use Rattle.std.specs.Option.{option_map}
+use Rattle.math_tree.specs.Trees.{TreeValue, Listed, listed}
+use Rattle.tree_edits.specs.Edits.{edited, is_not_text, is_in_text, is_past, is_fixed, is_misnamed, is_right_to_left, is_long, is_deep, is_large, target, at_target, refusals, first_refusal, refusal_of}
+use Rattle.tree_edits.specs.declared.edit.Edit.{Edit}
+use Rattle.tree_edits.specs.declared.edit.EditRefusal.{EditRefusal}
+
+-- ---- the first of some rows that holds
+
+abbrev pub first_of : List (Bool × EditRefusal) → Option EditRefusal
+first_of rows = option_map (λ row. row.1) (find (λ row. row.0) rows)
+
+abbrev pub AllFail : List (Bool × EditRefusal) → Type 0
+AllFail rows = AllByRecursion (λ row. row.0 ≡ false) rows
+
+row_fails : (test : Bool) (row : Bool × EditRefusal) (found : Option (Bool × EditRefusal))
+    → option_map (λ row. row.1) (cond test (Some row) found) ≡ None → (test ≡ false) × (option_map (λ row. row.1) found ≡ None)
+row_fails true row found h = absurd (none-some row.1 (sym h))
+row_fails false row found h = (refl, h)
+
+pub all_fail : (rows : List (Bool × EditRefusal)) → first_of rows ≡ None → AllFail rows
+all_fail [] h = tt
+all_fail (row ∷ rows) h =
+    let parts = row_fails row.0 row (find (λ (row : Bool × EditRefusal). row.0) rows) h in
+    (parts.0, all_fail rows parts.1)
+
+pub none_holds : (rows : List (Bool × EditRefusal)) → AllFail rows → first_of rows ≡ None
+none_holds [] h = refl
+none_holds (row ∷ rows) h =
+    ap (option_map (λ (row : Bool × EditRefusal). row.1)) (cond-false row.0 (Some row) (find (λ (row : Bool × EditRefusal). row.0) rows) h.0)
+    ∙ none_holds rows h.1
+
+-- the one that holds behind those that fail
+pub first_holds : (front : List (Bool × EditRefusal)) (test : Bool) (refusal : EditRefusal) (back : List (Bool × EditRefusal))
+    → AllFail front → test ≡ true → first_of (front ++ ((test, refusal) ∷ back)) ≡ Some refusal
+first_holds [] test refusal back h holds =
+    ap (option_map (λ (row : Bool × EditRefusal). row.1)) (cond-true test (Some (test, refusal)) (find (λ (row : Bool × EditRefusal). row.0) back) holds)
+first_holds (row ∷ front) test refusal back h holds =
+    ap (option_map (λ (row : Bool × EditRefusal). row.1)) (cond-false row.0 (Some row) (find (λ (row : Bool × EditRefusal). row.0) (front ++ ((test, refusal) ∷ back))) h.0)
+    ∙ first_holds front test refusal back h.1 holds
+
+-- ---- an edit that isn't refused
+
+pub record IsAccepted (before after : List Listed) (next : ℕ) (edit : Edit) : Type 0 where
+  pub known : is_some (target edit before) ≡ true
+  pub on_text : at_target (is_not_text edit) (target edit before) ≡ false
+  pub in_other : at_target (is_in_text edit) (target edit before) ≡ false
+  pub within : at_target (is_past edit) (target edit before) ≡ false
+  pub movable : at_target (is_fixed edit) (target edit before) ≡ false
+  pub named : is_misnamed edit ≡ false
+  pub left_to_right : is_right_to_left edit ≡ false
+  pub short : is_long edit ≡ false
+  pub shallow : is_deep after ≡ false
+  pub small : is_large after ≡ false
+  pub left : nat_lt (2 ^ 32) next ≡ false
+
+pub passed : (before after : List Listed) (next : ℕ) (edit : Edit) → first_refusal before after next edit ≡ None → IsAccepted before after next edit
+passed before after next edit h =
+    let rows = all_fail (refusals before after next edit) h in
+    record {
+      known = not-false (is_some (target edit before)) rows.0;
+      on_text = rows.1.0;
+      in_other = rows.1.1.0;
+      within = rows.1.1.1.0;
+      movable = rows.1.1.1.1.0;
+      named = rows.1.1.1.1.1.0;
+      left_to_right = rows.1.1.1.1.1.1.0;
+      short = rows.1.1.1.1.1.1.1.0;
+      shallow = rows.1.1.1.1.1.1.1.1.0;
+      small = rows.1.1.1.1.1.1.1.1.1.0;
+      left = rows.1.1.1.1.1.1.1.1.1.1.0;
+    }
+
+abbrev pub AcceptedBy : TreeValue → Edit → Type 0
+AcceptedBy tree edit = IsAccepted (listed 1 tree.root) (listed 1 (edited tree edit).root) (edited tree edit).next_id edit
+
+pub accepted : (tree : TreeValue) (edit : Edit) → refusal_of tree edit ≡ None → AcceptedBy tree edit
+unfolding refusal_of
+accepted tree edit h = passed (listed 1 tree.root) (listed 1 (edited tree edit).root) (edited tree edit).next_id edit h
