@@ -22,3 +22,5 @@ pub mod Sizes
 -- an edit that isn't refused leaves a whole tree
 pub mod Refusals
 pub mod Reached
+pub mod ProperHeads
+pub mod StaysWhole
