@@ -3,16 +3,16 @@
 use Rattle.std.proofs.Common.{◌≡◌, ◌∙◌, sym, ap, refl, inl, inr, ℕ, suc, ◌+◌, List, [], ◌∷◌, slice_get, Bool, true, Some, is_some, true≢false}
 use Rattle.std.proofs.lemmas.Bool.{cases_Bool, or_cases}
 use Rattle.std.proofs.lemmas.List.Folds.{list_any-append}
+use Rattle.std.proofs.lemmas.Option.{same_Some}
 use Rattle.std.specs.List.{AllByRecursion, flat_map, list_any}
 use Rattle.std.specs.Option.{option_and_then}
+use Rattle.std.specs.Prelude.{slice_set}
 use Rattle.math_tree.proofs.Nodes.{by_children, listed_element}
 use Rattle.math_tree.specs.Trees.{Listed, listed}
 use Rattle.math_tree.specs.declared.node.Head.{Head}
 use Rattle.math_tree.specs.declared.node.Node.{Node}
 use Rattle.tree_edits.proofs.Frames.{changed_below, down, head_rolled}
 use Rattle.tree_edits.proofs.Target.{first_of_id, found_nowhere}
-use Rattle.std.proofs.lemmas.Option.{same_Some}
-use Rattle.std.specs.Prelude.{slice_set}
 use Rattle.tree_edits.specs.Edits.{has_id, head_of}
 use Rattle.tree_edits.specs.Paths.{children_of, node_at, changed_at}
 

@@ -1,9 +1,9 @@
 -- Edits of a small tree, and each reason for which one is refused.
-use Rattle.std.proofs.Common.{◌≡◌, ◌∙◌, refl, ap, map, ℕ, ◌+◌, ◌^◌, List, [], ◌∷◌, Some, None, true, false, codes}
+use Rattle.std.proofs.Common.{◌≡◌, ◌∙◌, refl, ap, map, ℕ, ◌+◌, ◌^◌, List, [], ◌∷◌, length, Some, None, true, false, codes}
 use Rattle.math_tree.proofs.OnLiterals.{math_tree_on_literals}
-use Rattle.math_tree.specs.Print.{renumbered, renumbered_layer}
+use Rattle.math_tree.specs.Print.{with_id, renumbered, renumbered_layer}
 use Rattle.math_tree.specs.Reading.{Planted}
-use Rattle.math_tree.specs.Trees.{Listed, node}
+use Rattle.math_tree.specs.Trees.{Listed, node, element_count}
 use Rattle.math_tree.specs.declared.attributes.Attribute.{Attribute}
 use Rattle.math_tree.specs.declared.kind.Kind.{Kind}
 use Rattle.math_tree.specs.declared.kind.Kind.TheVariants.{Math, Mi, Mn, Mrow}
@@ -11,7 +11,10 @@ use Rattle.math_tree.specs.declared.node.Head.{Head}
 use Rattle.math_tree.specs.declared.node.Node.{Node}
 use Rattle.math_tree.specs.declared.node.Node.TheFolds.{fold-roll-Node}
 use Rattle.math_tree.specs.declared.node.NodeId.{NodeId}
+use Rattle.tree_edits.proofs.Frames.{children_rolled, head_rolled, listed_out}
+use Rattle.tree_edits.proofs.Renumbered.{all_renumbered, renumbered_out}
 use Rattle.tree_edits.specs.Edits.{made, layer_made, edited_node, is_deep, is_large, first_refusal}
+use Rattle.tree_edits.specs.Paths.{children_of}
 use Rattle.tree_edits.specs.declared.edit.Edit.{Edit}
 use Rattle.tree_edits.specs.declared.edit.Edit.TheVariants.{Text, Attr, Insert, Remove, Replace}
 use Rattle.tree_edits.specs.declared.edit.EditRefusal.{EditRefusal}
@@ -86,6 +89,51 @@ attribute_set = steps (Attr (id 3) (codes "a") (Some (codes "1")))
 -- removing an attribute that isn't there changes nothing
 attribute_absent : Makes (Attr (id 3) (codes "a") None) tree
 attribute_absent = steps (Attr (id 3) (codes "a") None)
+
+abbrev y : ℕ → Node
+y n = node (letter n (codes "y")) []
+
+-- at the end of the row, with the next id
+child_inserted : Makes (Insert (id 3) 1 (y 1)) (formula x (node (row []) (one ∷ y 5 ∷ []) ∷ []))
+child_inserted =
+    steps (Insert (id 3) 1 (y 1))
+    ∙ ap (λ n. formula x (node (row []) (one ∷ n ∷ []) ∷ [])) (leaf_renumbered 5 1 (codes "y"))
+
+-- before all other children
+first_child_inserted : Makes (Insert (id 1) 0 (y 1)) (formula (y 5) (x ∷ node (row []) (one ∷ []) ∷ []))
+first_child_inserted =
+    steps (Insert (id 1) 0 (y 1))
+    ∙ ap (λ n. formula n (x ∷ node (row []) (one ∷ []) ∷ [])) (leaf_renumbered 5 1 (codes "y"))
+
+-- an element with two children, whose ids follow its own
+abbrev pair : ℕ → ℕ → ℕ → Node
+pair n first second = node (head n (codes "mrow") Mrow [] []) (y first ∷ y second ∷ [])
+
+one_element : (n : ℕ) → element_count (y n) ≡ 1
+one_element n = ap length (listed_out 1 (letter n (codes "y")) [])
+
+pair_renumbered : renumbered 5 (pair 1 2 3) ≡ pair 5 6 7
+pair_renumbered =
+    renumbered_out 5 (pair 1 2 3)
+    ∙ ap (λ h. node (with_id 5 h) (all_renumbered 6 (children_of (pair 1 2 3)))) (head_rolled (head 1 (codes "mrow") Mrow [] []) (y 2 ∷ y 3 ∷ []))
+    ∙ ap (λ l. node (head 5 (codes "mrow") Mrow [] []) (all_renumbered 6 l)) (children_rolled (head 1 (codes "mrow") Mrow [] []) (y 2 ∷ y 3 ∷ []))
+    ∙ ap (λ n. node (head 5 (codes "mrow") Mrow [] []) (renumbered 6 (y 2) ∷ renumbered (6 + n) (y 3) ∷ [])) (one_element 2)
+    ∙ (λ i. node (head 5 (codes "mrow") Mrow [] []) (leaf_renumbered 6 2 (codes "y") i ∷ leaf_renumbered 7 3 (codes "y") i ∷ []))
+
+pair_inserted : Makes (Insert (id 1) 2 (pair 1 2 3)) (formula x (node (row []) (one ∷ []) ∷ pair 5 6 7 ∷ []))
+pair_inserted =
+    steps (Insert (id 1) 2 (pair 1 2 3))
+    ∙ ap (λ n. formula x (node (row []) (one ∷ []) ∷ n ∷ [])) pair_renumbered
+
+child_removed : Makes (Remove (id 4)) (formula x (node (row []) [] ∷ []))
+child_removed = steps (Remove (id 4)) ∙ simp head_rolled
+
+-- with all below it
+row_removed : Makes (Remove (id 3)) (formula x [])
+row_removed = steps (Remove (id 3)) ∙ simp head_rolled
+
+child_replaced : Makes (Replace (id 2) (y 1)) (formula (y 5) (node (row []) (one ∷ []) ∷ []))
+child_replaced = steps (Replace (id 2) (y 1)) ∙ simp (head_rolled, leaf_renumbered)
 
 -- ---- why an edit is refused
 
