@@ -24,3 +24,5 @@ pub mod Refusals
 pub mod Reached
 pub mod ProperHeads
 pub mod StaysWhole
+-- a change that takes another back
+pub mod Inverse

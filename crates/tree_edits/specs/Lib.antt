@@ -4,3 +4,4 @@ pub mod Edits
 pub mod Laws
 pub mod Paths
 pub mod Spare
+pub mod Undoing
