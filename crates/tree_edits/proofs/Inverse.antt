@@ -1,5 +1,5 @@
 -- A change that takes another back gives the element, and the tree, as they were.
-use Rattle.std.proofs.Common.{◌≡◌, ◌∙◌, sym, ap, refl, subst, ℕ, zero, suc, ◌+◌, ◌<◌, ◌≤◌, List, [], ◌∷◌, length, slice_get, slice_set, true, false, not, cond, Ordering, Less, Equal, Greater, Option, Some, None, option_map, arith}
+use Rattle.std.proofs.Common.{◌≡◌, ◌∙◌, sym, ap, refl, subst, ℕ, zero, suc, ◌+◌, ◌≤◌, List, [], ◌∷◌, length, slice_get, slice_set, true, false, not, cond, Ordering, Less, Equal, Greater, Option, Some, None, option_map, arith}
 use Rattle.std.proofs.lemmas.Cmp.{nat_list_cmp_total, tied_itself}
 use Rattle.std.proofs.lemmas.List.{length-set}
 use Rattle.std.proofs.lemmas.List.Edits.{length-insert, length-remove}
@@ -52,17 +52,17 @@ got_again (z ∷ xs) (suc i) x y at = got_again xs i x y at
 
 -- ---- an attribute that is set or removed
 
-abbrev IsBelow : List ℕ → List ℕ → Type 0
+abbrev pub IsBelow : List ℕ → List ℕ → Type 0
 IsBelow name other = compare name other ≡ Less
 
 -- a name before all of these
-abbrev IsBeforeAll : List ℕ → List Attribute → Type 0
+abbrev pub IsBeforeAll : List ℕ → List Attribute → Type 0
 IsBeforeAll name attributes = AllByRecursion (IsBelow name) (names_of attributes)
 
 turned : (a b : List ℕ) (o : Ordering) → compare a b ≡ o → compare b a ≡ ordering_reverse o
 turned a b o e = nat_list_cmp_total.antisymm b a ∙ ap ordering_reverse e
 
-same_name : (a b : List ℕ) → compare a b ≡ Equal → a ≡ b
+pub same_name : (a b : List ℕ) → compare a b ≡ Equal → a ≡ b
 same_name a b e = (bytes_eq-Decides a b).0 (tested a b Equal e)
 
 itself : (a : List ℕ) → bytes_eq a a ≡ true
@@ -75,33 +75,33 @@ other_below name other e = tested other name Greater (turned name other Less e)
 other_above : (name other : List ℕ) → compare name other ≡ Greater → bytes_eq other name ≡ false
 other_above name other e = tested other name Less (turned name other Greater e)
 
-further : (a b : List ℕ) (names : List (List ℕ)) → IsBelow a b → AllByRecursion (IsBelow b) names → AllByRecursion (IsBelow a) names
+pub further : (a b : List ℕ) (names : List (List ℕ)) → IsBelow a b → AllByRecursion (IsBelow b) names → AllByRecursion (IsBelow a) names
 further a b [] less h = tt
 further a b (name ∷ names) less h = (nat_list_cmp_total.trans a b name less h.0, further a b names less h.1)
 
-value_absent : (name : List ℕ) (xs : List Attribute) → IsBeforeAll name xs → value_of name xs ≡ None
+pub value_absent : (name : List ℕ) (xs : List Attribute) → IsBeforeAll name xs → value_of name xs ≡ None
 value_absent name [] h = refl
 value_absent name (x ∷ xs) h = rw (other_below name x.name h.0) (value_absent name xs h.1)
 
-without_absent : (name : List ℕ) (xs : List Attribute) → IsBeforeAll name xs → without name xs ≡ xs
+pub without_absent : (name : List ℕ) (xs : List Attribute) → IsBeforeAll name xs → without name xs ≡ xs
 without_absent name [] h = refl
 without_absent name (x ∷ xs) h = rw (other_below name x.name h.0) (ap (◌∷◌ x) (without_absent name xs h.1))
 
-put_first : (a : Attribute) (xs : List Attribute) → IsBeforeAll a.name xs → put a xs ≡ a ∷ xs
+pub put_first : (a : Attribute) (xs : List Attribute) → IsBeforeAll a.name xs → put a xs ≡ a ∷ xs
 put_first a [] h = refl
 put_first a (x ∷ xs) h = rw h.0 refl
 
 -- an attribute of a name further on leaves the first one
-further_on : (name : List ℕ) (value : Option (List ℕ)) (x : Attribute) (xs : List Attribute) → compare name x.name ≡ Greater
+pub further_on : (name : List ℕ) (value : Option (List ℕ)) (x : Attribute) (xs : List Attribute) → compare name x.name ≡ Greater
     → with_value name value (x ∷ xs) ≡ x ∷ with_value name value xs
 further_on name (Some value) x xs e = rw e refl
 further_on name None x xs e = rw (other_above name x.name e) refl
 
-value_further_on : (name : List ℕ) (x : Attribute) (xs : List Attribute) → compare name x.name ≡ Greater → value_of name (x ∷ xs) ≡ value_of name xs
+pub value_further_on : (name : List ℕ) (x : Attribute) (xs : List Attribute) → compare name x.name ≡ Greater → value_of name (x ∷ xs) ≡ value_of name xs
 value_further_on name x xs e = rw (other_above name x.name e) refl
 
 -- the first of another name is dropped from before the others
-dropped : (a : Attribute) (xs : List Attribute) → without a.name (a ∷ xs) ≡ without a.name xs
+pub dropped : (a : Attribute) (xs : List Attribute) → without a.name (a ∷ xs) ≡ without a.name xs
 dropped a xs = rw (itself a.name) refl
 
 absent_again : (name : List ℕ) (value : Option (List ℕ)) (xs : List Attribute) → IsBeforeAll name xs → with_value name None (with_value name value xs) ≡ xs
@@ -122,7 +122,7 @@ here_again name value x xs same h = rw same (by value)
     by (Some value) = rw (tied, tied) refl
     by None = ap (put x) (dropped x xs ∙ without_absent x.name xs h) ∙ put_first x xs h
 
-value_here : (name : List ℕ) (x : Attribute) (xs : List Attribute) → compare name x.name ≡ Equal → value_of name (x ∷ xs) ≡ Some x.value
+pub value_here : (name : List ℕ) (x : Attribute) (xs : List Attribute) → compare name x.name ≡ Equal → value_of name (x ∷ xs) ≡ Some x.value
 value_here name x xs e = rw (tested x.name name Equal (turned name x.name Equal e)) refl
 
 module _ (name : List ℕ) (value : Option (List ℕ)) where
@@ -241,21 +241,6 @@ module _ (element : Node) where
       let found = child_at index former was in
       let same = ap length (children_rolled head (slice_set kids index child)) ∙ length-set kids index child in
       subst (λ f. Fits (undo_of (SwapChild index child) room f) (changed (SwapChild index child) element)) (sym found.2) (omega (arith, same, fits))
-
--- room for one attribute more than there are
-pub room_for_value : (name : List ℕ) (value : Option (List ℕ)) (own room : ℕ) (element : Node) → length (head_of element).attributes + 1 < room
-    → HasRoom (SetValue name value own) room element
-room_for_value name value own room element more =
-    let most = length_with_value name value (head_of element).attributes in
-    let is = ap (λ (l : Node-F Node). length l.head.attributes) (out-roll-Node record { head = with_attribute name value (head_of element); children = children_of element }) in
-    omega (arith, most, is, more)
-
--- room for as many children as there are
-pub room_for_child : (index room : ℕ) (element : Node) → index < length (children_of element) → length (children_of element) ≤ room → HasRoom (TakeChild index) room element
-room_for_child index room element within some =
-    let less = length-remove (children_of element) index within in
-    let is = ap length (children_rolled (head_of element) (remove (children_of element) index)) in
-    omega (arith, less, is, within, some)
 
 -- ---- at the end of a path
 

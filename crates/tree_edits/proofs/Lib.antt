@@ -26,3 +26,14 @@ pub mod ProperHeads
 pub mod StaysWhole
 -- a change that takes another back
 pub mod Inverse
+-- how much there is in an element, and new ids
+mod Measuring
+mod NewIds
+-- the numbers of an edited tree, the change that an edit is, and the first reason against it
+mod AttributeBytes
+mod PathEnds
+mod Totalling
+mod Stepping
+mod Reasoning
+mod Plans
+mod WaysOut

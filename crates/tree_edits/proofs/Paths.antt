@@ -1,5 +1,5 @@
 -- Ways down a tree, one step at a time.
-use Rattle.std.proofs.Common.{◌≡◌, ◌∙◌, sym, ap, refl, subst, ℕ, zero, suc, ◌+◌, ◌-◌, ◌<◌, ◌≤◌, List, [], ◌∷◌, ◌++◌, length, get_or, max, slice_get, take, drop, Bool, true, false, ◌||◌, Option, Some, None, arith, add-one}
+use Rattle.std.proofs.Common.{◌≡◌, ◌∙◌, sym, ap, refl, subst, ℕ, zero, suc, ◌+◌, ◌-◌, ◌<◌, ◌≤◌, List, [], ◌∷◌, ◌++◌, length, get_or, max, slice_get, take, drop, Bool, true, false, ◌||◌, Option, Some, None, is_some, arith, add-one}
 use Rattle.std.proofs.lemmas.List.{take_all}
 use Rattle.std.proofs.lemmas.Option.{slice_get_within, none-some, same_Some}
 use Rattle.std.specs.List.{AllByRecursion, flat_map, list_any}
@@ -125,3 +125,21 @@ fits_below change path from some fits =
     let at = ap (λ p. node_at p from) (sym (split path some)) ∙ fits.at in
     let below = below_in change first rest (slice_get (children_of from) first) fits.element at fits.fits in
     record { child = below.0; at = below.1; fits = below.2 }
+
+-- where a way leads to an element, there is a child at its first place, and the rest leads there
+pub record LeadsBelow (path : List ℕ) (from : Node) : Type 0 where
+  pub child : Node
+  pub at : slice_get (children_of from) (get_or path 0 0) ≡ Some child
+  pub rest : node_at path from ≡ node_at (take (length path - 1) (drop 1 path)) child
+
+child_in : (rest : List ℕ) (o : Option Node) → is_some (option_and_then (node_at rest) o) ≡ true → (child : Node) × (o ≡ Some child)
+child_in rest None h = cc
+child_in rest (Some child) h = (child, refl)
+
+pub leads_below : (path : List ℕ) (from : Node) → (length path ≡ 0 → ⊥) → is_some (node_at path from) ≡ true → LeadsBelow path from
+leads_below path from some h =
+    let first = get_or path 0 0 in
+    let rest = take (length path - 1) (drop 1 path) in
+    let same = ap (λ p. node_at p from) (split path some) in
+    let found = child_in rest (slice_get (children_of from) first) (ap is_some (sym same) ∙ h) in
+    record { child = found.0; at = found.1; rest = same ∙ ap (option_and_then (node_at rest)) found.1 }

@@ -3,5 +3,9 @@ pub mod Commands
 pub mod Edits
 pub mod Laws
 pub mod Paths
+pub mod Planning
+pub mod Reasons
+pub mod Sizes
 pub mod Spare
 pub mod Undoing
+pub mod WaysBack

@@ -2,10 +2,13 @@
 ghost use Rattle.std.specs.Prelude.{◌≡◌, None, IfOk, IfErr, OnOk, OnErr};
 ghost use Rattle.tree_edits.specs.Applying.{CanRestore, IsProperEdit, IsReason, Undoes, restored};
 ghost use Rattle.tree_edits.specs.Edits.{edited, refusal_of};
+ghost use Rattle.tree_edits.specs.Planning.{planned, CanCarryOut};
 
-use crate::change::carry_out_at;
+use crate::change::{Change, carry_out_at};
+use crate::path::Path;
+use crate::planning::{Plan, Step};
 use crate::spare::Spare;
-use crate::{Change, Edit, EditRefusal, Path};
+use crate::{Edit, EditRefusal};
 use math_tree::Tree;
 use std::alloc::Global;
 use std::marker::Model;
@@ -49,7 +52,37 @@ pub fn apply(alloc: Global, tree: &mut Tree, edit: Edit) -> Result<Taken, EditRe
     ensures refused { IfErr result (IsReason tree.old edit) }
     ensures unchanged { OnErr result (tree.new ≡ tree.old) }
 {
-    Err(EditRefusal::Memory)
+    let plan = Plan::make(alloc, tree, edit)?;
+    Ok(carry_out_plan(tree, plan))
+}
+
+/// Carries a plan out. It takes no memory.
+#[tactic(auto, using(crate::proofs::StandIn::stands_in))]
+fn carry_out_plan(tree: &mut Tree, plan: Plan) -> Taken
+    requires { CanCarryOut plan tree.old }
+    ensures tree { tree.new ≡ planned plan tree.old }
+    ensures taken { Undoes result tree.new tree.old }
+{
+    let Plan {
+        step,
+        next_id,
+        elements,
+        bytes,
+        spare,
+    } = plan;
+    let Step { path, change, back } = step;
+    let before = (tree.next_id(), tree.elements(), tree.bytes());
+    let mut root = tree.exchange(spare.into_root(), 2, 1, 4);
+    let former = carry_out_at(&mut root, path.as_slice(), change);
+    let stand_in = tree.exchange(root, next_id, elements, bytes);
+    Taken {
+        path,
+        change: back.undoing(former),
+        next_id: before.0,
+        elements: before.1,
+        bytes: before.2,
+        spare: Spare::of(stand_in),
+    }
 }
 
 /// Gives back the tree before an edit, with its next id. It takes no memory.

@@ -1,3 +1,6 @@
+ghost use Rattle.std.specs.Prelude.{◌≡◌};
+ghost use Rattle.tree_edits.specs.Edits.{named};
+
 use fixed_units::{Memory, Txt};
 use math_tree::{Node, NodeId};
 use thiserror::Error;
@@ -17,6 +20,21 @@ pub enum Edit {
     Remove(NodeId),
     /// Puts an element in place of another. It gets new ids, with all below it.
     Replace(NodeId, Node),
+}
+
+impl Edit {
+    /// The id of the element that it names.
+    pub(crate) fn named(&self) -> NodeId
+        ensures { result.0 ≡ named self.now }
+    {
+        match self {
+            Edit::Text(id, _)
+            | Edit::Attr(id, _, _)
+            | Edit::Insert(id, _, _)
+            | Edit::Remove(id)
+            | Edit::Replace(id, _) => *id,
+        }
+    }
 }
 
 /// Why an edit is refused, in the order in which it is looked for; the tree is then as it was.

@@ -22,9 +22,15 @@ mod command; // Command, CommandRefusal
 mod edit; // Edit, EditRefusal
 mod keys; // what a line says under each key
 pub mod laws; // of the definitions
+mod numbering; // ids of new elements
 mod path; // ways down a tree
+mod planning; // an edit before it is carried out
 mod read;
+mod reasons; // against an edit at an element
+mod measure; // elements, bytes and levels
+mod totals; // of an edited tree
 mod spare; // a root for the meantime
+mod way_back; // what undoing takes
 
 pub use applying::{Taken, apply, restore};
 pub use change::{Change, Former, carry_out_at};

@@ -1,8 +1,8 @@
-ghost use Rattle.std.specs.Prelude.{◌≡◌, ◌≤◌, ◌<◌, ◌∷◌, [], length};
+ghost use Rattle.std.specs.Prelude.{◌≡◌, ◌≤◌, ◌<◌, ◌+◌, ◌∷◌, ◌++◌, [], length, is_some, true, Some};
 ghost use Rattle.std.specs.List.{AllByRecursion};
 ghost use Rattle.math_tree.specs.Forms.{most_levels};
 ghost use Rattle.math_tree.specs.Trees.{listed};
-ghost use Rattle.tree_edits.specs.Paths.{Finds};
+ghost use Rattle.tree_edits.specs.Paths.{Finds, node_at};
 
 use arrayvec::ArrayVec;
 use math_tree::{Node, NodeId};
@@ -42,6 +42,22 @@ impl Path {
         self
     }
 
+    /// The level of the element that it leads to, where it begins at the root, which has level 1.
+    pub fn level(&self) -> u32
+        ensures { result ≡ 1 + length self.now }
+    {
+        self.places.len() as u32 + 1
+    }
+
+    /// The way to the element right over the one that it leads to, and the place of that one there.
+    pub fn split(mut self) -> (Path, usize)
+        requires { 1 ≤ length self }
+        ensures { self ≡ result.0 ++ result.1 ∷ [] }
+    {
+        let place = self.places.pop().unwrap();
+        (self, place)
+    }
+
     /// The places, from the highest down.
     pub fn as_slice(&self) -> &[usize]
         ensures { result.now ≡ self.now }
@@ -66,4 +82,16 @@ pub fn path_to(node: &Node, id: NodeId, level: usize) -> Option<Path>
         }
     }
     None
+}
+
+/// The element at the end of a way.
+pub fn element_at<'a>(node: &'a Node, path: &[usize]) -> &'a Node
+    requires { is_some (node_at path.now node.now) ≡ true }
+    ensures { node_at path.now node.now ≡ Some result.now }
+{
+    if path.len() == 0 {
+        node
+    } else {
+        element_at(&node.children.as_slice()[path[0]], &path[1..])
+    }
 }

@@ -47,6 +47,14 @@ impl Spare {
         })
     }
 
+    /// The one that such a root is.
+    pub fn of(root: Node) -> Spare
+        requires { root ≡ spare_root }
+        ensures { result ≡ root }
+    {
+        Spare { root }
+    }
+
     /// The root itself.
     pub fn into_root(self) -> Node
         ensures { result ≡ spare_root }

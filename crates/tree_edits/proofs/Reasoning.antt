@@ -1,0 +1,139 @@
+-- Which reason against an edit is the first.
+use Rattle.std.proofs.Common.{◌≡◌, ◌∙◌, sym, ap, refl, subst, inl, inr, ℕ, ◌+◌, ◌-◌, ◌^◌, ◌<◌, ◌≤◌, List, [], ◌∷◌, ◌++◌, length, Bool, true, false, cond, nat_lt, Option, Some, None, arith}
+use Rattle.std.proofs.lemmas.Bool.{cases_lt, lt-ltb, le-ltb, ltb-false, or_parts}
+use Rattle.std.proofs.lemmas.Option.{none-some, same_Some}
+use Rattle.std.specs.List.{find, list_any}
+use Rattle.std.specs.Option.{option_map}
+use Rattle.math_tree.specs.Forms.{most_levels, most_elements, most_bytes}
+use Rattle.math_tree.specs.Trees.{TreeValue, IsWhole, listed, byte_count, element_count}
+use Rattle.math_tree.specs.declared.node.Node.{Node}
+use Rattle.tree_edits.proofs.Refusals.{all_fail}
+use Rattle.tree_edits.proofs.Target.{found_at, found_nowhere}
+use Rattle.tree_edits.specs.Edits.{named, has_id, head_of, edited, is_deep, refusal_of}
+use Rattle.tree_edits.specs.Paths.{node_at, LeadsTo}
+use Rattle.tree_edits.specs.Planning.{Allows}
+use Rattle.tree_edits.specs.Reasons.{broken_limit, first_reason, limits, own_reason, own_reasons, shown}
+use Rattle.tree_edits.specs.Sizes.{capped, totals_of}
+use Rattle.tree_edits.specs.declared.edit.Edit.{Edit}
+use Rattle.tree_edits.specs.declared.edit.EditRefusal.{EditRefusal}
+use Rattle.tree_edits.specs.declared.edit.EditRefusal.TheVariants.{UnknownNode}
+use Rattle.tree_edits.specs.declared.totals.Totals.{Totals}
+
+-- ---- the first of two lists
+
+reason_by : (test : Bool) (row : Bool × EditRefusal) (some rest : Option (Bool × EditRefusal)) (more : Option (Bool × EditRefusal)) (reason : EditRefusal)
+    → option_map (λ row. row.1) (cond test (Some row) some) ≡ Some reason
+    → (option_map (λ row. row.1) some ≡ Some reason → option_map (λ row. row.1) more ≡ Some reason)
+    → option_map (λ row. row.1) (cond test (Some row) more) ≡ Some reason
+reason_by true row some rest more reason h each = h
+reason_by false row some rest more reason h each = each h
+
+pub first_of_front : (front back : List (Bool × EditRefusal)) (reason : EditRefusal) → first_reason front ≡ Some reason
+    → first_reason (front ++ back) ≡ Some reason
+first_of_front [] back reason h = absurd (none-some reason h)
+first_of_front (row ∷ front) back reason h =
+    reason_by row.0 row (find (λ (r : Bool × EditRefusal). r.0) front) None (find (λ (r : Bool × EditRefusal). r.0) (front ++ back)) reason h
+    (first_of_front front back reason)
+
+none_by : (test : Bool) (row : Bool × EditRefusal) (some more : Option (Bool × EditRefusal)) (meant : Option EditRefusal)
+    → option_map (λ row. row.1) (cond test (Some row) some) ≡ None
+    → (option_map (λ row. row.1) some ≡ None → option_map (λ row. row.1) more ≡ meant)
+    → option_map (λ row. row.1) (cond test (Some row) more) ≡ meant
+none_by true row some more meant h each = absurd (none-some row.1 (sym h))
+none_by false row some more meant h each = each h
+
+pub first_of_back : (front back : List (Bool × EditRefusal)) → first_reason front ≡ None → first_reason (front ++ back) ≡ first_reason back
+first_of_back [] back h = refl
+first_of_back (row ∷ front) back h =
+    none_by row.0 row (find (λ (r : Bool × EditRefusal). r.0) front) (find (λ (r : Bool × EditRefusal). r.0) (front ++ back)) (first_reason back) h
+    (first_of_back front back)
+
+-- ---- limits, by numbers of 64 bits
+
+capped_lt : (bound n : ℕ) → bound < 2 ^ 64 - 1 → nat_lt bound (capped n) ≡ nat_lt bound n
+capped_lt bound n small = elim (cases_lt bound n) [
+  | inl more ↦ lt-ltb bound (capped n) (omega (arith, more, small)) ∙ sym (lt-ltb bound n more)
+  | inr less ↦ le-ltb bound (capped n) (omega (arith, less)) ∙ sym (le-ltb bound n less)
+]
+
+pub capped_limit : (deep : Bool) (elements bytes next : ℕ) → broken_limit deep (capped elements) (capped bytes) (capped next) ≡ broken_limit deep elements bytes next
+capped_limit deep elements bytes next =
+    rw (capped_lt most_elements elements (omega arith), capped_lt most_bytes bytes (omega arith), capped_lt (2 ^ 32) next (omega arith)) refl
+
+-- ---- the element that an edit names
+
+pub record IsNamed (edit : Edit) (tree : TreeValue) (path : List ℕ) (element : Node) : Type 0 where
+  pub whole : IsWhole tree
+  pub at : node_at path tree.root ≡ Some element
+  pub has : has_id (named edit) (head_of element) ≡ true
+  pub short : 1 + length path ≤ most_levels
+
+-- the way that was found leads to it
+pub is_named : (edit : Edit) (tree : TreeValue) (id : ℕ) (root top : Node) (path places : List ℕ) (found : Node) → IsWhole tree → root ≡ tree.root
+    → id ≡ named edit → LeadsTo id 1 root path → top ≡ tree.root → places ≡ path → node_at places top ≡ Some found → IsNamed edit tree path found
+is_named edit tree id root top path places found whole root_is id_is leads top_is places_are at =
+    let same : leads.element ≡ found = same_Some leads.element found (sym leads.at ∙ ap (node_at path) (root_is ∙ sym top_is) ∙ ap (λ p. node_at p top) (sym places_are) ∙ at) in
+    record {
+      whole = whole;
+      at = ap (node_at path) (sym root_is) ∙ leads.at ∙ ap Some same;
+      has = subst (λ n. has_id (named edit) (head_of n) ≡ true) same (subst (λ i. has_id i (head_of leads.element) ≡ true) id_is leads.has);
+      short = leads.short;
+    }
+
+pub allows_it : (edit : Edit) (tree : TreeValue) (path : List ℕ) (element : Node) → IsNamed edit tree path element
+    → own_reason edit (shown (1 + length path) element) ≡ None → Allows edit tree path element
+allows_it edit tree path element is own = record { whole = is.whole; at = is.at; has = is.has; short = is.short; own = own }
+
+-- ---- the first reason against an edit
+
+pub unknown_node : (tree : TreeValue) (edit : Edit) → list_any (λ e. has_id (named edit) e.head) (listed 1 tree.root) ≡ false
+    → refusal_of tree edit ≡ Some UnknownNode
+unfolding refusal_of
+unknown_node tree edit h = rw (found_nowhere (named edit) (listed 1 tree.root) h) refl
+
+-- the limits that the edited tree would break
+abbrev edited_limits : TreeValue → Edit → List (Bool × EditRefusal)
+edited_limits tree edit =
+    let after = edited tree edit in
+    limits (is_deep (listed 1 after.root)) (element_count after.root) (byte_count after.root) after.next_id
+
+-- the reasons that lie in the edit and its element, and then the limits
+parted : (tree : TreeValue) (edit : Edit) (path : List ℕ) (element : Node) → IsWhole tree → node_at path tree.root ≡ Some element
+    → has_id (named edit) (head_of element) ≡ true
+    → refusal_of tree edit ≡ first_reason (own_reasons edit (shown (1 + length path) element) ++ edited_limits tree edit)
+unfolding refusal_of
+parted tree edit path element whole at has = rw (found_at tree (named edit) path element whole at has) refl
+
+pub own_first : (tree : TreeValue) (edit : Edit) (path : List ℕ) (element : Node) (reason : EditRefusal) → IsNamed edit tree path element
+    → own_reason edit (shown (1 + length path) element) ≡ Some reason
+    → refusal_of tree edit ≡ Some reason
+own_first tree edit path element reason is own =
+    parted tree edit path element is.whole is.at is.has ∙ first_of_front (own_reasons edit (shown (1 + length path) element)) (edited_limits tree edit) reason own
+
+-- where no such reason lies there, the first limit that is broken
+pub limit_first : (tree : TreeValue) (edit : Edit) (path : List ℕ) (element : Node) (totals : Totals) → Allows edit tree path element
+    → totals ≡ totals_of (edited tree edit)
+    → refusal_of tree edit ≡ broken_limit totals.deep totals.size.elements totals.size.bytes totals.next_id
+limit_first tree edit path element totals allows is =
+    let after = edited tree edit in
+    parted tree edit path element allows.whole allows.at allows.has
+    ∙ first_of_back (own_reasons edit (shown (1 + length path) element)) (edited_limits tree edit) allows.own
+    ∙ sym (capped_limit (is_deep (listed 1 after.root)) (element_count after.root) (byte_count after.root) after.next_id)
+    ∙ ap (λ (t : Totals). broken_limit t.deep t.size.elements t.size.bytes t.next_id) (sym is)
+
+-- ---- what keeps the limits
+
+pub record Keeps (elements bytes next : ℕ) : Type 0 where
+  pub few : elements ≤ most_elements
+  pub small : bytes ≤ most_bytes
+  pub left : next ≤ 2 ^ 32
+
+pub keeps : (deep : Bool) (elements bytes next : ℕ) → broken_limit deep elements bytes next ≡ None → Keeps elements bytes next
+keeps deep elements bytes next h =
+    let rows = all_fail (limits deep elements bytes next) h in
+    let both = or_parts (nat_lt most_elements elements) (nat_lt most_bytes bytes) rows.1.0 in
+    record {
+      few = ltb-false most_elements elements both.0;
+      small = ltb-false most_bytes bytes both.1;
+      left = ltb-false (2 ^ 32) next rows.1.1.0;
+    }

@@ -1,0 +1,4 @@
+use Rattle.tree_edits.proofs.path.+element_at.Given as goal
+
+abbrev pub decreases-element_at : goal.decreases-element_at
+decreases-element_at l = goal.size-element_at l

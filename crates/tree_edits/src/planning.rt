@@ -1,0 +1,142 @@
+//! An edit as it is planned, by looks at the tree alone. All memory that it and undoing it take is
+//! taken here.
+ghost use Rattle.std.specs.Prelude.{◌≡◌, ◌+◌, ◌≤◌, ◌^◌, length, IfOk, IfErr};
+ghost use Rattle.math_tree.specs.Print.{renumbered};
+ghost use Rattle.math_tree.specs.Trees.{element_count};
+ghost use Rattle.tree_edits.specs.Applying.{IsProperEdit, IsReason};
+ghost use Rattle.tree_edits.specs.Edits.{added, edited};
+ghost use Rattle.tree_edits.specs.Paths.{children_of, FitsAt};
+ghost use Rattle.tree_edits.specs.Planning.{IsAllowed, IsPlan, IsStep, Makes, PutsIn, SetsValue};
+
+use crate::change::Change;
+use crate::numbering::renumber;
+use crate::path::{Path, element_at, path_to};
+use crate::reasons::own_reason;
+use crate::spare::Spare;
+use crate::totals::Totals;
+use crate::way_back::WayBack;
+use crate::{Edit, EditRefusal};
+use fixed_units::{Memory, Room, Txt};
+use math_tree::{Node, Tree};
+use std::alloc::Global;
+
+/// An edit of a tree with all that carrying it out takes.
+#[derive(Drop)]
+pub struct Plan {
+    pub step: Step,
+    /// The next id that the tree then has, and its totals.
+    pub next_id: u64,
+    pub elements: u32,
+    pub bytes: u64,
+    pub spare: Spare,
+}
+
+/// A change of the element at the end of a way, and the way back from it.
+#[derive(Drop)]
+pub struct Step {
+    pub path: Path,
+    pub change: Change,
+    pub back: WayBack,
+}
+
+impl Plan {
+    /// The plan of an edit, or the first reason against it.
+    pub fn make(alloc: Global, tree: &Tree, edit: Edit) -> Result<Plan, EditRefusal>
+        requires { IsProperEdit edit }
+        ensures planned { IfOk result (IsPlan tree.now edit) }
+        ensures refused { IfErr result (IsReason tree.now edit) }
+    {
+        let Some(path) = path_to(tree.root(), edit.named(), 1) else {
+            return Err(EditRefusal::UnknownNode);
+        };
+        let element = element_at(tree.root(), path.as_slice());
+        if let Some(reason) = own_reason(&edit, path.level(), element) {
+            return Err(reason);
+        }
+        let totals = Totals::of_edited(tree, &path, element, &edit);
+        if let Some(reason) = totals.broken_limit() {
+            return Err(reason);
+        }
+        Ok(Plan {
+            step: Step::of_edit(alloc, tree, path, edit)?,
+            next_id: totals.next_id,
+            elements: totals.size.elements as u32,
+            bytes: totals.size.bytes,
+            spare: Spare::make(alloc)?,
+        })
+    }
+}
+
+impl Step {
+    /// The change that an edit is, where the way leads to the element that it names.
+    fn of_edit(alloc: Global, tree: &Tree, path: Path, edit: Edit) -> Result<Step, Memory>
+        requires allowed { IsAllowed edit tree.now path }
+        requires ids { tree.now.next_id + added edit ≤ 2 ^ 32 }
+        ensures { IfOk result (Makes tree.now.root (edited tree.now edit).root) }
+    {
+        match edit {
+            Edit::Text(_, text) => Step::make(alloc, tree, path, Change::SetText(text)),
+            Edit::Attr(_, name, value) => {
+                let element = element_at(tree.root(), path.as_slice());
+                let change = value_change(alloc, element, name, value)?;
+                Step::make(alloc, tree, path, change)
+            }
+            Edit::Insert(_, index, new) => {
+                let element = element_at(tree.root(), path.as_slice());
+                let new = numbered(new, tree.next_id());
+                let change = child_change(alloc, element, index as usize, new)?;
+                Step::make(alloc, tree, path, change)
+            }
+            Edit::Remove(_) => {
+                let (over, place) = path.split();
+                Step::make(alloc, tree, over, Change::TakeChild(place))
+            }
+            Edit::Replace(_, new) => {
+                let (over, place) = path.split();
+                let new = numbered(new, tree.next_id());
+                Step::make(alloc, tree, over, Change::SwapChild(place, new))
+            }
+        }
+    }
+
+    /// A change of the element at the end of a way, with the way back from it.
+    fn make(alloc: Global, tree: &Tree, path: Path, change: Change) -> Result<Step, Memory>
+        requires { FitsAt change path tree.now.root }
+        ensures { IfOk result (IsStep path change tree.now.root) }
+    {
+        let element = element_at(tree.root(), path.as_slice());
+        let back = WayBack::from(alloc, &change, element)?;
+        Ok(Step { path, change, back })
+    }
+}
+
+/// A value for an attribute of an element, with room for the attribute.
+fn value_change(
+    alloc: Global,
+    element: &Node,
+    name: Txt,
+    value: Option<Txt>,
+) -> Result<Change, Memory>
+    ensures { IfOk result (SetsValue name value element.now) }
+{
+    let room = Room::make(alloc, element.head.attributes.as_slice().len() + 1)?;
+    Ok(Change::SetValue(name, value, room))
+}
+
+/// A child for an element at a place, with room for it.
+fn child_change(alloc: Global, element: &Node, index: usize, child: Node) -> Result<Change, Memory>
+    requires { index ≤ length (children_of element.now) }
+    ensures { IfOk result (PutsIn index child element.now) }
+{
+    let room = Room::make(alloc, element.children.as_slice().len() + 1)?;
+    Ok(Change::PutChild(index, child, room))
+}
+
+/// An element with new ids from this one on.
+fn numbered(mut element: Node, id: u64) -> Node
+    requires { id + element_count element ≤ 2 ^ 32 }
+    ensures { result ≡ renumbered id element }
+{
+    renumber(&mut element, id);
+    element
+}
