@@ -1,0 +1,454 @@
+use Rattle.std.proofs.Common.{rules, ◌≡◌, ◌∙◌, refl, sym, ap, subst, ◌<◌, arith, true, false, List, [], map, Option, Some, None, IfNone, IfSome, Err}
+use Rattle.font_metrics.specs.Metrics.{MetricsValue}
+use Rattle.math_tree.specs.declared.node.Node.{Node}
+use Rattle.math_tree.specs.declared.node.Node.TheViews.{size-Node}
+use Rattle.layout_model.specs.Fits.{AreAnswers}
+use Rattle.layout_model.specs.Laws.{answer_of}
+use Rattle.layout_model.specs.declared.context.Context.{Context}
+use Rattle.layout_model.specs.declared.context.Question.{Question}
+use Rattle.layout_model.specs.declared.outcome.Answer.{Answer}
+use Rattle.layout_model.specs.declared.outcome.Outcome.{Outcome}
+use Rattle.layout_core.proofs.Children.{among_all, child_of, few_below, few_children, in_flow, item_of, near, smaller}
+use Rattle.layout_core.proofs.Fits.{answers_are, range_is}
+use Rattle.layout_core.proofs.Waves.{all_fit, broken, fit_more}
+use Rattle.layout_core.proofs.Whole.{answers_all, ones_false, range_waves, size_false, twos_false}
+use Rattle.kept_results.specs.Contexts.{IsProper}
+use Rattle.kept_results.specs.Kept.{IsKept, IsMissing, NamesKept}
+use Rattle.kept_results.specs.Looking.{HasAnswer}
+use Rattle.kept_results.specs.Passes.{AnswersNeed, Needs, Pair, Passes}
+use Rattle.kept_results.specs.declared.memo.Memo.{Memo}
+use Rattle.kept_results.specs.declared.memo.Memo.TheViews.{out-Memo}
+use Rattle.kept_results.proofs.Agreement.{agrees_child, has_added}
+use Rattle.kept_results.proofs.Lists.{all_then}
+use Rattle.kept_results.proofs.Passing.{fresh_live, pair_at, passes_added, passes_both, passes_none, passes_partly, passes_step, passes_under, under}
+use Rattle.kept_results.proofs.Turns.{Waves, child_in_flow, kept_answers, kept_fits, kept_more, missing_same, names_still, needed_below, ones_proper, own_entries, own_mark, pass_ones, pass_twos, sound_made, suits_child, told_more, twos_proper, waves_fit, waves_lay, waves_unfit}
+use Rattle.kept_results.proofs.relay.+relay.Goals as goal
+
+none_of : (found : Option Answer) (P : Type 0) → IfNone found P → ((answer : Answer) → found ≡ Some answer → ⊥) → P
+none_of None P h other = h
+none_of (Some answer) P h other = absurd (other answer refl)
+
+some_of : (found : Option Answer) (answer : Answer) (P : Answer → Type 0) → found ≡ Some answer → IfSome found P → P answer
+some_of found answer P e h = subst (λ (o : Option Answer). IfSome o P) e h
+
+own_need : (m : MetricsValue) (node : Node) (context : Context) → Needs m node context (pair_at [] context)
+own_need m node context = record { element = node; made = (refl, refl) }
+
+-- ---- one question after another
+
+pub relay_all-loop-asked-init : goal.relay_all-loop-asked-init
+relay_all-loop-asked-init g t c =
+    record {
+      told = c.make-answers.ensures;
+      fit = refl;
+      passes = passes_none c.args.metrics.now c.args.node.now (AnswersNeed c.args.metrics.now c.args.node.now c.args.asks.now) c.args.memo.now c.args.steps.now true c.requires.agrees;
+      own = refl;
+      marked = refl;
+      kept = tt;
+    }
+
+pub relay_all-at_mut-below-requires : goal.relay_all-at_mut-below-requires
+relay_all-at_mut-below-requires g t c =
+    let m = c.args.metrics.now in
+    let node = c.args.node.now in
+    let n = child_of _ node _ _ c.requires.shown c.node_at-kid.ensures in
+    let p = child_of _ node _ _ c.requires.shown c.place.ensures in
+    omega (arith, near node _ _ _ n p, (c.loop-asked.invariant.passes.agrees.at [] node c.loop-asked.memo (refl, refl)).as_many)
+
+pub relay_all-relay_element-requires : goal.relay_all-relay_element-requires
+relay_all-relay_element-requires g t c κs within =
+    let m = c.args.metrics.now in
+    let node = c.args.node.now in
+    let n = child_of _ node _ _ c.requires.shown c.node_at-kid.ensures in
+    let p = child_of _ node _ _ c.requires.shown c.place.ensures in
+    let q = c.asked-item.result in
+    let kid = c.node_at-kid.result.now in
+    let falls : size-Node kid < size-Node node = smaller node _ _ _ n p in
+    let agrees = agrees_child m node c.loop-asked.memo c.place.result kid c.at_mut-below.result.now c.loop-asked.invariant.passes.agrees (among_all node _ _ _ n p) c.at_mut-below.ensures.value in
+    let few = few_below node _ _ _ n p in
+    let proper = item_of (IsProper m node) _ _ c.loop-asked.asked-index q c.requires.proper c.as_slice-asked-items.ensures c.loop-asked-test.true c.asked-item.is in
+    (omega arith, (search rules, (agrees, (omega (arith, few, c.requires.few), suits_child node kid q.kid c.place.result n p m q refl proper))))
+
+pub relay_all-returns-in_err-answer-clause-passes : goal.relay_all-returns-in_err-answer-clause-passes
+relay_all-returns-in_err-answer-clause-passes g t c =
+    let m = c.args.metrics.now in
+    let node = c.args.node.now in
+    let n = child_of _ node _ _ c.requires.shown c.node_at-kid.ensures in
+    let p = child_of _ node _ _ c.requires.shown c.place.ensures in
+    let memo = c.loop-asked.memo in
+    let place = c.place.result in
+    let items = c.as_slice-asked-items.result.now in
+    let i = c.loop-asked.asked-index in
+    let q = c.asked-item.result in
+    let kid = c.node_at-kid.result.now in
+    let to = child_in_flow node kid q.kid place n p in
+    let at = among_all node kid q.kid place n p in
+    let need : (pair : Pair) → Needs m kid q.context pair → AnswersNeed m node c.args.asks.now (under place pair) =
+    λ pair h. subst (λ (asks : List Question). AnswersNeed m node asks (under place pair)) c.as_slice-asked-items.ensures
+    (needed_below m node kid place items i q c.loop-asked-test.true c.asked-item.is to pair h) in
+    passes_both m c.loop-asked.invariant.passes (passes_under m node memo place (AnswersNeed m node c.args.asks.now) c.loop-asked.invariant.passes.agrees at c.at_mut-below.ensures.value need (c.in_err-answer.ensures {u = tt}).passes)
+
+pub relay_all-returns-in_err-answer-clause-own : goal.relay_all-returns-in_err-answer-clause-own
+relay_all-returns-in_err-answer-clause-own g t c =
+    own_entries c.loop-asked.memo c.place.result c.relay_element.new.memo ∙ c.loop-asked.invariant.own
+
+pub relay_all-returns-in_err-answer-clause-marked : goal.relay_all-returns-in_err-answer-clause-marked
+relay_all-returns-in_err-answer-clause-marked g t c =
+    own_mark c.loop-asked.memo c.place.result c.relay_element.new.memo ∙ c.loop-asked.invariant.marked
+
+pub relay_all-returns-in_err-answer-clause-range : goal.relay_all-returns-in_err-answer-clause-range
+relay_all-returns-in_err-answer-clause-range g t c =
+    λ e.
+    let m = c.args.metrics.now in
+    let node = c.args.node.now in
+    let n = child_of _ node _ _ c.requires.shown c.node_at-kid.ensures in
+    let p = child_of _ node _ _ c.requires.shown c.place.ensures in
+    let same = rw e at c.from_residual.ensures.1 in
+    ap (all_fit m node) (sym c.as_slice-asked-items.ensures)
+    ∙ broken m node c.as_slice-asked-items.result.now c.loop-asked.asked-index c.asked-item.result c.node_at-kid.result.now
+    c.loop-asked-test.true c.asked-item.is (in_flow node _ _ _ n p) ((c.in_err-answer.ensures {u = tt}).range (ap Err (sym same)))
+
+pub relay_all-returns-in_err-push-clause-passes : goal.relay_all-returns-in_err-push-clause-passes
+relay_all-returns-in_err-push-clause-passes g t c =
+    let m = c.args.metrics.now in
+    let node = c.args.node.now in
+    let n = child_of _ node _ _ c.requires.shown c.node_at-kid.ensures in
+    let p = child_of _ node _ _ c.requires.shown c.place.ensures in
+    let memo = c.loop-asked.memo in
+    let place = c.place.result in
+    let items = c.as_slice-asked-items.result.now in
+    let i = c.loop-asked.asked-index in
+    let q = c.asked-item.result in
+    let kid = c.node_at-kid.result.now in
+    let to = child_in_flow node kid q.kid place n p in
+    let at = among_all node kid q.kid place n p in
+    let need : (pair : Pair) → Needs m kid q.context pair → AnswersNeed m node c.args.asks.now (under place pair) =
+    λ pair h. subst (λ (asks : List Question). AnswersNeed m node asks (under place pair)) c.as_slice-asked-items.ensures
+    (needed_below m node kid place items i q c.loop-asked-test.true c.asked-item.is to pair h) in
+    passes_partly m (passes_both m c.loop-asked.invariant.passes (passes_under m node memo place (AnswersNeed m node c.args.asks.now) c.loop-asked.invariant.passes.agrees at c.at_mut-below.ensures.value need (c.in_ok-answer.ensures {u = tt}).passed))
+
+pub relay_all-returns-in_err-push-clause-own : goal.relay_all-returns-in_err-push-clause-own
+relay_all-returns-in_err-push-clause-own g t c =
+    own_entries c.loop-asked.memo c.place.result c.relay_element.new.memo ∙ c.loop-asked.invariant.own
+
+pub relay_all-returns-in_err-push-clause-marked : goal.relay_all-returns-in_err-push-clause-marked
+relay_all-returns-in_err-push-clause-marked g t c =
+    own_mark c.loop-asked.memo c.place.result c.relay_element.new.memo ∙ c.loop-asked.invariant.marked
+
+pub relay_all-loop-asked-preserved : goal.relay_all-loop-asked-preserved
+relay_all-loop-asked-preserved g t c =
+    let m = c.args.metrics.now in
+    let node = c.args.node.now in
+    let n = child_of _ node _ _ c.requires.shown c.node_at-kid.ensures in
+    let p = child_of _ node _ _ c.requires.shown c.place.ensures in
+    let memo = c.loop-asked.memo in
+    let place = c.place.result in
+    let items = c.as_slice-asked-items.result.now in
+    let i = c.loop-asked.asked-index in
+    let q = c.asked-item.result in
+    let kid = c.node_at-kid.result.now in
+    let to = child_in_flow node kid q.kid place n p in
+    let at = among_all node kid q.kid place n p in
+    let need : (pair : Pair) → Needs m kid q.context pair → AnswersNeed m node c.args.asks.now (under place pair) =
+    λ pair h. subst (λ (asks : List Question). AnswersNeed m node asks (under place pair)) c.as_slice-asked-items.ensures
+    (needed_below m node kid place items i q c.loop-asked-test.true c.asked-item.is to pair h) in
+    let made = (c.in_ok-answer.ensures {u = tt}) in
+    record {
+      told = told_more m node kid place items i q c.loop-asked-test.true c.asked-item.is to c.loop-asked.answers c.push.new.self c.in_ok-answer.answer c.loop-asked.invariant.told made.ok (c.in_ok-push.ensures {u = tt}).ok;
+      fit = fit_more m node items i q kid c.loop-asked-test.true c.asked-item.is (in_flow node kid q.kid place n p) c.loop-asked.invariant.fit made.fit;
+      passes = passes_both m c.loop-asked.invariant.passes (passes_under m node memo place (AnswersNeed m node c.args.asks.now) c.loop-asked.invariant.passes.agrees at c.at_mut-below.ensures.value need made.passed);
+      own = own_entries c.loop-asked.memo c.place.result c.relay_element.new.memo ∙ c.loop-asked.invariant.own;
+      marked = own_mark c.loop-asked.memo c.place.result c.relay_element.new.memo ∙ c.loop-asked.invariant.marked;
+      kept = kept_more m node kid place items i q c.loop-asked-test.true c.asked-item.is to memo c.at_mut-below.result.now c.relay_element.new.memo c.at_mut-below.ensures.value made.passed.keeps c.loop-asked.invariant.kept made.kept;
+    }
+
+pub relay_all-returns-clause-passes : goal.relay_all-returns-clause-passes
+relay_all-returns-clause-passes g t c =
+    passes_partly c.args.metrics.now c.loop-asked.invariant.passes
+
+-- ---- an answer that is kept
+
+pub relay_element-returns-in_err-answer-clause-passes : goal.relay_element-returns-in_err-answer-clause-passes
+relay_element-returns-in_err-answer-clause-passes g t c =
+    passes_none c.args.metrics.now c.args.node.now (Needs c.args.metrics.now c.args.node.now c.args.context.now) c.args.memo.now c.args.steps.now false c.requires.agrees
+
+pub relay_element-returns-in-Some-clause-passes : goal.relay_element-returns-in-Some-clause-passes
+relay_element-returns-in-Some-clause-passes g t c =
+    passes_none c.args.metrics.now c.args.node.now (Needs c.args.metrics.now c.args.node.now c.args.context.now) c.args.memo.now c.args.steps.now false c.requires.agrees
+
+pub relay_element-returns-in-Some-clause-passed : goal.relay_element-returns-in-Some-clause-passed
+relay_element-returns-in-Some-clause-passed g t c =
+    passes_none c.args.metrics.now c.args.node.now (Needs c.args.metrics.now c.args.node.now c.args.context.now) c.args.memo.now c.args.steps.now true c.requires.agrees
+
+pub relay_element-returns-in-Some-clause-ok : goal.relay_element-returns-in-Some-clause-ok
+relay_element-returns-in-Some-clause-ok g t c =
+    kept_answers c.args.metrics.now c.args.node.now c.args.memo.now c.args.context.now c.in-Some.answer c.requires.agrees
+    (some_of c.in_ok-answer.field-0 c.in-Some.answer (HasAnswer (out-Memo c.args.memo.now) c.args.context.now) c.in-Some.is (c.in_ok-answer.ensures {u = tt}).some)
+
+pub relay_element-returns-in-Some-clause-fit : goal.relay_element-returns-in-Some-clause-fit
+relay_element-returns-in-Some-clause-fit g t c =
+    kept_fits c.args.metrics.now c.args.node.now c.args.memo.now c.args.context.now c.in-Some.answer c.requires.agrees
+    (some_of c.in_ok-answer.field-0 c.in-Some.answer (HasAnswer (out-Memo c.args.memo.now) c.args.context.now) c.in-Some.is (c.in_ok-answer.ensures {u = tt}).some)
+
+-- ---- an element
+
+pub relay_element-make-requires-clause-own : goal.relay_element-make-requires-clause-own
+relay_element-make-requires-clause-own g t c =
+    let own = c.requires.agrees.at [] c.args.node.now c.args.memo.now (refl, refl) in
+    own.facts_are
+
+pub relay_element-make-requires-clause-known : goal.relay_element-make-requires-clause-known
+relay_element-make-requires-clause-known g t c =
+    let own = c.requires.agrees.at [] c.args.node.now c.args.memo.now (refl, refl) in
+    own.kids_are
+
+pub relay_element-make-requires-clause-few : goal.relay_element-make-requires-clause-few
+relay_element-make-requires-clause-few g t c =
+    omega (arith, few_children c.args.node.now, c.requires.few)
+
+pub relay_element-returns-in_err-view-clause-passes : goal.relay_element-returns-in_err-view-clause-passes
+relay_element-returns-in_err-view-clause-passes g t c =
+    passes_none c.args.metrics.now c.args.node.now (Needs c.args.metrics.now c.args.node.now c.args.context.now) c.args.memo.now c.args.steps.now false c.requires.agrees
+
+pub relay_element-returns-in_err-ones-clause-passes : goal.relay_element-returns-in_err-ones-clause-passes
+relay_element-returns-in_err-ones-clause-passes g t c =
+    passes_none c.args.metrics.now c.args.node.now (Needs c.args.metrics.now c.args.node.now c.args.context.now) c.args.memo.now c.args.steps.now false c.requires.agrees
+
+pub relay_element-returns-in_err-ones-clause-range : goal.relay_element-returns-in_err-ones-clause-range
+relay_element-returns-in_err-ones-clause-range g t c =
+    λ e.
+    let same = rw e at c.from_residual-in_err-ones.ensures.1 in
+    range_is c.args.metrics.now c.args.node.now c.args.context.now
+    ∙ size_false _ _ (size_false _ _ ((c.in_err-ones.ensures {u = tt}).range (ap Err (sym same))))
+
+pub relay_element-relay_all-requires : goal.relay_element-relay_all-requires
+relay_element-relay_all-requires g t c κs within =
+    let m = c.args.metrics.now in
+    let node = c.args.node.now in
+    let context = c.args.context.now in
+    let shown = c.in_ok-view.ensures {u = tt} in
+    let o = (c.in_ok-ones.ensures {u = tt}) in
+    (omega arith, (search rules, (shown, (c.requires.agrees, (c.requires.few, ones_proper m node _ context shown _ o.ok c.requires.context o.styles)))))
+
+pub relay_element-returns-in_err-one-clause-passes : goal.relay_element-returns-in_err-one-clause-passes
+relay_element-returns-in_err-one-clause-passes g t c =
+    let m = c.args.metrics.now in
+    let node = c.args.node.now in
+    let context = c.args.context.now in
+    let shown = c.in_ok-view.ensures {u = tt} in
+    let o = (c.in_ok-ones.ensures {u = tt}) in
+    pass_ones m node _ context shown _ o.ok (c.in_err-one.ensures {u = tt}).passes
+
+pub relay_element-returns-in_err-one-clause-range : goal.relay_element-returns-in_err-one-clause-range
+relay_element-returns-in_err-one-clause-range g t c =
+    λ e.
+    let m = c.args.metrics.now in
+    let node = c.args.node.now in
+    let context = c.args.context.now in
+    let shown = c.in_ok-view.ensures {u = tt} in
+    let o = (c.in_ok-ones.ensures {u = tt}) in
+    let same = rw e at c.from_residual-in_err-one.ensures.1 in
+    let whole = range_waves m node _ context shown c.in_ok-ones.ones o.ok (map (answer_of m node) c.in_ok-ones.ones) refl _ refl in
+    ones_false _ _ _ _ whole ((c.in_err-one.ensures {u = tt}).range (ap Err (sym same)))
+
+pub relay_element-wave_two-requires-clause-answers : goal.relay_element-wave_two-requires-clause-answers
+relay_element-wave_two-requires-clause-answers g t c =
+    let m = c.args.metrics.now in
+    let node = c.args.node.now in
+    let one = (c.in_ok-one.ensures {u = tt}) in
+    subst AreAnswers (sym one.ok) (answers_are m node c.requires.few c.in_ok-ones.ones one.fit)
+
+pub relay_element-returns-in_err-twos-clause-passes : goal.relay_element-returns-in_err-twos-clause-passes
+relay_element-returns-in_err-twos-clause-passes g t c =
+    let m = c.args.metrics.now in
+    let node = c.args.node.now in
+    let context = c.args.context.now in
+    let shown = c.in_ok-view.ensures {u = tt} in
+    let o = (c.in_ok-ones.ensures {u = tt}) in
+    let one = (c.in_ok-one.ensures {u = tt}) in
+    passes_partly m (pass_ones m node _ context shown _ o.ok one.passed)
+
+pub relay_element-relay_all-requires-2 : goal.relay_element-relay_all-requires-2
+relay_element-relay_all-requires-2 g t c κs within =
+    let m = c.args.metrics.now in
+    let node = c.args.node.now in
+    let context = c.args.context.now in
+    let shown = c.in_ok-view.ensures {u = tt} in
+    let o = (c.in_ok-ones.ensures {u = tt}) in
+    let one = (c.in_ok-one.ensures {u = tt}) in
+    let w = (c.in_ok-twos.ensures {u = tt}) in
+    let fit = subst AreAnswers (sym one.ok) (answers_are m node c.requires.few c.in_ok-ones.ones one.fit) in
+    (omega arith, (search rules, (shown, (one.passed.agrees, (c.requires.few, twos_proper m node _ context shown _ o.ok c.in_ok-one.one one.ok _ w.value c.requires.context w.styles fit)))))
+
+pub relay_element-returns-in_err-two-clause-passes : goal.relay_element-returns-in_err-two-clause-passes
+relay_element-returns-in_err-two-clause-passes g t c =
+    let m = c.args.metrics.now in
+    let node = c.args.node.now in
+    let context = c.args.context.now in
+    let shown = c.in_ok-view.ensures {u = tt} in
+    let o = (c.in_ok-ones.ensures {u = tt}) in
+    let one = (c.in_ok-one.ensures {u = tt}) in
+    let w = (c.in_ok-twos.ensures {u = tt}).value in
+    passes_both m (pass_ones m node _ context shown _ o.ok one.passed) (pass_twos m node _ context shown _ o.ok _ one.ok _ w (c.in_err-two.ensures {u = tt}).passes)
+
+pub relay_element-returns-in_err-two-clause-range : goal.relay_element-returns-in_err-two-clause-range
+relay_element-returns-in_err-two-clause-range g t c =
+    λ e.
+    let m = c.args.metrics.now in
+    let node = c.args.node.now in
+    let context = c.args.context.now in
+    let shown = c.in_ok-view.ensures {u = tt} in
+    let o = (c.in_ok-ones.ensures {u = tt}) in
+    let one = (c.in_ok-one.ensures {u = tt}) in
+    let w = (c.in_ok-twos.ensures {u = tt}).value in
+    let same = rw e at c.from_residual-in_err-two.ensures.1 in
+    let whole = range_waves m node _ context shown c.in_ok-ones.ones o.ok c.in_ok-one.one one.ok c.in_ok-twos.twos w in
+    twos_false _ _ _ _ whole ((c.in_err-two.ensures {u = tt}).range (ap Err (sym same)))
+
+pub relay_element-finish-requires-clause-answers : goal.relay_element-finish-requires-clause-answers
+relay_element-finish-requires-clause-answers g t c =
+    let m = c.args.metrics.now in
+    let node = c.args.node.now in
+    let context = c.args.context.now in
+    let shown = c.in_ok-view.ensures {u = tt} in
+    let o = (c.in_ok-ones.ensures {u = tt}) in
+    let one = (c.in_ok-one.ensures {u = tt}) in
+    let w = (c.in_ok-twos.ensures {u = tt}).value in
+    let two = (c.in_ok-two.ensures {u = tt}) in
+    answers_all m node _ context shown c.in_ok-ones.ones o.ok c.in_ok-one.one one.ok c.in_ok-twos.twos w c.in_ok-two.two two.ok
+    (subst AreAnswers (sym one.ok) (answers_are m node c.requires.few c.in_ok-ones.ones one.fit))
+    (subst AreAnswers (sym two.ok) (answers_are m node c.requires.few c.in_ok-twos.twos two.fit))
+
+pub relay_element-returns-in_err-outcome-clause-passes : goal.relay_element-returns-in_err-outcome-clause-passes
+relay_element-returns-in_err-outcome-clause-passes g t c =
+    let m = c.args.metrics.now in
+    let node = c.args.node.now in
+    let context = c.args.context.now in
+    let shown = c.in_ok-view.ensures {u = tt} in
+    let o = (c.in_ok-ones.ensures {u = tt}) in
+    let one = (c.in_ok-one.ensures {u = tt}) in
+    let w = (c.in_ok-twos.ensures {u = tt}).value in
+    let two = (c.in_ok-two.ensures {u = tt}) in
+    let both : Passes m node (Needs m node context) c.args.memo.now c.relay_all-2.new.memo c.args.steps.now c.relay_all-2.new.steps true =
+    passes_both m (pass_ones m node _ context shown _ o.ok one.passed) (pass_twos m node _ context shown _ o.ok _ one.ok _ w two.passed) in
+    let missing : IsMissing (out-Memo c.relay_all-2.new.memo).marked context (out-Memo c.relay_all-2.new.memo).entries =
+    missing_same _ _ context _ _ (none_of c.in_ok-answer.field-0 _ (c.in_ok-answer.ensures {u = tt}).none c.in_default.not-Some) (two.marked ∙ one.marked) (two.own ∙ one.own) in
+    passes_both m both (passes_step m node (Needs m node context) c.relay_all-2.new.memo context c.relay_all-2.new.steps c.finish.new.steps both.agrees missing (own_need m node context) c.finish.ensures.step)
+
+pub relay_element-returns-in_err-outcome-clause-range : goal.relay_element-returns-in_err-outcome-clause-range
+relay_element-returns-in_err-outcome-clause-range g t c =
+    λ e.
+    let m = c.args.metrics.now in
+    let node = c.args.node.now in
+    let context = c.args.context.now in
+    let shown = c.in_ok-view.ensures {u = tt} in
+    let o = (c.in_ok-ones.ensures {u = tt}) in
+    let one = (c.in_ok-one.ensures {u = tt}) in
+    let w = (c.in_ok-twos.ensures {u = tt}).value in
+    let two = (c.in_ok-two.ensures {u = tt}) in
+    let waves : Waves m node c.in_ok-view.view.node.now context c.in_ok-ones.ones c.in_ok-twos.twos c.in_ok-one.one c.in_ok-two.two =
+    record { shown_is = shown; ones_are = o.ok; one_is = one.ok; twos_are = w; two_is = two.ok } in
+    let same = rw e at c.from_residual-in_err-outcome.ensures.1 in
+    waves_unfit waves ((c.in_err-outcome.ensures {u = tt}).range (ap Err (sym same)))
+
+pub relay_element-returns-in_err-keep-clause-passes : goal.relay_element-returns-in_err-keep-clause-passes
+relay_element-returns-in_err-keep-clause-passes g t c =
+    let m = c.args.metrics.now in
+    let node = c.args.node.now in
+    let context = c.args.context.now in
+    let shown = c.in_ok-view.ensures {u = tt} in
+    let o = (c.in_ok-ones.ensures {u = tt}) in
+    let one = (c.in_ok-one.ensures {u = tt}) in
+    let w = (c.in_ok-twos.ensures {u = tt}).value in
+    let two = (c.in_ok-two.ensures {u = tt}) in
+    let both : Passes m node (Needs m node context) c.args.memo.now c.relay_all-2.new.memo c.args.steps.now c.relay_all-2.new.steps true =
+    passes_both m (pass_ones m node _ context shown _ o.ok one.passed) (pass_twos m node _ context shown _ o.ok _ one.ok _ w two.passed) in
+    let missing : IsMissing (out-Memo c.relay_all-2.new.memo).marked context (out-Memo c.relay_all-2.new.memo).entries =
+    missing_same _ _ context _ _ (none_of c.in_ok-answer.field-0 _ (c.in_ok-answer.ensures {u = tt}).none c.in_default.not-Some) (two.marked ∙ one.marked) (two.own ∙ one.own) in
+    subst (λ (memo : Memo). Passes m node (Needs m node context) c.args.memo.now memo c.args.steps.now c.finish.new.steps false) (sym (c.in_err-keep.ensures {u = tt}).unchanged)
+    (passes_both m both (passes_step m node (Needs m node context) c.relay_all-2.new.memo context c.relay_all-2.new.steps c.finish.new.steps both.agrees missing (own_need m node context) c.finish.ensures.step))
+
+pub relay_element-returns-clause-passes : goal.relay_element-returns-clause-passes
+relay_element-returns-clause-passes g t c =
+    let m = c.args.metrics.now in
+    let node = c.args.node.now in
+    let context = c.args.context.now in
+    let shown = c.in_ok-view.ensures {u = tt} in
+    let o = (c.in_ok-ones.ensures {u = tt}) in
+    let one = (c.in_ok-one.ensures {u = tt}) in
+    let w = (c.in_ok-twos.ensures {u = tt}).value in
+    let two = (c.in_ok-two.ensures {u = tt}) in
+    let both : Passes m node (Needs m node context) c.args.memo.now c.relay_all-2.new.memo c.args.steps.now c.relay_all-2.new.steps true =
+    passes_both m (pass_ones m node _ context shown _ o.ok one.passed) (pass_twos m node _ context shown _ o.ok _ one.ok _ w two.passed) in
+    let missing : IsMissing (out-Memo c.relay_all-2.new.memo).marked context (out-Memo c.relay_all-2.new.memo).entries =
+    missing_same _ _ context _ _ (none_of c.in_ok-answer.field-0 _ (c.in_ok-answer.ensures {u = tt}).none c.in_default.not-Some) (two.marked ∙ one.marked) (two.own ∙ one.own) in
+    let waves : Waves m node c.in_ok-view.view.node.now context c.in_ok-ones.ones c.in_ok-twos.twos c.in_ok-one.one c.in_ok-two.two =
+    record { shown_is = shown; ones_are = o.ok; one_is = one.ok; twos_are = w; two_is = two.ok } in
+    let made = (c.in_ok-outcome.ensures {u = tt}) in
+    let whole = waves_fit waves o.fit made.fit one.fit two.fit in
+    let kept = (c.in_ok-keep.ensures {u = tt}).kept in
+    let named = all_then (NamesKept node (out-Memo c.relay_all.new.memo).below) (NamesKept node (out-Memo c.relay_all-2.new.memo).below) (names_still node two.passed.keeps) c.in_ok-ones.ones one.kept in
+    let sound = sound_made waves c.relay_all-2.new.memo c.keep.new.memo c.in_ok-outcome.outcome kept made.ok c.requires.context whole named two.kept in
+    let all = passes_both m both (passes_added m node (Needs m node context) c.relay_all-2.new.memo kept.entry context c.relay_all-2.new.steps c.finish.new.steps both.agrees sound missing kept.in_context kept.fresh (own_need m node context) c.finish.ensures.step) in
+    subst (λ (memo : Memo). Passes m node (Needs m node context) c.args.memo.now memo c.args.steps.now c.finish.new.steps false) (sym kept.added) (passes_partly m all)
+
+pub relay_element-returns-clause-passed : goal.relay_element-returns-clause-passed
+relay_element-returns-clause-passed g t c =
+    let m = c.args.metrics.now in
+    let node = c.args.node.now in
+    let context = c.args.context.now in
+    let shown = c.in_ok-view.ensures {u = tt} in
+    let o = (c.in_ok-ones.ensures {u = tt}) in
+    let one = (c.in_ok-one.ensures {u = tt}) in
+    let w = (c.in_ok-twos.ensures {u = tt}).value in
+    let two = (c.in_ok-two.ensures {u = tt}) in
+    let both : Passes m node (Needs m node context) c.args.memo.now c.relay_all-2.new.memo c.args.steps.now c.relay_all-2.new.steps true =
+    passes_both m (pass_ones m node _ context shown _ o.ok one.passed) (pass_twos m node _ context shown _ o.ok _ one.ok _ w two.passed) in
+    let missing : IsMissing (out-Memo c.relay_all-2.new.memo).marked context (out-Memo c.relay_all-2.new.memo).entries =
+    missing_same _ _ context _ _ (none_of c.in_ok-answer.field-0 _ (c.in_ok-answer.ensures {u = tt}).none c.in_default.not-Some) (two.marked ∙ one.marked) (two.own ∙ one.own) in
+    let waves : Waves m node c.in_ok-view.view.node.now context c.in_ok-ones.ones c.in_ok-twos.twos c.in_ok-one.one c.in_ok-two.two =
+    record { shown_is = shown; ones_are = o.ok; one_is = one.ok; twos_are = w; two_is = two.ok } in
+    let made = (c.in_ok-outcome.ensures {u = tt}) in
+    let whole = waves_fit waves o.fit made.fit one.fit two.fit in
+    let kept = (c.in_ok-keep.ensures {u = tt}).kept in
+    let named = all_then (NamesKept node (out-Memo c.relay_all.new.memo).below) (NamesKept node (out-Memo c.relay_all-2.new.memo).below) (names_still node two.passed.keeps) c.in_ok-ones.ones one.kept in
+    let sound = sound_made waves c.relay_all-2.new.memo c.keep.new.memo c.in_ok-outcome.outcome kept made.ok c.requires.context whole named two.kept in
+    let all = passes_both m both (passes_added m node (Needs m node context) c.relay_all-2.new.memo kept.entry context c.relay_all-2.new.steps c.finish.new.steps both.agrees sound missing kept.in_context kept.fresh (own_need m node context) c.finish.ensures.step) in
+    subst (λ (memo : Memo). Passes m node (Needs m node context) c.args.memo.now memo c.args.steps.now c.finish.new.steps true) (sym kept.added) all
+
+pub relay_element-returns-clause-kept : goal.relay_element-returns-clause-kept
+relay_element-returns-clause-kept g t c =
+    let kept = (c.in_ok-keep.ensures {u = tt}).kept in
+    let live = fresh_live (out-Memo c.relay_all-2.new.memo).marked kept.entry kept.fresh in
+    subst (λ (memo : Memo). IsKept (out-Memo memo) c.args.context.now) (sym kept.added)
+    record { entry = kept.entry; has = has_added c.relay_all-2.new.memo kept.entry live; in_context = kept.in_context }
+
+pub relay_element-returns-clause-ok : goal.relay_element-returns-clause-ok
+relay_element-returns-clause-ok g t c =
+    let m = c.args.metrics.now in
+    let node = c.args.node.now in
+    let context = c.args.context.now in
+    let shown = c.in_ok-view.ensures {u = tt} in
+    let o = (c.in_ok-ones.ensures {u = tt}) in
+    let one = (c.in_ok-one.ensures {u = tt}) in
+    let w = (c.in_ok-twos.ensures {u = tt}).value in
+    let two = (c.in_ok-two.ensures {u = tt}) in
+    let waves : Waves m node c.in_ok-view.view.node.now context c.in_ok-ones.ones c.in_ok-twos.twos c.in_ok-one.one c.in_ok-two.two =
+    record { shown_is = shown; ones_are = o.ok; one_is = one.ok; twos_are = w; two_is = two.ok } in
+    let made = (c.in_ok-outcome.ensures {u = tt}) in
+    (c.in_ok-keep.ensures {u = tt}).answer ∙ ap (λ (outcome : Outcome). outcome.answer) (made.ok ∙ waves_lay waves)
+
+pub relay_element-returns-clause-fit : goal.relay_element-returns-clause-fit
+relay_element-returns-clause-fit g t c =
+    let m = c.args.metrics.now in
+    let node = c.args.node.now in
+    let context = c.args.context.now in
+    let shown = c.in_ok-view.ensures {u = tt} in
+    let o = (c.in_ok-ones.ensures {u = tt}) in
+    let one = (c.in_ok-one.ensures {u = tt}) in
+    let w = (c.in_ok-twos.ensures {u = tt}).value in
+    let two = (c.in_ok-two.ensures {u = tt}) in
+    let waves : Waves m node c.in_ok-view.view.node.now context c.in_ok-ones.ones c.in_ok-twos.twos c.in_ok-one.one c.in_ok-two.two =
+    record { shown_is = shown; ones_are = o.ok; one_is = one.ok; twos_are = w; two_is = two.ok } in
+    let made = (c.in_ok-outcome.ensures {u = tt}) in
+    waves_fit waves o.fit made.fit one.fit two.fit

@@ -1,0 +1,112 @@
+-- Kept layouts, and when they are those of a tree.
+use Rattle.std.specs.Prelude.{◌≡◌, ⊤, ℕ, Bool, true, not, ◌||◌, List, [], ◌∷◌, length, map, Some, slice_get}
+use Rattle.std.specs.List.{AllByRecursion}
+use Rattle.font_metrics.specs.Metrics.{MetricsValue}
+use Rattle.math_tree.specs.declared.node.Node.{Node}
+use Rattle.math_tree.specs.declared.node.Node.TheViews.{out-Node}
+use Rattle.embellished.specs.Facts.{facts}
+use Rattle.embellished.specs.Seen.{Child, flow_children, seen_of}
+use Rattle.layout_model.specs.Laws.{answer_of}
+use Rattle.layout_model.specs.Layout.{in_range, lay}
+use Rattle.layout_model.specs.Questions.{first, second}
+use Rattle.layout_model.specs.declared.context.Context.{Context}
+use Rattle.layout_model.specs.declared.context.Question.{Question}
+use Rattle.layout_model.specs.declared.outcome.Outcome.{Outcome}
+use Rattle.kept_results.specs.Contexts.{Suits}
+use Rattle.kept_results.specs.declared.memo.Entry.{Entry}
+use Rattle.kept_results.specs.declared.memo.Memo.{Memo}
+use Rattle.kept_results.specs.declared.memo.Memo.TheOpen.{Memo-F}
+use Rattle.kept_results.specs.declared.memo.Memo.TheViews.{out-Memo}
+
+-- ---- entries
+
+-- the outcome that an entry keeps. No other definition says what that is
+abbrev pub Stores : Entry → Outcome → Type 0
+Stores entry outcome = entry.outcome ≡ outcome
+
+-- an entry of a marked element that the present pass didn't make is an older one
+abbrev pub is_live : Bool → Entry → Bool
+is_live marked entry = not marked || entry.fresh
+
+-- an element has this entry, and it is no older one
+pub record HasEntry (layer : Memo-F Memo) (entry : Entry) : Type 0 where
+  pub place : ℕ
+  pub at : slice_get layer.entries place ≡ Some entry
+  pub live : is_live layer.marked entry ≡ true
+
+-- it has one in a context
+pub record IsKept (layer : Memo-F Memo) (context : Context) : Type 0 where
+  pub entry : Entry
+  pub has : HasEntry layer entry
+  pub in_context : entry.context ≡ context
+
+-- it has none in a context
+abbrev pub IsMissing : Bool → Context → List Entry → Type 0
+IsMissing marked context entries = AllByRecursion (λ entry. is_live marked entry ≡ true → entry.context ≡ context → ⊥) entries
+
+-- no two are in one context
+abbrev pub AreApart : Bool → List Entry → Type 0
+AreApart marked [] = ⊤
+AreApart marked (entry ∷ entries) =
+    (is_live marked entry ≡ true → IsMissing marked entry.context entries) × AreApart marked entries
+
+-- ---- beside a tree
+
+-- a question of an element names an entry of the child to which it goes
+pub record NamesKept (node : Node) (below : List Memo) (question : Question) : Type 0 where
+  pub child : Child
+  pub to : slice_get (flow_children node) question.kid ≡ Some child
+  pub memo : Memo
+  pub at : slice_get below child.place ≡ Some memo
+  pub kept : IsKept (out-Memo memo) question.context
+
+-- an entry keeps the layout of its element as the tree is now; all that is made for it is in range; and all that
+-- it asks is kept
+pub record IsSound (m : MetricsValue) (node : Node) (below : List Memo) (entry : Entry) : Type 0 where
+  pub stores : Stores entry (lay m node entry.context)
+  pub suits : Suits m node entry.context
+  pub fits : in_range m node entry.context ≡ true
+  pub ones : entry.ones ≡ first m (seen_of node) entry.context
+  pub twos : entry.twos ≡ second m (seen_of node) entry.context (map (answer_of m node) (first m (seen_of node) entry.context))
+  pub ones_kept : AllByRecursion (NamesKept node below) entry.ones
+  pub twos_kept : AllByRecursion (NamesKept node below) entry.twos
+
+-- what is known of an element and of its children, one memo for each child, and entries that are sound, but for the
+-- older ones, and of which no two are in one context
+pub record IsMemoOf (m : MetricsValue) (node : Node) (layer : Memo-F Memo) : Type 0 where
+  pub facts_are : layer.facts ≡ facts node
+  pub kids_are : layer.kids ≡ map facts (out-Node node).children
+  pub as_many : length layer.below ≡ length (out-Node node).children
+  pub sound : (entry : Entry) → HasEntry layer entry → IsSound m node layer.below entry
+  pub apart : AreApart layer.marked layer.entries
+
+-- an element of a tree and its memo, by the places of children down to it
+abbrev pub StandAt : List ℕ → Node → Memo → Node → Memo → Type 0
+StandAt [] node memo element kept = (element ≡ node) × (kept ≡ memo)
+StandAt (place ∷ path) node memo element kept =
+    (child : Node) × (below : Memo) × (slice_get (out-Node node).children place ≡ Some child)
+    × (slice_get (out-Memo memo).below place ≡ Some below) × StandAt path child below element kept
+
+-- the state of a memo beside a tree: it is right of each element
+pub record Agrees (m : MetricsValue) (node : Node) (memo : Memo) : Type 0 where
+  pub at : (path : List ℕ) (element : Node) (kept : Memo) → StandAt path node memo element kept → IsMemoOf m element (out-Memo kept)
+
+-- ---- entries at paths
+
+abbrev pub HoldsIn : List ℕ → Memo-F Memo → Entry → Type 0
+HoldsIn [] layer entry = HasEntry layer entry
+HoldsIn (place ∷ path) layer entry = (below : Memo) × (slice_get layer.below place ≡ Some below) × HoldsIn path (out-Memo below) entry
+
+-- the element at a path has this entry
+abbrev pub Holds : List ℕ → Memo → Entry → Type 0
+Holds path memo entry = HoldsIn path (out-Memo memo) entry
+
+-- it has one in a context
+pub record HoldsOne (path : List ℕ) (memo : Memo) (context : Context) : Type 0 where
+  pub entry : Entry
+  pub held : Holds path memo entry
+  pub in_context : entry.context ≡ context
+
+-- each entry that isn't older stays, as it is
+pub record Keeps (before after : Memo) : Type 0 where
+  pub at : (path : List ℕ) (entry : Entry) → Holds path before entry → Holds path after entry

@@ -1,0 +1,36 @@
+-- What is found among the entries of an element, and how one more is kept.
+use Rattle.std.specs.Prelude.{◌≡◌, true, ◌++◌, ◌∷◌, [], List}
+use Rattle.layout_model.specs.declared.context.Context.{Context}
+use Rattle.layout_model.specs.declared.context.Question.{Question}
+use Rattle.layout_model.specs.declared.outcome.Answer.{Answer}
+use Rattle.layout_model.specs.declared.outcome.Outcome.{Outcome}
+use Rattle.kept_results.specs.Kept.{HasEntry, Stores}
+use Rattle.kept_results.specs.declared.memo.Entry.{Entry}
+use Rattle.kept_results.specs.declared.memo.Memo.{Memo}
+use Rattle.kept_results.specs.declared.memo.Memo.TheOpen.{Memo-F}
+use Rattle.kept_results.specs.declared.memo.Memo.TheViews.{out-Memo, roll-Memo}
+
+-- an entry in a context keeps this answer, and is no older one
+pub record HasAnswer (layer : Memo-F Memo) (context : Context) (answer : Answer) : Type 0 where
+  pub entry : Entry
+  pub has : HasEntry layer entry
+  pub in_context : entry.context ≡ context
+  pub outcome : Outcome
+  pub stores : Stores entry outcome
+  pub answers : outcome.answer ≡ answer
+
+-- one fresh entry was added, in a context, with an outcome and what was asked for it
+pub record IsKeptNow (before after : Memo) (context : Context) (outcome : Outcome) (ones twos : List Question) : Type 0 where
+  pub entry : Entry
+  pub stores : Stores entry outcome
+  pub in_context : entry.context ≡ context
+  pub ones_are : entry.ones ≡ ones
+  pub twos_are : entry.twos ≡ twos
+  pub fresh : entry.fresh ≡ true
+  pub added : after ≡ roll-Memo record {
+    marked = (out-Memo before).marked;
+    facts = (out-Memo before).facts;
+    kids = (out-Memo before).kids;
+    entries = (out-Memo before).entries ++ entry ∷ [];
+    below = (out-Memo before).below;
+  }

@@ -1,0 +1,75 @@
+ghost use Rattle.std.specs.Prelude.{◌≡◌, ◌++◌, ◌∷◌, [], true, false, IfOk, IfSome, IfNone, OnErr, OnOk};
+ghost use Rattle.kept_results.specs.Kept.{IsMissing, is_live};
+ghost use Rattle.kept_results.specs.Looking.{HasAnswer, IsKeptNow};
+ghost use Rattle.kept_results.specs.declared.memo.Memo.TheViews.{out-Memo};
+
+use crate::contexts::{copy_of as copy_of_context, is_same};
+use crate::memo::{Entry, Memo};
+use fixed_units::{List, Memory};
+use layout_model::{Answer, Context, Outcome, Question};
+use std::alloc::Global;
+
+/// Whether an entry is no older one.
+pub fn is_live(marked: bool, entry: &Entry) -> bool
+    ensures { result ≡ is_live marked entry.now }
+{
+    !marked || entry.fresh
+}
+
+/// Is this an entry in a context, and no older one?
+fn serves(marked: bool, entry: &Entry, context: &Context) -> bool
+    ensures yes { result ≡ true → (is_live marked entry.now ≡ true) × (entry.now.context ≡ context.now) }
+    ensures no { result ≡ false → is_live marked entry.now ≡ true → entry.now.context ≡ context.now → ⊥ }
+{
+    is_live(marked, entry) && is_same(&entry.context, context)
+}
+
+/// The answer that is kept of an element in a context, where one is.
+pub fn kept_answer(alloc: Global, memo: &Memo, context: &Context) -> Result<Option<Answer>, Memory>
+    ensures some { IfOk result (λ found. IfSome found (HasAnswer (out-Memo memo.now) context.now)) }
+    ensures none { IfOk result (λ found. IfNone found (IsMissing (out-Memo memo.now).marked context.now (out-Memo memo.now).entries)) }
+{
+    for entry in memo.entries.as_slice() {
+        if serves(memo.marked, entry, context) {
+            return Ok(Some(copy_of(alloc, &entry.outcome.answer)?));
+        }
+    }
+    Ok(None)
+}
+
+/// Keeps one layout more, and gives its answer.
+pub fn keep(
+    alloc: Global,
+    memo: &mut Memo,
+    context: &Context,
+    outcome: Outcome,
+    ones: List<Question>,
+    twos: List<Question>,
+) -> Result<Answer, Memory>
+    ensures answer { IfOk result (λ answer. answer ≡ outcome.answer) }
+    ensures kept { OnOk result (IsKeptNow memo.old memo.new context.now outcome ones twos) }
+    ensures unchanged { OnErr result (memo.new ≡ memo.old) }
+{
+    let answer = copy_of(alloc, &outcome.answer)?;
+    let context = copy_of_context(alloc, context)?;
+    memo.entries.push(Entry {
+        context,
+        outcome,
+        ones,
+        twos,
+        fresh: true,
+    })?;
+    Ok(answer)
+}
+
+/// The same answer again.
+fn copy_of(alloc: Global, answer: &Answer) -> Result<Answer, Memory>
+    ensures { IfOk result (λ copied. copied ≡ answer.now) }
+{
+    Ok(Answer {
+        frame: answer.frame,
+        before: answer.before,
+        after: answer.after,
+        cells: answer.cells.copy(alloc)?,
+    })
+}

@@ -1,0 +1,21 @@
+//! Layouts that are kept, beside the elements of a tree.
+//!
+//! A `Memo` has the shape of a tree. At each element it keeps the outcomes in the contexts in which
+//! that element was laid out, so that a later layout computes only what an edit changed. An edit
+//! marks the elements on the way to it; what a marked element keeps from before is of no use.
+//!
+//! - Models: this project's own; MathML Core says nothing of it.
+//! - Proved: an outcome that is kept, and follows by the equations from others that are kept, is that
+//!   of the layout (`laws`).
+//! - Knows nothing of: edits, and by which equation an element of a kind is laid out.
+//! - Change what a kept layout is: `specs/Kept.antt`.
+#![tactic(auto)]
+
+mod contexts; // the same context, and once more
+mod entries; // one element's entries
+pub mod laws; // what holds of kept layouts
+mod memo; // Entry, Memo
+mod relay; // a pass over an element
+
+pub use memo::{Entry, Memo};
+pub use relay::relay_element;

@@ -1,0 +1,92 @@
+ghost use Rattle.std.specs.Prelude.{◌≡◌, ◌≤◌, length, map, true, false, IfOk, OnOk, Err};
+ghost use Rattle.std.specs.List.{All, AllByRecursion, flat_map, list_all};
+ghost use Rattle.fixed_units.specs.declared.refusal.LayRefusal.TheVariants.{Range};
+ghost use Rattle.math_tree.specs.Trees.{element_count};
+ghost use Rattle.layout_model.specs.Laws.{answer_of, visits_below};
+ghost use Rattle.layout_model.specs.Layout.{in_range, lay, visit_fits};
+ghost use Rattle.kept_results.specs.Contexts.{IsProper, Suits};
+ghost use Rattle.kept_results.specs.Kept.{Agrees, IsKept, NamesKept};
+ghost use Rattle.kept_results.specs.Passes.{AnswersNeed, Needs, Passes};
+ghost use Rattle.kept_results.specs.declared.memo.Memo.TheViews.{out-Memo};
+
+use crate::entries::{keep, kept_answer};
+use crate::memo::Memo;
+use embellished::{NodeView, View};
+use fixed_units::{LayRefusal, List, Steps};
+use font_metrics::Metrics;
+use layout_core::{finish, wave_one, wave_two};
+use layout_model::{Answer, Context, Question};
+use math_tree::Node;
+use std::alloc::Global;
+use std::sync::ledger::Ledger;
+
+/// The answer of an element in a context, from what is kept of it and of all below it; what isn't
+/// kept is computed, and kept from then on. Each layout that is computed ticks a step. It is refused
+/// with `Range` exactly where a number of a layout that this one needs can't be stored; what was made
+/// until then stays, fresh.
+#[cycle(relay)]
+pub fn relay_element<L: Ledger>(
+    alloc: Global,
+    node: &Node,
+    memo: &mut Memo,
+    context: &Context,
+    metrics: &Metrics,
+    steps: &mut Steps<L>,
+) -> Result<Answer, LayRefusal>
+    requires agrees { Agrees metrics.now node.now memo.old }
+    requires few { element_count node.now ≤ 65_536 }
+    requires context { Suits metrics.now node.now context.now }
+    ensures passes { Passes metrics.now node.now (Needs metrics.now node.now context.now) memo.old memo.new steps.old steps.new false }
+    ensures passed { OnOk result (Passes metrics.now node.now (Needs metrics.now node.now context.now) memo.old memo.new steps.old steps.new true) }
+    ensures kept { OnOk result (IsKept (out-Memo memo.new) context.now) }
+    ensures ok { IfOk result (λ answer. answer ≡ (lay metrics.now node.now context.now).answer) }
+    ensures fit { OnOk result (in_range metrics.now node.now context.now ≡ true) }
+    ensures range { result ≡ Err Range → in_range metrics.now node.now context.now ≡ false }
+{
+    if let Some(answer) = kept_answer(alloc, memo, context)? {
+        return Ok(answer);
+    }
+    let view = NodeView::make(alloc, node, memo.facts, &memo.kids)?;
+    let ones = wave_one(alloc, &view, context, metrics)?;
+    let one = relay_all(alloc, node, memo, &view, &ones, metrics, steps)?;
+    let twos = wave_two(alloc, &view, context, metrics, &one)?;
+    let two = relay_all(alloc, node, memo, &view, &twos, metrics, steps)?;
+    let outcome = finish(alloc, &view, context, metrics, &one, &two, steps)?;
+    Ok(keep(alloc, memo, context, outcome, ones, twos)?)
+}
+
+/// The answers of the children that an element asks, in order.
+#[cycle(relay)]
+fn relay_all<L: Ledger>(
+    alloc: Global,
+    node: &Node,
+    memo: &mut Memo,
+    view: &NodeView,
+    asks: &List<Question>,
+    metrics: &Metrics,
+    steps: &mut Steps<L>,
+) -> Result<List<Answer>, LayRefusal>
+    requires shown { view.now.node.now ≡ node.now }
+    requires agrees { Agrees metrics.now node.now memo.old }
+    requires few { element_count node.now ≤ 65_536 }
+    requires proper { All (IsProper metrics.now node.now) asks.now }
+    ensures passes { Passes metrics.now node.now (AnswersNeed metrics.now node.now asks.now) memo.old memo.new steps.old steps.new false }
+    ensures passed { OnOk result (Passes metrics.now node.now (AnswersNeed metrics.now node.now asks.now) memo.old memo.new steps.old steps.new true) }
+    ensures own { (out-Memo memo.new).entries ≡ (out-Memo memo.old).entries }
+    ensures marked { (out-Memo memo.new).marked ≡ (out-Memo memo.old).marked }
+    ensures kept { OnOk result (AllByRecursion (NamesKept node.now (out-Memo memo.new).below) asks.now) }
+    ensures ok { IfOk result (λ answers. answers ≡ map (answer_of metrics.now node.now) asks.now) }
+    ensures fit { OnOk result (list_all (visit_fits metrics.now) (flat_map (visits_below metrics.now node.now) asks.now) ≡ true) }
+    ensures range { result ≡ Err Range →
+        list_all (visit_fits metrics.now) (flat_map (visits_below metrics.now node.now) asks.now) ≡ false }
+{
+    let mut answers = List::make(alloc);
+    for asked in asks.as_slice() {
+        let index = asked.kid as usize;
+        let kid = view.node_at(index);
+        let below = memo.below.at_mut(view.place(index));
+        let answer = relay_element(alloc, kid, below, &asked.context, metrics, steps)?;
+        answers.push(answer)?;
+    }
+    Ok(answers)
+}
