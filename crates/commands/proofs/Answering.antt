@@ -7,16 +7,16 @@ use Rattle.fixed_units.specs.declared.refusal.LayRefusal.{LayRefusal}
 use Rattle.fixed_units.specs.declared.refusal.LayRefusal.TheVariants as layout
 use Rattle.font_metrics.specs.Metrics.{MetricsValue}
 use Rattle.math_tree.specs.Trees.{TreeValue}
-use Rattle.commands.specs.Command.{Asked}
 use Rattle.std.specs.Prelude.{Bool, true, false, if◌then◌else◌}
 use Rattle.layout_model.specs.Layout.{is_tree_in_range}
-use Rattle.commands.specs.declared.command.Task.{Task}
-use Rattle.commands.specs.declared.command.Task.TheVariants.{Layout, Check}
-use Rattle.commands.specs.Answer.{content, metrics_in, tree_in, ◌>>=◌, done, answer_over, answer_in, answer, laid_out, lines_of}
+use Rattle.edit_session.specs.Session.{SessionValue}
+use Rattle.commands.specs.Command.{Asked, Work, LaysOut, Edits, Checks}
+use Rattle.commands.specs.Answer.{Text, whole_text, content, metrics_in, tree_in, script_in, answers_to, ◌>>=◌, started, lines_of_page, checked, laid_out, scripted, done, answer_over, answer}
 use Rattle.commands.specs.Refusals.{of_layout}
-use Rattle.commands.specs.Ends.{LacksFile, HasReadCause, IsCut, GivesOr, Answers}
+use Rattle.commands.specs.Ends.{LacksFile, HasReadCause, IsCut, GivesOr, Answers, IsScript, start_of}
+use Rattle.commands.specs.Parts.{LacksScript, LacksTree}
 use Rattle.commands.specs.declared.refusal.Refusal.{Refusal}
-use Rattle.commands.specs.declared.refusal.Refusal.TheVariants.{ReadFault, Range}
+use Rattle.commands.specs.declared.refusal.Refusal.TheVariants.{ReadFault, Range, Memory}
 
 -- the same refusal, of another type of answer
 cut_again : {A B : Type 0} (r : Refusal) → IsCut {V = A} (Err r) → IsCut {V = B} (Err r)
@@ -29,6 +29,10 @@ err_again r s e = cc
 ok_is_not_cut : {A : Type 0} (a : A) → IsCut (Ok a) → ⊥
 ok_is_not_cut a (inl fault) = cc
 ok_is_not_cut a (inr memory) = cc
+
+-- an answer has one value
+same_ok : {A : Type 0} (said : Result A Refusal) (a b : A) → said ≡ Ok a → said ≡ Ok b → a ≡ b
+same_ok said a b e f = cc
 
 -- a cause of a part is one of the whole
 cause_of_more : (lacks lacks' : Files → Type 0) (before mid after : InputsTold) → mid.files ≡ before.files
@@ -49,8 +53,8 @@ abbrev both : {A B : Type 0} → (Files → Result A Refusal) → (A → Files �
 both first next files = first files >>= λ value. next value files
 
 module _ {A B : Type 0} (first : Files → Result A Refusal) (next : A → Files → Result B Refusal)
-    (lacks lacks_next lacks_both : Files → Type 0)
-    (which : (f : Files) → lacks_both f → lacks f ⊎ (lacks_next f × IsOk (first f)))
+    (lacks : Files → Type 0) (lacks_next : A → Files → Type 0) (lacks_both : Files → Type 0)
+    (which : (f : Files) → lacks_both f → lacks f ⊎ ((value : A) × (first f ≡ Ok value) × lacks_next value f))
     (before : InputsTold) where
   -- the first part was refused: there is no answer, and the next part isn't reached
   pub refused : (after : InputsTold) (r : Refusal) → ((f : Files) → lacks f → lacks_both f)
@@ -78,18 +82,18 @@ module _ {A B : Type 0} (first : Files → Result A Refusal) (next : A → Files
       lacking None is h lack = absurd lack
       lacking (Some f) is h lack = elim (which f lack) [
         | inl none ↦ cut_again r (a.lacking (subst (λ o. IsSomeAnd o lacks) (sym is) none))
-        | inr later ↦ elim h [ inl cut ↦ cut_again r cut | inr same ↦ absurd (let e = subst IsOk (sym same) later.1 in cc) ]
+        | inr later ↦ elim h [ inl cut ↦ cut_again r cut | inr same ↦ absurd (let e = same ∙ later.1 in cc) ]
       ]
 
   -- the first part gave a value: the next part decides
   pub continued : (mid after : InputsTold) (value : A) (result : Result B Refusal)
-      → ((f : Files) → first f ≡ Ok value → lacks_next f → lacks_both f)
+      → ((f : Files) → first f ≡ Ok value → lacks_next value f → lacks_both f)
       → Answers (option_map first before.files) lacks before mid (Ok value)
-      → Answers (option_map (next value) mid.files) lacks_next mid after result
+      → Answers (option_map (next value) mid.files) (lacks_next value) mid after result
       → Answers (option_map (both first next) before.files) lacks_both before after result
   continued mid after value result more a b = record {
     answer = answer before.files refl;
-    fault = λ is. cause_of_more lacks_next lacks_both before mid after a.files a.faults a.missing
+    fault = λ is. cause_of_more (lacks_next value) lacks_both before mid after a.files a.faults a.missing
         (λ f there lack. more f (given f there) lack) (b.fault is);
     lacking = lacking before.files refl;
     files = b.files ∙ a.files;
@@ -115,7 +119,9 @@ module _ {A B : Type 0} (first : Files → Result A Refusal) (next : A → Files
       lacking None is lack = absurd lack
       lacking (Some f) is lack = elim (which f lack) [
         | inl none ↦ absurd (ok_is_not_cut value (a.lacking (subst (λ o. IsSomeAnd o lacks) (sym is) none)))
-        | inr later ↦ b.lacking (subst (λ o. IsSomeAnd o lacks_next) (sym (a.files ∙ is)) later.0)
+        | inr later ↦
+            let same : later.0 ≡ value = same_ok (first f) later.0 value later.1 (given f is) in
+            b.lacking (subst (λ o. IsSomeAnd o (lacks_next value)) (sym (a.files ∙ is)) (subst (λ v. lacks_next v f) same later.2))
       ]
 
 -- what needs no file
@@ -138,40 +144,118 @@ without_files wanted result seen own gives = record {
     none None lack = lack
     none (Some f) lack = lack
 
--- ---- the tree file, over metrics
+-- ---- work on a tree
 
--- a task fails for no read
-done_no_fault : (task : Task) (metrics : MetricsValue) (tree : TreeValue) → done task metrics tree ≡ Err ReadFault → ⊥
-unfolding done
-done_no_fault Layout metrics tree h = by (is_tree_in_range metrics tree) h
+abbrev session_over : MetricsValue → TreeValue → SessionValue
+session_over metrics tree = record { tree = tree; metrics = metrics }
+
+-- no tree fails to be laid out for a read
+started_no_fault : (metrics : MetricsValue) (tree : TreeValue) → started metrics tree ≡ Err ReadFault → ⊥
+unfolding started
+started_no_fault metrics tree h = by (is_tree_in_range metrics tree) h
   where
-    by : (fits : Bool) → (if fits then Ok (lines_of metrics tree) else Err Range) ≡ Err ReadFault → ⊥
+    by : (fits : Bool) → (if fits then Ok (session_over metrics tree) else Err Range) ≡ Err ReadFault → ⊥
     by true h = cc
     by false h = cc
-done_no_fault Check metrics tree h = cc
+
+laid_out_no_fault : (said : Result SessionValue Refusal) → ¬ (said ≡ Err ReadFault)
+    → (said >>= λ session. Ok (whole_text (lines_of_page session))) ≡ Err ReadFault → ⊥
+laid_out_no_fault (Ok session) own h = cc
+laid_out_no_fault (Err refusal) own h = own (err_again {A = Text} {B = SessionValue} refusal ReadFault h)
+
+abbrev DoneAnswer : Work → MetricsValue → TreeValue → InputsTold → InputsTold → Result Text Refusal → Type 0
+DoneAnswer work metrics tree before after result =
+    Answers (option_map (done work metrics tree) before.files) (LacksScript work metrics tree) before after result
+
+module _ (metrics : MetricsValue) (tree : TreeValue) (seen : InputsTold) (result : Result Text Refusal) where
+  pub laid_out_answers : GivesOr (laid_out metrics tree) result → DoneAnswer LaysOut metrics tree seen seen result
+  unfolding done
+  laid_out_answers gives =
+      without_files (laid_out metrics tree) result seen
+      (laid_out_no_fault (started metrics tree) (started_no_fault metrics tree)) gives
+
+  pub checked_answers : GivesOr (Ok (whole_text (checked metrics tree))) result → DoneAnswer Checks metrics tree seen seen result
+  unfolding done
+  checked_answers gives = without_files (Ok (whole_text (checked metrics tree))) result seen (λ e. cc) gives
+
+-- ---- the script, over a session
+
+abbrev ScriptAnswer : List ℕ → InputsTold → InputsTold → Result (List ℕ) Refusal → Type 0
+ScriptAnswer name before after result =
+    Answers (option_map (λ f. script_in (content f name)) before.files) (λ f. f name ≡ None) before after result
+
+abbrev ScriptedAnswer : List ℕ → SessionValue → InputsTold → InputsTold → Result Text Refusal → Type 0
+ScriptedAnswer name session before after result =
+    Answers (option_map (scripted name session) before.files) (λ f. f name ≡ None) before after result
+
+module _ (name : List ℕ) (session : SessionValue) (before after : InputsTold) where
+  pub without_script : (r : Refusal) → ScriptAnswer name before after (Err r) → ScriptedAnswer name session before after (Err r)
+  without_script r a =
+      refused (λ f. script_in (content f name)) (λ script f. Ok (answers_to session script)) (λ f. f name ≡ None) (λ script f. ⊥) (λ f. f name ≡ None)
+      (λ f lack. inl lack) before after r (λ f lack. lack) a
+
+  pub with_script : (script : List ℕ) → ScriptAnswer name before after (Ok script)
+      → ScriptedAnswer name session before after (Ok (answers_to session script))
+  with_script script a =
+      continued (λ f. script_in (content f name)) (λ script f. Ok (answers_to session script)) (λ f. f name ≡ None) (λ script f. ⊥) (λ f. f name ≡ None)
+      (λ f lack. inl lack) before after after script (Ok (answers_to session script)) (λ f is lack. absurd lack) a
+      (without_files (Ok (answers_to session script)) (Ok (answers_to session script)) after (λ e. cc) (inr refl))
+
+-- ---- the session of a tree, and then a script
+
+abbrev EditAnswer : List ℕ → MetricsValue → TreeValue → InputsTold → InputsTold → Result Text Refusal → Type 0
+EditAnswer name metrics tree before after result = DoneAnswer (Edits name) metrics tree before after result
+
+abbrev Started : MetricsValue → TreeValue → InputsTold → Result SessionValue Refusal → Type 0
+Started metrics tree seen result = Answers (option_map (λ f. started metrics tree) seen.files) (λ f. ⊥) seen seen result
+
+ok_value : {A : Type 0} (said : Result A Refusal) → IsOk said → (value : A) × (said ≡ Ok value)
+ok_value (Ok value) h = (value, refl)
+ok_value (Err r) h = absurd (let e = h in cc)
+
+module _ (name : List ℕ) (metrics : MetricsValue) (tree : TreeValue) (before : InputsTold) where
+  which_script : (f : Files) → LacksScript (Edits name) metrics tree f
+      → ⊥ ⊎ ((session : SessionValue) × (started metrics tree ≡ Ok session) × (f name ≡ None))
+  which_script f lack = let is = ok_value (started metrics tree) lack.0 in inr (is.0, is.1, lack.1)
+
+  pub without_session : (r : Refusal) → GivesOr (started metrics tree) (Err r) → EditAnswer name metrics tree before before (Err r)
+  unfolding done
+  without_session r gives =
+      refused (λ f. started metrics tree) (scripted name) (λ f. ⊥) (λ session f. f name ≡ None) (LacksScript (Edits name) metrics tree)
+      which_script before before r (λ f lack. absurd lack)
+      (without_files (started metrics tree) (Err r) before (started_no_fault metrics tree) gives)
+
+  pub with_session : (after : InputsTold) (session : SessionValue) (result : Result Text Refusal) → GivesOr (started metrics tree) (Ok session)
+      → ScriptedAnswer name session before after result → EditAnswer name metrics tree before after result
+  unfolding done
+  with_session after session result gives b =
+      continued (λ f. started metrics tree) (scripted name) (λ f. ⊥) (λ session f. f name ≡ None) (LacksScript (Edits name) metrics tree)
+      which_script before before after session result (λ f is lack. (subst IsOk (sym is) refl, lack))
+      (without_files (started metrics tree) (Ok session) before (started_no_fault metrics tree) gives) b
+
+-- ---- the tree file, over metrics
 
 abbrev TreeAnswer : List ℕ → InputsTold → InputsTold → Result TreeValue Refusal → Type 0
 TreeAnswer name before after result =
     Answers (option_map (λ f. tree_in (content f name)) before.files) (λ f. f name ≡ None) before after result
 
-abbrev OverAnswer : Task → MetricsValue → List ℕ → InputsTold → InputsTold → Result (List ℕ) Refusal → Type 0
-OverAnswer task metrics name before after result =
-    Answers (option_map (λ f. answer_over task metrics (content f name)) before.files) (λ f. f name ≡ None) before after result
+abbrev OverAnswer : Work → MetricsValue → List ℕ → InputsTold → InputsTold → Result Text Refusal → Type 0
+OverAnswer work metrics name before after result =
+    Answers (option_map (answer_over work metrics name) before.files) (LacksTree work metrics name) before after result
 
-module _ (task : Task) (metrics : MetricsValue) (name : List ℕ) (before after : InputsTold) where
-  pub without_tree : (r : Refusal) → TreeAnswer name before after (Err r) → OverAnswer task metrics name before after (Err r)
+module _ (work : Work) (metrics : MetricsValue) (name : List ℕ) (before mid : InputsTold) where
+  pub without_tree : (r : Refusal) → TreeAnswer name before mid (Err r) → OverAnswer work metrics name before mid (Err r)
   unfolding answer_over
   without_tree r a =
-      refused (λ f. tree_in (content f name)) (λ tree f. done task metrics tree) (λ f. f name ≡ None) (λ f. ⊥) (λ f. f name ≡ None)
-      (λ f lack. inl lack) before after r (λ f lack. lack) a
+      refused (λ f. tree_in (content f name)) (done work metrics) (λ f. f name ≡ None) (LacksScript work metrics) (LacksTree work metrics name)
+      (λ f lack. lack) before mid r (λ f lack. inl lack) a
 
-  pub with_tree : (tree : TreeValue) (result : Result (List ℕ) Refusal) → TreeAnswer name before after (Ok tree)
-      → GivesOr (done task metrics tree) result → OverAnswer task metrics name before after result
+  pub with_tree : (after : InputsTold) (tree : TreeValue) (result : Result Text Refusal) → TreeAnswer name before mid (Ok tree)
+      → DoneAnswer work metrics tree mid after result → OverAnswer work metrics name before after result
   unfolding answer_over
-  with_tree tree result a gives =
-      continued (λ f. tree_in (content f name)) (λ tree f. done task metrics tree) (λ f. f name ≡ None) (λ f. ⊥) (λ f. f name ≡ None)
-      (λ f lack. inl lack) before after after tree result (λ f is lack. absurd lack) a
-      (without_files (done task metrics tree) result after (done_no_fault task metrics tree) gives)
+  with_tree after tree result a b =
+      continued (λ f. tree_in (content f name)) (done work metrics) (λ f. f name ≡ None) (LacksScript work metrics) (LacksTree work metrics name)
+      (λ f lack. lack) before mid after tree result (λ f is lack. inr (tree, is, lack)) a b
 
 -- ---- the metrics file, then the tree file
 
@@ -179,54 +263,110 @@ abbrev MetricsAnswer : Asked → InputsTold → InputsTold → Result MetricsVal
 MetricsAnswer asked before after result =
     Answers (option_map (λ f. metrics_in (content f asked.metrics)) before.files) (λ f. f asked.metrics ≡ None) before after result
 
-abbrev WholeAnswer : Asked → InputsTold → InputsTold → Result (List ℕ) Refusal → Type 0
+abbrev WholeAnswer : Asked → InputsTold → InputsTold → Result Text Refusal → Type 0
 WholeAnswer asked before after result =
     Answers (option_map (answer asked) before.files) (LacksFile (Some asked)) before after result
 
--- which of the two isn't there
+-- what the first two files give, where they give a session
+started_by : (metrics : Result MetricsValue Refusal) (tree : Result TreeValue Refusal)
+    → IsOk (metrics >>= λ m. tree >>= λ t. started m t)
+    → (m : MetricsValue) × (metrics ≡ Ok m) × (t : TreeValue) × (tree ≡ Ok t) × IsOk (started m t)
+started_by (Ok m) (Ok t) h = (m, refl, t, refl, h)
+started_by (Ok m) (Err r) h = absurd (let e = h in cc)
+started_by (Err r) tree h = absurd (let e = h in cc)
+
+-- a script that isn't there, where the two files give a session
+script_lacks : (work : Work) (name : List ℕ) (metrics : MetricsValue) (tree : TreeValue) (f : Files) → IsScript work name
+    → f name ≡ None → IsOk (started metrics tree) → LacksScript work metrics tree f
+script_lacks LaysOut name metrics tree f named away is = absurd named
+script_lacks (Edits script) name metrics tree f named away is = (is, subst (λ n. f n ≡ None) named away)
+script_lacks Checks name metrics tree f named away is = absurd named
+
+-- which file isn't there
 which_file : (asked : Asked) (f : Files) → LacksFile (Some asked) f
-    → (f asked.metrics ≡ None) ⊎ ((f asked.tree ≡ None) × IsOk (metrics_in (content f asked.metrics)))
+    → (f asked.metrics ≡ None)
+    ⊎ ((metrics : MetricsValue) × (metrics_in (content f asked.metrics) ≡ Ok metrics) × LacksTree asked.work metrics asked.tree f)
 which_file asked f (name, inl named, away) = inl (subst (λ n. f n ≡ None) named away)
-which_file asked f (name, inr reached, away) = inr (subst (λ n. f n ≡ None) reached.0 away, reached.1)
+which_file asked f (name, inr (inl reached), away) =
+    let is = ok_value (metrics_in (content f asked.metrics)) reached.1 in
+    inr (is.0, is.1, inl (subst (λ n. f n ≡ None) reached.0 away))
+which_file asked f (name, inr (inr reached), away) =
+    let is = started_by (metrics_in (content f asked.metrics)) (tree_in (content f asked.tree)) reached.1 in
+    inr (is.0, is.1, inr (is.2, is.3, script_lacks asked.work name is.0 is.2 f reached.0 away is.4))
+
+-- the name of a script that isn't there
+lacked_script : (work : Work) (metrics : MetricsValue) (tree : TreeValue) (f : Files) → LacksScript work metrics tree f
+    → (name : List ℕ) × IsScript work name × (f name ≡ None) × IsOk (started metrics tree)
+lacked_script LaysOut metrics tree f lack = absurd lack
+lacked_script (Edits script) metrics tree f lack = (script, refl, lack.1, lack.0)
+lacked_script Checks metrics tree f lack = absurd lack
+
+lacked_file : (asked : Asked) (f : Files) (metrics : MetricsValue) → metrics_in (content f asked.metrics) ≡ Ok metrics
+    → LacksTree asked.work metrics asked.tree f → LacksFile (Some asked) f
+lacked_file asked f metrics is (inl away) = (asked.tree, inr (inl (refl, subst IsOk (sym is) refl)), away)
+lacked_file asked f metrics is (inr (tree, read, lack)) =
+    let script = lacked_script asked.work metrics tree f lack in
+    let start : start_of asked f ≡ started metrics tree =
+    ap (λ x. x >>= λ m. tree_in (content f asked.tree) >>= λ t. started m t) is
+    ∙ ap (λ x. x >>= λ t. started metrics t) read in
+    (script.0, inr (inr (script.1, subst IsOk (sym start) script.3)), script.2)
 
 module _ (asked : Asked) (before mid : InputsTold) where
   pub without_metrics : (r : Refusal) → MetricsAnswer asked before mid (Err r) → WholeAnswer asked before mid (Err r)
-  unfolding answer_in
+  unfolding answer
   without_metrics r a =
-      refused (λ f. metrics_in (content f asked.metrics)) (λ metrics f. answer_over asked.task metrics (content f asked.tree))
-      (λ f. f asked.metrics ≡ None) (λ f. f asked.tree ≡ None) (LacksFile (Some asked)) (which_file asked) before mid r
+      refused (λ f. metrics_in (content f asked.metrics)) (λ metrics f. answer_over asked.work metrics asked.tree f)
+      (λ f. f asked.metrics ≡ None) (λ metrics. LacksTree asked.work metrics asked.tree) (LacksFile (Some asked)) (which_file asked) before mid r
       (λ f lack. (asked.metrics, inl refl, lack)) a
 
-  pub with_metrics : (after : InputsTold) (metrics : MetricsValue) (result : Result (List ℕ) Refusal) → MetricsAnswer asked before mid (Ok metrics)
-      → OverAnswer asked.task metrics asked.tree mid after result → WholeAnswer asked before after result
-  unfolding answer_in
+  pub with_metrics : (after : InputsTold) (metrics : MetricsValue) (result : Result Text Refusal) → MetricsAnswer asked before mid (Ok metrics)
+      → OverAnswer asked.work metrics asked.tree mid after result → WholeAnswer asked before after result
+  unfolding answer
   with_metrics after metrics result a b =
-      continued (λ f. metrics_in (content f asked.metrics)) (λ metrics f. answer_over asked.task metrics (content f asked.tree))
-      (λ f. f asked.metrics ≡ None) (λ f. f asked.tree ≡ None) (LacksFile (Some asked)) (which_file asked) before mid after metrics result
-      (λ f is lack. (asked.tree, inr (refl, subst IsOk (sym is) refl), lack)) a b
+      continued (λ f. metrics_in (content f asked.metrics)) (λ metrics f. answer_over asked.work metrics asked.tree f)
+      (λ f. f asked.metrics ≡ None) (λ metrics. LacksTree asked.work metrics asked.tree) (LacksFile (Some asked)) (which_file asked) before mid after metrics result
+      (λ f is lack. lacked_file asked f metrics is lack) a b
 
 -- ---- the definition, by what the two files give
 
-pub refused_by_metrics : (task : Task) (m t : List ℕ) (r : Refusal) → metrics_in m ≡ Err r → answer_in task m t ≡ Err r
-unfolding answer_in
-refused_by_metrics task m t r h = ap (λ x. x >>= λ metrics. answer_over task metrics t) h
+pub refused_by_metrics : (asked : Asked) (f : Files) (r : Refusal) → metrics_in (content f asked.metrics) ≡ Err r → answer asked f ≡ Err r
+unfolding answer
+refused_by_metrics asked f r h = ap (λ x. x >>= λ metrics. answer_over asked.work metrics asked.tree f) h
 
-pub answered : (task : Task) (m t : List ℕ) (metrics : MetricsValue) (tree : TreeValue) → metrics_in m ≡ Ok metrics → tree_in t ≡ Ok tree
-    → answer_in task m t ≡ done task metrics tree
-unfolding answer_in answer_over
-answered task m t metrics tree h k =
-    ap (λ x. x >>= λ metrics. answer_over task metrics t) h ∙ ap (λ x. x >>= λ tree. done task metrics tree) k
+pub answered : (asked : Asked) (f : Files) (metrics : MetricsValue) (tree : TreeValue) → metrics_in (content f asked.metrics) ≡ Ok metrics
+    → tree_in (content f asked.tree) ≡ Ok tree → answer asked f ≡ done asked.work metrics tree f
+unfolding answer answer_over
+answered asked f metrics tree h k =
+    ap (λ x. x >>= λ metrics. answer_over asked.work metrics asked.tree f) h ∙ ap (λ x. x >>= λ tree. done asked.work metrics tree f) k
 
--- ---- the layout
+-- ---- the session of a tree
 
-pub in_range_lines : (metrics : MetricsValue) (tree : TreeValue) → is_tree_in_range metrics tree ≡ true → laid_out metrics tree ≡ Ok (lines_of metrics tree)
-in_range_lines metrics tree e = ap (λ (fits : Bool). if fits then Ok (lines_of metrics tree) else Err Range) e
+pub in_range_started : (session : SessionValue) (metrics : MetricsValue) (tree : TreeValue)
+    → session ≡ session_over metrics tree → is_tree_in_range session.metrics session.tree ≡ true
+    → started metrics tree ≡ Ok session
+unfolding started
+in_range_started session metrics tree is e =
+    let fits : is_tree_in_range metrics tree ≡ true = (λ i. is_tree_in_range (sym is i).metrics (sym is i).tree) ∙ e in
+    ap (λ (fits : Bool). if fits then Ok (record { tree = tree; metrics = metrics }) else Err Range) fits ∙ ap Ok (sym is)
 
-pub out_of_range : (metrics : MetricsValue) (tree : TreeValue) → is_tree_in_range metrics tree ≡ false → laid_out metrics tree ≡ Err Range
-out_of_range metrics tree e = ap (λ (fits : Bool). if fits then Ok (lines_of metrics tree) else Err Range) e
+out_of_range : (metrics : MetricsValue) (tree : TreeValue) → is_tree_in_range metrics tree ≡ false → started metrics tree ≡ Err Range
+unfolding started
+out_of_range metrics tree e = ap (λ (fits : Bool). if fits then Ok (record { tree = tree; metrics = metrics }) else Err Range) e
 
 -- the refusal of a layout is the wanted one, or want of memory
-pub refused_layout : (refused : LayRefusal) (metrics : MetricsValue) (tree : TreeValue) → (refused ≡ layout.Range → is_tree_in_range metrics tree ≡ false)
-    → GivesOr (laid_out metrics tree) (Err (of_layout refused))
-refused_layout layout.Range metrics tree h = inr (sym (out_of_range metrics tree (h refl)))
-refused_layout layout.Memory metrics tree h = inl refl
+pub refused_start : (refused : LayRefusal) (metrics : MetricsValue) (tree : TreeValue) → (refused ≡ layout.Range → is_tree_in_range metrics tree ≡ false)
+    → GivesOr (started metrics tree) (Err (of_layout refused))
+refused_start layout.Range metrics tree h = inr (sym (out_of_range metrics tree (h refl)))
+refused_start layout.Memory metrics tree h = inl refl
+
+-- a session that was started, and what is made of it
+pub laid_out_of : (metrics : MetricsValue) (tree : TreeValue) (session : SessionValue) (result : Result Text Refusal)
+    → GivesOr (started metrics tree) (Ok session) → GivesOr (Ok (whole_text (lines_of_page session))) result → GivesOr (laid_out metrics tree) result
+laid_out_of metrics tree session result (inl memory) next = absurd (let e = memory in cc)
+laid_out_of metrics tree session result (inr same) (inl memory) = inl memory
+laid_out_of metrics tree session result (inr same) (inr is) = inr (is ∙ ap (λ x. x >>= λ s. Ok (whole_text (lines_of_page s))) same)
+
+-- none was started, for this
+pub not_laid_out : (metrics : MetricsValue) (tree : TreeValue) (r : Refusal) → GivesOr (started metrics tree) (Err r) → GivesOr (laid_out metrics tree) (Err r)
+not_laid_out metrics tree r (inl memory) = inl (err_again r Memory memory)
+not_laid_out metrics tree r (inr same) = inr (ap (λ x. x >>= λ s. Ok (whole_text (lines_of_page s))) same)

@@ -1,18 +1,18 @@
 -- How the answer and its delivery make the ending of a run.
-use Rattle.std.proofs.Common.{◌≡◌, ◌⊎◌, inl, inr, ℕ, List, take, refl, ap, sym, ◌∙◌, subst, Option, Some, None, IfSome, arith}
-use Rattle.std.specs.Prelude.{Result, Ok, Err, IsErrOf, IsSomeAnd, IsNone}
+use Rattle.std.proofs.Common.{◌≡◌, ◌⊎◌, inl, inr, ℕ, zero, suc, ◌≤◌, List, ◌∷◌, take, refl, ap, sym, ◌∙◌, subst, Option, Some, None, IfSome, arith}
+use Rattle.std.specs.Prelude.{Bool, true, false, [], Result, Ok, Err, IsErrOf, IsSomeAnd, IsNone}
 use Rattle.std.specs.Option.{option_map}
 use Rattle.std.specs.Io.KnownBytes.{Appends, Keeps}
 use Rattle.doc_io.specs.Causes.{Files, InputsTold, Rose, SinkTold}
-use Rattle.doc_io.proofs.Known.{appends_kept}
-use Rattle.commands.specs.Command.{Asked, usage_line}
+use Rattle.doc_io.proofs.Known.{appends_kept, kept_of_nothing}
+use Rattle.commands.specs.Command.{Asked, Work, usage_line}
 use Rattle.commands.specs.Refusals.{status_of}
-use Rattle.commands.specs.Answer.{answer, Output, output_of, output}
-use Rattle.commands.specs.Ends.{LacksFile, HasReadCause, IsCut, IsCutShort, Answers, Delivers, Answered, Ends}
+use Rattle.commands.specs.Answer.{answer, Output, Text, output_of, output, status_of_end}
+use Rattle.commands.specs.Ends.{LacksFile, HasReadCause, IsCut, IsCutShort, IsDelivered, IsInParts, Answers, Delivers, RunsOut, Answered, Ends}
 use Rattle.commands.specs.declared.status.Status.{Status}
 use Rattle.commands.specs.declared.status.Status.TheVariants as status
 use Rattle.commands.specs.declared.refusal.Refusal.{Refusal}
-use Rattle.commands.specs.declared.refusal.Refusal.TheVariants.{MetricsLong, Metrics, TreeLong, TreeJson, Tree, Range, ReadFault, Memory}
+use Rattle.commands.specs.declared.refusal.Refusal.TheVariants.{MetricsLong, Metrics, TreeLong, TreeJson, Tree, Range, ScriptLong, ReadFault, Memory}
 
 -- the status tells a failed read and want of memory
 is_read_fault : (refusal : Refusal) → status_of refusal ≡ status.ReadFault → refusal ≡ ReadFault
@@ -22,6 +22,7 @@ is_read_fault TreeLong e = cc
 is_read_fault TreeJson e = cc
 is_read_fault (Tree fault) e = cc
 is_read_fault Range e = cc
+is_read_fault ScriptLong e = cc
 is_read_fault ReadFault e = refl
 is_read_fault Memory e = cc
 
@@ -32,6 +33,7 @@ is_memory TreeLong e = cc
 is_memory TreeJson e = cc
 is_memory (Tree fault) e = cc
 is_memory Range e = cc
+is_memory ScriptLong e = cc
 is_memory ReadFault e = cc
 is_memory Memory e = refl
 
@@ -43,6 +45,7 @@ not_usage TreeLong e = cc
 not_usage TreeJson e = cc
 not_usage (Tree fault) e = cc
 not_usage Range e = cc
+not_usage ScriptLong e = cc
 not_usage ReadFault e = cc
 not_usage Memory e = cc
 
@@ -54,34 +57,67 @@ not_write_fault TreeLong e = cc
 not_write_fault TreeJson e = cc
 not_write_fault (Tree fault) e = cc
 not_write_fault Range e = cc
+not_write_fault ScriptLong e = cc
 not_write_fault ReadFault e = cc
 not_write_fault Memory e = cc
 
+-- the status of a text is one of two
+end_not : (whole : Bool) (s : Status) → ¬ (s ≡ status.Done) → ¬ (s ≡ status.ScriptLimit) → ¬ (status_of_end whole ≡ s)
+end_not true s done limit e = done (sym e)
+end_not false s done limit e = limit (sym e)
+
 -- an answer as it is delivered
-abbrev DeliversAnswer : Result (List ℕ) Refusal → SinkTold → SinkTold → Status → Type 0
+abbrev DeliversAnswer : Result Text Refusal → SinkTold → SinkTold → Status → Type 0
 DeliversAnswer result old new s = Delivers (output_of result).bytes (output_of result).status old new s
 
+abbrev RunsOutOf : Result Text Refusal → SinkTold → SinkTold → Status → Type 0
+RunsOutOf result old new s = RunsOut (output_of result).bytes old new s
+
 -- a run that was cut short wrote nothing, and its status says why
-cut_ends : (result : Result (List ℕ) Refusal) (old new : SinkTold) (s : Status) → IsCut result → DeliversAnswer result old new s
+cut_ends : (result : Result Text Refusal) (old new : SinkTold) (s : Status) → IsCut result → DeliversAnswer result old new s
     → ((s ≡ status.ReadFault) ⊎ (s ≡ status.Memory)) × Keeps old.written new.written
 cut_ends result old new s (inl fault) d =
     let end = (subst (λ r. DeliversAnswer r old new s) fault d).silent refl in (inl end.0, end.1)
 cut_ends result old new s (inr memory) d =
     let end = (subst (λ r. DeliversAnswer r old new s) memory d).silent refl in (inr end.0, end.1)
 
-told_fault : (result : Result (List ℕ) Refusal) (old new : SinkTold) (s : Status) → DeliversAnswer result old new s
+no_front : (n : ℕ) (text : List ℕ) → text ≡ [] → take n text ≡ []
+no_front zero text none = refl
+no_front (suc n) [] none = refl
+no_front (suc n) (b ∷ bs) none = absurd cc
+
+-- of no text nothing was written
+nothing_of : (text : List ℕ) (old new : SinkTold) (s : Status) → text ≡ [] → RunsOut text old new s → Keeps old.written new.written
+nothing_of text old new s none out =
+    kept_of_nothing old.written new.written (subst (Appends old.written new.written) (no_front out.front.0 text none) out.front.1)
+
+cut_runs_out : (result : Result Text Refusal) (old new : SinkTold) (s : Status) → IsCut result → RunsOutOf result old new s
+    → Keeps old.written new.written
+cut_runs_out result old new s (inl fault) out = nothing_of _ old new s (ap (λ r. (output_of r).bytes) fault) out
+cut_runs_out result old new s (inr memory) out = nothing_of _ old new s (ap (λ r. (output_of r).bytes) memory) out
+
+told_fault : (result : Result Text Refusal) (old new : SinkTold) (s : Status) → DeliversAnswer result old new s
     → s ≡ status.ReadFault → IsErrOf result ReadFault
-told_fault (Ok text) old new s d is = elim d.whole [ inl w ↦ absurd cc | inr e ↦ let f = e.0 in absurd cc ]
+told_fault (Ok text) old new s d is = elim d.whole [
+  | inl w ↦ absurd cc
+  | inr e ↦ absurd (end_not text.whole s (λ f. cc) (λ f. cc) (sym e.0))
+]
 told_fault (Err r) old new s d is = elim d.whole [ inl w ↦ absurd cc | inr e ↦ ap Err (is_read_fault r (sym e.0 ∙ is)) ]
 
-never_usage : (result : Result (List ℕ) Refusal) (old new : SinkTold) (s : Status) → DeliversAnswer result old new s
+never_usage : (result : Result Text Refusal) (old new : SinkTold) (s : Status) → DeliversAnswer result old new s
     → s ≡ status.Usage → ⊥
-never_usage (Ok text) old new s d is = elim d.whole [ inl w ↦ absurd cc | inr e ↦ let f = e.0 in absurd cc ]
+never_usage (Ok text) old new s d is = elim d.whole [
+  | inl w ↦ absurd cc
+  | inr e ↦ absurd (end_not text.whole s (λ f. cc) (λ f. cc) (sym e.0))
+]
 never_usage (Err r) old new s d is = elim d.whole [ inl w ↦ absurd cc | inr e ↦ not_usage r (sym e.0 ∙ is) ]
 
-told_memory : (result : Result (List ℕ) Refusal) (old new : SinkTold) (s : Status) → DeliversAnswer result old new s
+told_memory : (result : Result Text Refusal) (old new : SinkTold) (s : Status) → DeliversAnswer result old new s
     → s ≡ status.Memory → IsErrOf result Memory
-told_memory (Ok text) old new s d is = elim d.whole [ inl w ↦ absurd cc | inr e ↦ let f = e.0 in absurd cc ]
+told_memory (Ok text) old new s d is = elim d.whole [
+  | inl w ↦ absurd cc
+  | inr e ↦ absurd (end_not text.whole s (λ f. cc) (λ f. cc) (sym e.0))
+]
 told_memory (Err r) old new s d is = elim d.whole [ inl w ↦ absurd cc | inr e ↦ ap Err (is_memory r (sym e.0 ∙ is)) ]
 
 -- the bytes and the status are those of an output, or the run was cut short
@@ -91,14 +127,19 @@ IsOutput o old new s = IsCutShort s ⊎ ((s ≡ o.status) × Appends old.written
 abbrev HasFront : Output → SinkTold → SinkTold → Type 0
 HasFront o old new = (n : ℕ) × Appends old.written new.written (take n o.bytes)
 
-told_output : (result wanted : Result (List ℕ) Refusal) (old new : SinkTold) (s : Status) → DeliversAnswer result old new s
+told_output : (work : Work) (result wanted : Result Text Refusal) (old new : SinkTold) (s : Status) → IsDelivered work (output_of result) old new s
     → IsCut result ⊎ (result ≡ wanted) → IsOutput (output_of wanted) old new s × HasFront (output_of wanted) old new
-told_output result wanted old new s d (inl cut) =
+told_output work result wanted old new s (inl d) (inl cut) =
     let end = cut_ends result old new s cut d in
     (inl (elim end.0 [ inl r ↦ inl r | inr m ↦ inr (inr m) ]), (0, appends_kept old.written new.written end.1))
-told_output result wanted old new s d (inr same) =
+told_output work result wanted old new s (inl d) (inr same) =
     let whole = subst (λ r. DeliversAnswer r old new s) same d in
     (elim whole.whole [ inl w ↦ inl (inr (inl w)) | inr e ↦ inr e ], whole.front)
+told_output work result wanted old new s (inr p) (inl cut) =
+    (inl (inr (inr p.1.memory)), (0, appends_kept old.written new.written (cut_runs_out result old new s cut p.1)))
+told_output work result wanted old new s (inr p) (inr same) =
+    let out = subst (λ r. RunsOutOf r old new s) same p.1 in
+    (inl (inr (inr out.memory)), out.front)
 
 IfSome-first : {X : Type 0} (o : Option X) (P Q : X → Type 0) → IfSome o (λ x. P x × Q x) → IfSome o P
 IfSome-first None P Q h = tt
@@ -116,20 +157,21 @@ no_cause lacks before after files is none still (inr (inl lack)) = none (subst (
 no_cause lacks before after files is none still (inr (inr untold)) = let e = subst IsNone is untold.0 in cc
 
 -- the whole ending of a command
-module _ (asked : Asked) (before after : InputsTold) (old new : SinkTold) (s : Status) (result : Result (List ℕ) Refusal)
-    (a : Answers (option_map (answer asked) before.files) (LacksFile (Some asked)) before after result)
-    (d : DeliversAnswer result old new s) where
-  whole : (files : Option Files) → IfSome (option_map (answer asked) files) (λ wanted. IsCut result ⊎ (result ≡ wanted))
+module _ (asked : Asked) (before after : InputsTold) (old new : SinkTold) (s : Status) (result : Result Text Refusal)
+    (a : Answers (option_map (answer asked) before.files) (LacksFile (Some asked)) before after result) where
+  whole : IsDelivered asked.work (output_of result) old new s
+      → (files : Option Files) → IfSome (option_map (answer asked) files) (λ wanted. IsCut result ⊎ (result ≡ wanted))
       → IfSome files (λ f. IsOutput (output (Some asked) f) old new s × HasFront (output (Some asked) f) old new)
-  whole None h = tt
-  whole (Some f) h = told_output result (answer asked f) old new s d h
+  whole d None h = tt
+  whole d (Some f) h = told_output asked.work result (answer asked f) old new s d h
 
-  complete : (files : Option Files) → before.files ≡ files
+  complete : IsDelivered asked.work (output_of result) old new s → (files : Option Files) → before.files ≡ files
       → IfSome (option_map (answer asked) files) (λ wanted. IsCut result ⊎ (result ≡ wanted))
       → IfSome files (λ f. ¬ LacksFile (Some asked) f → ¬ Rose before.faults after.faults → ¬ Rose old.faults new.faults
       → (s ≡ (output (Some asked) f).status) ⊎ (s ≡ status.Memory))
-  complete None is h = tt
-  complete (Some f) is h = λ there reads writes. elim d.whole [
+  complete d None is h = tt
+  complete (inr p) (Some f) is h = λ there reads writes. inr p.1.memory
+  complete (inl d) (Some f) is h = λ there reads writes. elim d.whole [
     | inl w ↦ absurd (writes (d.fault w))
     | inr e ↦ elim h [
       | inl cut ↦ elim cut [
@@ -140,31 +182,57 @@ module _ (asked : Asked) (before after : InputsTold) (old new : SinkTold) (s : S
     ]
   ]
 
-  cut : (s ≡ status.ReadFault) ⊎ (s ≡ status.Memory) → Keeps old.written new.written
-  cut (inl fault) = (cut_ends result old new s (inl (told_fault result old new s d fault)) d).1
-  cut (inr memory) = (cut_ends result old new s (inr (told_memory result old new s d memory)) d).1
+  read_fault : IsDelivered asked.work (output_of result) old new s → s ≡ status.ReadFault → IsErrOf result ReadFault
+  read_fault (inl d) is = told_fault result old new s d is
+  read_fault (inr p) is = let memory = p.1.memory in absurd cc
 
-  pub ends : Ends (Some asked) before after old new s
-  ends = record {
-    outcome = IfSome-first _ _ _ (whole before.files a.answer);
-    front = IfSome-second _ _ _ (whole before.files a.answer);
-    read_fault = λ is. a.fault (told_fault result old new s d is);
-    write_fault = d.fault;
-    lacking = λ lack. cut_ends result old new s (a.lacking lack) d;
-    cut = cut;
-    complete = complete before.files refl a.answer;
-    usage = λ is. absurd (never_usage result old new s d is);
+  unread_cut : IsDelivered asked.work (output_of result) old new s → s ≡ status.ReadFault → Keeps old.written new.written
+  unread_cut (inl d) is = (cut_ends result old new s (inl (told_fault result old new s d is)) d).1
+  unread_cut (inr p) is = let memory = p.1.memory in absurd cc
+
+  memory_cut : IsDelivered asked.work (output_of result) old new s → s ≡ status.Memory → ¬ IsInParts asked.work → Keeps old.written new.written
+  memory_cut (inl d) is not = (cut_ends result old new s (inr (told_memory result old new s d is)) d).1
+  memory_cut (inr p) is not = absurd (not p.0)
+
+  lacking : IsDelivered asked.work (output_of result) old new s → IsSomeAnd before.files (LacksFile (Some asked))
+      → ((s ≡ status.ReadFault) ⊎ (s ≡ status.Memory)) × Keeps old.written new.written
+  lacking (inl d) lack = cut_ends result old new s (a.lacking lack) d
+  lacking (inr p) lack = (inr p.1.memory, cut_runs_out result old new s (a.lacking lack) p.1)
+
+  write_fault : IsDelivered asked.work (output_of result) old new s → s ≡ status.WriteFault → Rose old.faults new.faults
+  write_fault (inl d) is = d.fault is
+  write_fault (inr p) is = let memory = p.1.memory in absurd cc
+
+  usage : IsDelivered asked.work (output_of result) old new s → s ≡ status.Usage → ⊥
+  usage (inl d) is = never_usage result old new s d is
+  usage (inr p) is = let memory = p.1.memory in absurd cc
+
+  later : IsDelivered asked.work (output_of result) old new s → old.faults ≤ new.faults
+  later (inl d) = d.later
+  later (inr p) = p.1.later
+
+  pub ends : IsDelivered asked.work (output_of result) old new s → Ends (Some asked) before after old new s
+  ends d = record {
+    outcome = IfSome-first _ _ _ (whole d before.files a.answer);
+    front = IfSome-second _ _ _ (whole d before.files a.answer);
+    read_fault = λ is. a.fault (read_fault d is);
+    write_fault = write_fault d;
+    lacking = lacking d;
+    unread_cut = unread_cut d;
+    memory_cut = memory_cut d;
+    complete = complete d before.files refl a.answer;
+    usage = λ is. absurd (usage d is);
     no_command = λ none. absurd cc;
     unread = λ none. absurd cc;
     files = a.files;
     faults = a.faults;
     missing = a.missing;
-    write_faults = d.later;
+    write_faults = later d;
   }
 
 -- the same, where the request was handed on
 pub answered_ends : (asked : Option Asked) (shown : Asked) (before after : InputsTold) (old new : SinkTold) (s : Status) → asked ≡ Some shown
-    → Answered (option_map (answer shown) before.files) (LacksFile (Some shown)) before after old new s → Ends asked before after old new s
+    → Answered shown.work (option_map (answer shown) before.files) (LacksFile (Some shown)) before after old new s → Ends asked before after old new s
 answered_ends asked shown before after old new s is a =
     subst (λ o. Ends o before after old new s) (sym is) (ends shown before after old new s a.result a.answers a.delivers)
 
@@ -191,7 +259,8 @@ told_usage seen old new s d = record {
   read_fault = λ is. absurd (usage_or_fault old new s d (inl is));
   write_fault = d.fault;
   lacking = λ lack. absurd (lacks_none seen.files lack);
-  cut = λ is. absurd (usage_or_fault old new s d is);
+  unread_cut = λ is. absurd (usage_or_fault old new s d (inl is));
+  memory_cut = λ is not. absurd (usage_or_fault old new s d (inr is));
   complete = IfSome-each seen.files _ (λ f there reads writes. elim d.whole [ inl w ↦ absurd (writes (d.fault w)) | inr e ↦ inl e.0 ]);
   usage = λ is. refl;
   no_command = λ none. elim d.whole [ inl w ↦ inr w | inr e ↦ inl e ];

@@ -1,5 +1,5 @@
 -- Worked runs: the definitions of the program, computed from the bytes of the files and the words.
-use Rattle.std.proofs.Common.{◌≡◌, ◌∙◌, ap, ℕ, pos, true, List, [], ◌∷◌, ◌++◌, codes, Some, None, refl, lit≤}
+use Rattle.std.proofs.Common.{◌≡◌, ◌∙◌, ap, ℕ, pos, List, [], ◌∷◌, ◌++◌, codes, Some, None, refl, lit≤}
 use Rattle.std.specs.Prelude.{⊤, Ok, Err, if◌then◌else◌}
 use Rattle.std.specs.Fmt.{digits}
 use Rattle.std.specs.Str.{bytes_eq}
@@ -17,11 +17,10 @@ use Rattle.math_tree.specs.declared.kind.Kind.TheVariants.{Math, Mn}
 use Rattle.math_tree.specs.declared.node.Node.{Node}
 use Rattle.math_tree.specs.declared.node.Node.TheViews.{roll-Node}
 use Rattle.math_tree.specs.declared.node.Node.TheOpen.{Node-F}
-use Rattle.commands.specs.Command.{asked_by}
+use Rattle.commands.specs.Command.{asked_by, Edits, Checks}
 use Rattle.commands.specs.Answer.{metrics_in, tree_of_json, tree_in, output_of, output}
 use Rattle.commands.proofs.Loading.{tree_short}
 use Rattle.commands.proofs.Answering.{refused_by_metrics}
-use Rattle.commands.specs.declared.command.Task.TheVariants.{Check}
 use Rattle.commands.specs.declared.status.Status.TheVariants.{Usage, Metrics as MetricsStatus}
 use Rattle.commands.specs.declared.refusal.Refusal.TheVariants.{Metrics, Tree, TreeJson}
 
@@ -118,10 +117,13 @@ tree_is_no_metrics = refl
 output_of_no_metrics : output (asked_by (codes "check" ∷ codes "t" ∷ codes "t" ∷ [])) (files one)
     ≡ record { bytes = codes "metrics 1 2\n"; status = MetricsStatus }
 unfolding digits
-output_of_no_metrics = ap output_of (refused_by_metrics Check one one _ tree_is_no_metrics)
+output_of_no_metrics = ap output_of (refused_by_metrics _ (files one) _ tree_is_no_metrics)
 
 output_of_two_words : output (asked_by (codes "layout" ∷ codes "m" ∷ [])) (files one)
-    ≡ record { bytes = codes "usage: mathlay layout METRICS TREE | check METRICS TREE\n"; status = Usage }
+    ≡ record {
+      bytes = codes "usage: mathlay layout METRICS TREE | edit METRICS TREE SCRIPT | check METRICS TREE\n";
+      status = Usage;
+    }
 output_of_two_words = refl
 
 -- ---- words
@@ -129,5 +131,12 @@ output_of_two_words = refl
 two_words : asked_by (codes "layout" ∷ codes "m" ∷ []) ≡ None
 two_words = refl
 
-three_words : asked_by (codes "check" ∷ codes "m" ∷ codes "t" ∷ []) ≡ Some record { task = Check; metrics = codes "m"; tree = codes "t" }
+edit_without_script : asked_by (codes "edit" ∷ codes "m" ∷ codes "t" ∷ []) ≡ None
+edit_without_script = refl
+
+four_words : asked_by (codes "edit" ∷ codes "m" ∷ codes "t" ∷ codes "s" ∷ [])
+    ≡ Some record { work = Edits (codes "s"); metrics = codes "m"; tree = codes "t" }
+four_words = refl
+
+three_words : asked_by (codes "check" ∷ codes "m" ∷ codes "t" ∷ []) ≡ Some record { work = Checks; metrics = codes "m"; tree = codes "t" }
 three_words = refl

@@ -1,8 +1,6 @@
 -- What the program answers to a command, where the files are told: the table of its endings.
-use Rattle.std.specs.Prelude.{ℕ, pos, List, [], ◌∷◌, ◌++◌, length, nat_lt, if◌then◌else◌, Option, Some, None, Result, Ok, Err, unwrap_or}
-use Rattle.std.specs.Str.{is_utf8}
+use Rattle.std.specs.Prelude.{ℕ, Bool, true, false, List, [], ◌∷◌, ◌++◌, length, nat_lt, if◌then◌else◌, Option, Some, None, Result, Ok, Err, unwrap_or}
 use Rattle.serde_json.specs.Data.{Data}
-use Rattle.serde_json.specs.Read.{read}
 use Rattle.doc_io.specs.Causes.{Files}
 use Rattle.font_metrics.specs.Metrics.{MetricsValue}
 use Rattle.font_metrics.specs.Print.{print_of as metrics_print}
@@ -12,18 +10,18 @@ use Rattle.math_tree.specs.Print.{print_of as tree_print}
 use Rattle.math_tree.specs.Reading.{tree_of}
 use Rattle.math_tree.specs.Trees.{TreeValue}
 use Rattle.math_tree.specs.declared.fault.TreeFault.{TreeFault}
-use Rattle.layout_model.specs.Layout.{is_tree_in_range, laid_tree}
+use Rattle.tree_edits.specs.Commands.{json_in}
+use Rattle.layout_model.specs.Layout.{is_tree_in_range}
 use Rattle.box_writer.specs.Lines.{text_of}
-use Rattle.box_writer.specs.declared.placed.PlacedItem.{PlacedItem}
-use Rattle.placement.specs.Placing.{placed}
-use Rattle.commands.specs.Command.{Asked, usage_line}
-use Rattle.commands.specs.declared.command.Task.{Task}
-use Rattle.commands.specs.declared.command.Task.TheVariants.{Layout, Check}
+use Rattle.edit_session.specs.Session.{SessionValue, page}
+use Rattle.commands.specs.Command.{Asked, Work, LaysOut, Edits, Checks, usage_line}
+use Rattle.commands.specs.Script.{script_limit, most_lines, lines_of, within, is_within}
+use Rattle.commands.specs.Replies.{replies}
 use Rattle.commands.specs.Refusals.{line_of, status_of}
 use Rattle.commands.specs.declared.status.Status.{Status}
-use Rattle.commands.specs.declared.status.Status.TheVariants.{Done, Usage}
+use Rattle.commands.specs.declared.status.Status.TheVariants.{Done, Usage, ScriptLimit}
 use Rattle.commands.specs.declared.refusal.Refusal.{Refusal}
-use Rattle.commands.specs.declared.refusal.Refusal.TheVariants.{MetricsLong, Metrics, TreeLong, TreeJson, Tree, Range}
+use Rattle.commands.specs.declared.refusal.Refusal.TheVariants.{MetricsLong, Metrics, TreeLong, TreeJson, Tree, Range, ScriptLong}
 
 -- ---- the two files
 
@@ -46,10 +44,6 @@ metrics_in bytes =
     if nat_lt most_file_bytes (length bytes) then Err MetricsLong
     else of_metrics_file (metrics_of bytes)
 
--- the JSON value of a file's bytes: they are UTF-8, and `serde_json` reads the text
-abbrev pub json_in : List ℕ → Option Data
-json_in bytes = if is_utf8 bytes then read bytes else None
-
 -- the tree, or its first fault
 abbrev pub of_tree_file : Result TreeValue TreeFault → Result TreeValue Refusal
 of_tree_file (Ok tree) = Ok tree
@@ -65,6 +59,34 @@ tree_in bytes =
     if nat_lt tree_limit (length bytes) then Err TreeLong
     else tree_of_json (json_in bytes)
 
+-- ---- the script
+
+-- the bytes of a script, unless they are too many
+unfoldable pub script_in : List ℕ → Result (List ℕ) Refusal
+script_in bytes =
+    if nat_lt script_limit (length bytes) then Err ScriptLong
+    else Ok bytes
+
+-- ---- the text of an answer
+
+-- a text, and whether it is all that was asked for: not, where a script passes a limit
+pub record Text : Type 0 where
+  pub bytes : List ℕ
+  pub whole : Bool
+
+abbrev pub whole_text : List ℕ → Text
+whole_text bytes = record { bytes = bytes; whole = true }
+
+-- the replies to lines, or to those before the first line that passes a limit, where at most so
+-- many are answered
+abbrev pub replies_within : ℕ → SessionValue → List (List ℕ) → Text
+replies_within most session lines =
+    record { bytes = replies session (within most lines); whole = is_within most lines }
+
+-- the replies to the lines of a script
+abbrev pub answers_to : SessionValue → List ℕ → Text
+answers_to session script = replies_within most_lines session (lines_of script)
+
 -- ---- the answer
 
 infixl 10 ◌>>=◌
@@ -72,42 +94,51 @@ abbrev pub ◌>>=◌ : {A B : Type 0} → Result A Refusal → (A → Result B R
 Ok value >>= next = next value
 Err refusal >>= next = Err refusal
 
--- the boxes and marks of the tree as it is laid out, whose baseline begins at (0, 0)
-abbrev pub page_of : MetricsValue → TreeValue → List PlacedItem
-page_of metrics tree = placed (laid_tree metrics tree) (pos 0) (pos 0)
+-- the session with which work on a tree begins, unless a number of the layout can't be stored
+unfoldable pub started : MetricsValue → TreeValue → Result SessionValue Refusal
+started metrics tree =
+    if is_tree_in_range metrics tree then Ok (record { tree = tree; metrics = metrics })
+    else Err Range
 
--- their lines
-abbrev pub lines_of : MetricsValue → TreeValue → List ℕ
-lines_of metrics tree = text_of metrics (page_of metrics tree)
-
--- the lines, unless a number of the layout can't be stored
-abbrev pub laid_out : MetricsValue → TreeValue → Result (List ℕ) Refusal
-laid_out metrics tree = if is_tree_in_range metrics tree then Ok (lines_of metrics tree) else Err Range
+-- the lines of the boxes and marks of the tree, whose baseline begins at (0, 0)
+abbrev pub lines_of_page : SessionValue → List ℕ
+lines_of_page session = text_of session.metrics (page session)
 
 -- the canonical print of both files, and a line feed
 abbrev pub checked : MetricsValue → TreeValue → List ℕ
 checked metrics tree = metrics_print metrics ++ tree_print tree ++ 10 ∷ []
 
--- what a task makes of the two files
-unfoldable pub done : Task → MetricsValue → TreeValue → Result (List ℕ) Refusal
-done Layout metrics tree = laid_out metrics tree
-done Check metrics tree = Ok (checked metrics tree)
+-- the lines of the boxes and marks
+abbrev pub laid_out : MetricsValue → TreeValue → Result Text Refusal
+laid_out metrics tree = do
+  session ← started metrics tree
+  Ok (whole_text (lines_of_page session))
 
--- the text that is asked for over these metrics, or the first refusal
-unfoldable pub answer_over : Task → MetricsValue → List ℕ → Result (List ℕ) Refusal
-answer_over task metrics tree_bytes = do
-  tree ← tree_in tree_bytes
-  done task metrics tree
+-- the replies of a session to a script of that name
+abbrev pub scripted : List ℕ → SessionValue → Files → Result Text Refusal
+scripted name session files = do
+  script ← script_in (content files name)
+  Ok (answers_to session script)
+
+-- what is made of metrics and a tree
+unfoldable pub done : Work → MetricsValue → TreeValue → Files → Result Text Refusal
+done LaysOut metrics tree files = laid_out metrics tree
+done (Edits script) metrics tree files = do
+  session ← started metrics tree
+  scripted script session files
+done Checks metrics tree files = Ok (whole_text (checked metrics tree))
+
+-- what is made of these metrics and a tree file, or the first refusal
+unfoldable pub answer_over : Work → MetricsValue → List ℕ → Files → Result Text Refusal
+answer_over work metrics name files = do
+  tree ← tree_in (content files name)
+  done work metrics tree files
 
 -- the text that is asked for, or the first refusal
-unfoldable pub answer_in : Task → List ℕ → List ℕ → Result (List ℕ) Refusal
-answer_in task metrics_bytes tree_bytes = do
-  metrics ← metrics_in metrics_bytes
-  answer_over task metrics tree_bytes
-
-abbrev pub answer : Asked → Files → Result (List ℕ) Refusal
-answer asked files =
-    answer_in asked.task (content files asked.metrics) (content files asked.tree)
+unfoldable pub answer : Asked → Files → Result Text Refusal
+answer asked files = do
+  metrics ← metrics_in (content files asked.metrics)
+  answer_over asked.work metrics asked.tree files
 
 -- ---- what is written, and the status
 
@@ -115,8 +146,15 @@ pub record Output : Type 0 where
   pub bytes : List ℕ
   pub status : Status
 
-abbrev pub output_of : Result (List ℕ) Refusal → Output
-output_of (Ok text) = record { bytes = text; status = Done }
+abbrev pub status_of_end : Bool → Status
+status_of_end true = Done
+status_of_end false = ScriptLimit
+
+abbrev pub output_of_text : Text → Output
+output_of_text text = record { bytes = text.bytes; status = status_of_end text.whole }
+
+abbrev pub output_of : Result Text Refusal → Output
+output_of (Ok text) = output_of_text text
 output_of (Err refusal) = record { bytes = line_of refusal; status = status_of refusal }
 
 -- the bytes and the status of a command over these files, and of words that are none

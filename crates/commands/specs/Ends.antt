@@ -2,10 +2,9 @@
 use Rattle.std.specs.Prelude.{◌≡◌, ◌⊎◌, ℕ, ◌≤◌, List, [], take, Option, Some, None, IsNone, IfSome, IsSomeAnd, Result, IsOk, IsErrOf}
 use Rattle.std.specs.Io.KnownBytes.{Appends, Keeps}
 use Rattle.doc_io.specs.Causes.{Files, InputsTold, Rose, SinkTold}
-use Rattle.commands.specs.Command.{Asked, usage_line}
-use Rattle.commands.specs.Answer.{content, metrics_in, output, output_of}
-use Rattle.commands.specs.declared.command.Task.{Task}
-use Rattle.commands.specs.declared.command.Task.TheVariants.{Layout, Check}
+use Rattle.edit_session.specs.Session.{SessionValue}
+use Rattle.commands.specs.Command.{Asked, Work, LaysOut, Edits, Checks, usage_line}
+use Rattle.commands.specs.Answer.{Output, Text, ◌>>=◌, content, metrics_in, tree_in, started, output, output_of}
 use Rattle.commands.specs.declared.status.Status.{Status}
 use Rattle.commands.specs.declared.status.Status.TheVariants.{Usage, Metrics, Tree, ReadFault, WriteFault, Memory}
 use Rattle.commands.specs.declared.refusal.Refusal.{Refusal}
@@ -13,12 +12,27 @@ use Rattle.commands.specs.declared.refusal.Refusal.TheVariants as refusal
 
 -- ---- which files are reached
 
--- the metrics file always, and the tree file where the metrics file gives metrics
+-- the session with which the work begins, by the first two files
+abbrev pub start_of : Asked → Files → Result SessionValue Refusal
+start_of asked files = do
+  metrics ← metrics_in (content files asked.metrics)
+  tree ← tree_in (content files asked.tree)
+  started metrics tree
+
+-- the work is done with a script of this name
+abbrev pub IsScript : Work → List ℕ → Type 0
+IsScript LaysOut name = ⊥
+IsScript (Edits script) name = name ≡ script
+IsScript Checks name = ⊥
+
+-- the metrics file always, the tree file where the metrics file gives metrics, and the script where
+-- both give a session
 abbrev pub IsReached : Option Asked → Files → List ℕ → Type 0
 IsReached None files name = ⊥
 IsReached (Some asked) files name =
     (name ≡ asked.metrics)
-    ⊎ ((name ≡ asked.tree) × IsOk (metrics_in (content files asked.metrics)))
+    ⊎ (((name ≡ asked.tree) × IsOk (metrics_in (content files asked.metrics)))
+    ⊎ (IsScript asked.work name × IsOk (start_of asked files)))
 
 -- a reached file isn't there
 abbrev pub LacksFile : Option Asked → Files → Type 0
@@ -62,21 +76,50 @@ pub record Delivers (text : List ℕ) (wanted : Status) (old new : SinkTold)
   pub later : old.faults ≤ new.faults
   pub silent : text ≡ [] → (status ≡ wanted) × Keeps old.written new.written
 
+-- memory was refused on the way, and a front of the text was written
+pub record RunsOut (text : List ℕ) (old new : SinkTold) (status : Status) : Type 0 where
+  pub memory : status ≡ Memory
+  pub front : (n : ℕ) × Appends old.written new.written (take n text)
+  pub later : old.faults ≤ new.faults
+
+-- the output was delivered, or memory was refused on the way
+abbrev pub DeliversParts : Output → SinkTold → SinkTold → Status → Type 0
+DeliversParts output old new status =
+    Delivers output.bytes output.status old new status ⊎ RunsOut output.bytes old new status
+
+-- only the replies to a script are written while there is more to do
+abbrev pub IsInParts : Work → Type 0
+IsInParts LaysOut = ⊥
+IsInParts (Edits script) = Unit {0}
+IsInParts Checks = ⊥
+
+-- the output was delivered, or memory was refused while it was written in parts
+abbrev pub IsDelivered : Work → Output → SinkTold → SinkTold → Status → Type 0
+IsDelivered work output old new status =
+    Delivers output.bytes output.status old new status
+    ⊎ (IsInParts work × RunsOut output.bytes old new status)
+
 -- the wanted answer, or want of memory, was delivered
-pub record Written (wanted : Result (List ℕ) Refusal) (old new : SinkTold)
+pub record Written (wanted : Result Text Refusal) (old new : SinkTold)
     (status : Status) : Type 0 where
-  pub result : Result (List ℕ) Refusal
+  pub result : Result Text Refusal
   pub gives : GivesOr wanted result
   pub delivers : Delivers (output_of result).bytes (output_of result).status old new status
 
 -- the wanted answer, or the reason why it was cut short, was delivered
-pub record Answered (wanted : Option (Result (List ℕ) Refusal)) (lacks : Files → Type 0)
-    (before after : InputsTold) (old new : SinkTold) (status : Status) : Type 0 where
-  pub result : Result (List ℕ) Refusal
+pub record Answered (work : Work) (wanted : Option (Result Text Refusal))
+    (lacks : Files → Type 0) (before after : InputsTold) (old new : SinkTold)
+    (status : Status) : Type 0 where
+  pub result : Result Text Refusal
   pub answers : Answers wanted lacks before after result
-  pub delivers : Delivers (output_of result).bytes (output_of result).status old new status
+  pub delivers : IsDelivered work (output_of result) old new status
 
 -- ---- the ending of a run
+
+-- the words ask for what is written in parts
+abbrev pub AsksParts : Option Asked → Type 0
+AsksParts None = ⊥
+AsksParts (Some asked) = IsInParts asked.work
 
 abbrev pub IsCutShort : Status → Type 0
 IsCutShort status = (status ≡ ReadFault) ⊎ ((status ≡ WriteFault) ⊎ (status ≡ Memory))
@@ -97,8 +140,9 @@ pub record Ends (asked : Option Asked) (before after : InputsTold) (old new : Si
   -- where a reached file isn't there nothing is written
   pub lacking : IsSomeAnd before.files (LacksFile asked) →
       ((status ≡ ReadFault) ⊎ (status ≡ Memory)) × Keeps old.written new.written
-  -- a failed read and want of memory write nothing
-  pub cut : (status ≡ ReadFault) ⊎ (status ≡ Memory) → Keeps old.written new.written
+  -- a failed read writes nothing, and nor does want of memory but for the replies before it
+  pub unread_cut : status ≡ ReadFault → Keeps old.written new.written
+  pub memory_cut : status ≡ Memory → ¬ AsksParts asked → Keeps old.written new.written
   -- where every reached file is there and no count rose, only want of memory stands between
   pub complete : IfSome before.files (λ files.
       ¬ LacksFile asked files → ¬ Rose before.faults after.faults → ¬ Rose old.faults new.faults →
@@ -118,20 +162,25 @@ pub record Ends (asked : Option Asked) (before after : InputsTold) (old new : Si
 
 -- ---- steps
 
+-- the run ended before the tree was read
+abbrev pub EndsBeforeTree : Status → Type 0
+EndsBeforeTree Usage = Unit {0}
+EndsBeforeTree Metrics = Unit {0}
+EndsBeforeTree Tree = Unit {0}
+EndsBeforeTree other = ⊥
+
 -- the run ended before any tree was laid out
 abbrev pub EndsUnlaid : Status → Type 0
-EndsUnlaid Usage = Unit {0}
-EndsUnlaid Metrics = Unit {0}
-EndsUnlaid Tree = Unit {0}
 EndsUnlaid ReadFault = Unit {0}
-EndsUnlaid other = ⊥
+EndsUnlaid other = EndsBeforeTree other
 
--- a task that lays out no tree, or one that ended before
-abbrev pub StepsStand : Task → Status → Type 0
-StepsStand Check status = Unit {0}
-StepsStand Layout status = EndsUnlaid status
+-- work that lays out no tree, or that ended before; the read of a script comes behind it
+abbrev pub StepsStand : Work → Status → Type 0
+StepsStand LaysOut status = EndsUnlaid status
+StepsStand (Edits script) status = EndsBeforeTree status
+StepsStand Checks status = Unit {0}
 
 -- a run that lays out no tree takes no steps
 abbrev pub TakesNoSteps : Option Asked → Status → Type 0
 TakesNoSteps None status = Unit {0}
-TakesNoSteps (Some asked) status = StepsStand asked.task status
+TakesNoSteps (Some asked) status = StepsStand asked.work status

@@ -1,5 +1,9 @@
 pub mod Status
 pub mod Refusals
 pub mod Command
+pub mod Script
+pub mod Replies
 pub mod Answer
+pub mod Parts
 pub mod Ends
+pub mod Laws

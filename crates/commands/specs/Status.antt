@@ -1,7 +1,7 @@
 -- The numbers of the endings.
 use Rattle.std.specs.Prelude.{ℕ}
 use Rattle.commands.specs.declared.status.Status.{Status}
-use Rattle.commands.specs.declared.status.Status.TheVariants.{Done, Usage, Metrics, Tree, ReadFault, WriteFault, Memory, Range}
+use Rattle.commands.specs.declared.status.Status.TheVariants.{Done, Usage, Metrics, Tree, ReadFault, WriteFault, Memory, Range, ScriptLimit}
 
 -- the exit status of the program
 abbrev pub number_of : Status → ℕ
@@ -13,3 +13,4 @@ number_of ReadFault = 5
 number_of WriteFault = 6
 number_of Memory = 7
 number_of Range = 8
+number_of ScriptLimit = 9

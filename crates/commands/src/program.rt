@@ -1,25 +1,24 @@
-ghost use Rattle.std.specs.Prelude.{◌≡◌, ◌≢◌, true, false, Some, None, All, Err, IfOk, OnOk, map, string_bytes};
+ghost use Rattle.std.specs.Prelude.{◌≡◌, ◌≢◌, Some, None, All, IfOk, IfErr, Ok, map, string_bytes};
 ghost use Rattle.std.specs.Option.{option_map};
 ghost use Rattle.box_writer.specs.Items.{IsOfFont};
 ghost use Rattle.box_writer.specs.Lines.{text_of};
-ghost use Rattle.commands.specs.Command.{asked_by, asked_of};
-ghost use Rattle.commands.specs.Answer.{answer, answer_over, checked, content, done, laid_out, page_of};
-ghost use Rattle.commands.specs.Ends.{Answered, Delivers, Ends, EndsUnlaid, LacksFile, StepsStand, TakesNoSteps, Written};
-ghost use Rattle.fixed_units.specs.declared.refusal.LayRefusal.TheVariants.{Range};
-ghost use Rattle.layout_model.specs.Layout.{is_tree_in_range};
+ghost use Rattle.commands.specs.Command.{asked_by, asked_of, work_of, LaysOut, Edits};
+ghost use Rattle.commands.specs.Answer.{answer, answer_over, checked, done, laid_out, lines_of_page, scripted, started, whole_text};
+ghost use Rattle.commands.specs.Ends.{Answered, Delivers, Ends, EndsBeforeTree, EndsUnlaid, GivesOr, LacksFile, StepsStand, TakesNoSteps, Written};
+ghost use Rattle.commands.specs.Parts.{LacksScript, LacksTree};
 ghost use Rattle.commands.specs.Refusals.{line_of, status_of};
 
 use crate::command::{NoCommand, Request, Task, USAGE};
-use crate::load::{load_metrics, load_tree};
+use crate::load::{load_metrics, load_script, load_tree};
 use crate::refusal::Refusal;
+use crate::replies::answer_lines;
 use crate::status::Status;
 use box_writer::{Placed, write_placed};
 use doc_io::{Inputs, Sink, write_all};
-use fixed_units::{LayRefusal, List, Memory, Steps};
+use edit_session::Session;
+use fixed_units::{List, Memory, Steps};
 use font_metrics::Metrics;
-use layout_core::lay_fresh;
 use math_tree::Tree;
-use placement::place;
 use std::alloc::Global;
 use std::sync::ledger::Ledger;
 
@@ -51,29 +50,23 @@ fn answer<I: Inputs, O: Sink, L: Ledger>(
     out: &mut O,
     steps: &mut Steps<L>,
 ) -> Status
-    ensures answered { Answered
+    ensures answered { Answered (asked_of request.entry).work
         (option_map (answer (asked_of request.entry)) (I.told inputs.old).files)
         (LacksFile (Some (asked_of request.entry)))
         (I.told inputs.old) (I.told inputs.new)
         (O.told out.old) (O.told out.new) result }
-    ensures steps { StepsStand request.entry.task result → steps.new ≡ steps.old }
+    ensures steps { StepsStand (asked_of request.entry).work result → steps.new ≡ steps.old }
 {
     match load_metrics(alloc, request.metrics, inputs) {
-        Ok(metrics) => {
-            let status = answer_over(
-                alloc,
-                request.task,
-                &metrics,
-                request.tree,
-                inputs,
-                out,
-                steps,
-            );
-            // Dropped by a call, so that the proof of this function doesn't go through all their
-            // parts.
-            drop(metrics);
-            status
-        }
+        Ok(metrics) => answer_over(
+            alloc,
+            request.task,
+            metrics,
+            request.tree,
+            inputs,
+            out,
+            steps,
+        ),
         Err(refusal) => tell(out, refusal),
     }
 }
@@ -82,83 +75,160 @@ fn answer<I: Inputs, O: Sink, L: Ledger>(
 fn answer_over<I: Inputs, O: Sink, L: Ledger>(
     alloc: Global,
     task: Task,
-    metrics: &Metrics,
+    metrics: Metrics,
     name: &str,
     inputs: &mut I,
     out: &mut O,
     steps: &mut Steps<L>,
 ) -> Status
-    ensures answered { Answered
-        (option_map (λ files. answer_over task metrics.now (content files name.now))
-        (I.told inputs.old).files)
-        (λ files. files name.now ≡ None)
+    ensures answered { Answered (work_of task.entry)
+        (option_map (answer_over (work_of task.entry) metrics name.now) (I.told inputs.old).files)
+        (LacksTree (work_of task.entry) metrics name.now)
         (I.told inputs.old) (I.told inputs.new)
         (O.told out.old) (O.told out.new) result }
-    ensures steps { StepsStand task result → steps.new ≡ steps.old }
+    ensures steps { StepsStand (work_of task.entry) result → steps.new ≡ steps.old }
 {
     match load_tree(alloc, name, inputs) {
-        Ok(tree) => do_task(alloc, task, metrics, &tree, out, steps),
-        Err(refusal) => tell(out, refusal),
+        Ok(tree) => do_task(alloc, task, metrics, tree, inputs, out, steps),
+        Err(refusal) => {
+            // Dropped by a call, here and below, so that the proof of this function doesn't go
+            // through all parts.
+            drop(metrics);
+            tell(out, refusal)
+        }
     }
 }
 
 /// Does a task with the two files.
-fn do_task<O: Sink, L: Ledger>(
+fn do_task<I: Inputs, O: Sink, L: Ledger>(
     alloc: Global,
     task: Task,
-    metrics: &Metrics,
-    tree: &Tree,
+    metrics: Metrics,
+    tree: Tree,
+    inputs: &mut I,
     out: &mut O,
     steps: &mut Steps<L>,
 ) -> Status
-    ensures written { Written (done task metrics.now tree.now) (O.told out.old) (O.told out.new) result }
-    ensures steps { StepsStand task result → steps.new ≡ steps.old }
+    ensures answered { Answered (work_of task.entry)
+        (option_map (done (work_of task.entry) metrics tree) (I.told inputs.old).files)
+        (LacksScript (work_of task.entry) metrics tree)
+        (I.told inputs.old) (I.told inputs.new)
+        (O.told out.old) (O.told out.new) result }
+    ensures steps { StepsStand (work_of task.entry) result → steps.new ≡ steps.old }
 {
     match task {
         Task::Layout => lay_out(alloc, metrics, tree, out, steps),
-        Task::Check => check(alloc, metrics, tree, out),
+        Task::Edit(script) => edit(alloc, metrics, tree, script, inputs, out, steps),
+        Task::Check => {
+            let status = check(alloc, &metrics, &tree, out);
+            drop(metrics);
+            drop(tree);
+            status
+        }
     }
 }
 
 /// Lays out the tree and writes the lines of its boxes and marks, or tells why it isn't laid out.
 fn lay_out<O: Sink, L: Ledger>(
     alloc: Global,
-    metrics: &Metrics,
-    tree: &Tree,
+    metrics: Metrics,
+    tree: Tree,
     out: &mut O,
     steps: &mut Steps<L>,
 ) -> Status
-    ensures written { Written (laid_out metrics.now tree.now) (O.told out.old) (O.told out.new) result }
+    ensures written { Written (laid_out metrics tree) (O.told out.old) (O.told out.new) result }
     ensures late { ¬ EndsUnlaid result }
 {
-    match place_tree(alloc, metrics, tree, steps) {
-        Ok(placed) => deliver_lines(out, &placed, metrics),
-        Err(refusal) => tell(out, Refusal::of_layout(refusal)),
+    match start(alloc, metrics, tree, steps) {
+        Ok(mut session) => {
+            let status = show(alloc, &mut session, out);
+            drop(session);
+            status
+        }
+        Err(refusal) => tell(out, refusal),
     }
 }
 
-/// Lays out the tree, and says where its boxes and marks stand.
-fn place_tree<L: Ledger>(
+/// Lays out the tree and answers the lines of a script, or tells why it doesn't.
+fn edit<I: Inputs, O: Sink, L: Ledger>(
     alloc: Global,
-    metrics: &Metrics,
-    tree: &Tree,
+    metrics: Metrics,
+    tree: Tree,
+    script: &str,
+    inputs: &mut I,
+    out: &mut O,
     steps: &mut Steps<L>,
-) -> Result<Placed, LayRefusal>
-    ensures ok { IfOk result (λ items. items ≡ page_of metrics.now tree.now) }
-    ensures fit { OnOk result (is_tree_in_range metrics.now tree.now ≡ true) }
-    ensures glyphs { IfOk result (All (IsOfFont metrics.now)) }
-    ensures range { result ≡ Err Range → is_tree_in_range metrics.now tree.now ≡ false }
+) -> Status
+    ensures answered { Answered (Edits script.now)
+        (option_map (done (Edits script.now) metrics tree) (I.told inputs.old).files)
+        (LacksScript (Edits script.now) metrics tree)
+        (I.told inputs.old) (I.told inputs.new)
+        (O.told out.old) (O.told out.new) result }
+    ensures late { ¬ EndsBeforeTree result }
 {
-    let laid = lay_fresh(alloc, tree, metrics, steps)?;
-    // What placing needs to know of both files: neither call does anything.
-    metrics.is_taken();
-    let _root = tree.root();
-    Ok(place(alloc, &laid)?)
+    match start(alloc, metrics, tree, steps) {
+        Ok(mut session) => {
+            let status = answer_script(alloc, &mut session, script, inputs, out, steps);
+            drop(session);
+            status
+        }
+        Err(refusal) => tell(out, refusal),
+    }
+}
+
+/// The session of a tree that is laid out.
+fn start<L: Ledger>(
+    alloc: Global,
+    metrics: Metrics,
+    tree: Tree,
+    steps: &mut Steps<L>,
+) -> Result<Session, Refusal>
+    ensures gives { GivesOr (started metrics tree) result }
+    ensures late { IfErr result (λ refusal. ¬ EndsUnlaid (status_of refusal)) }
+{
+    match Session::start(alloc, tree, metrics, steps) {
+        Ok(session) => Ok(session),
+        Err(refusal) => Err(Refusal::of_layout(refusal)),
+    }
+}
+
+/// Writes the lines of the boxes and marks of a session's tree.
+fn show<O: Sink>(alloc: Global, session: &mut Session, out: &mut O) -> Status
+    ensures written { Written (Ok (whole_text (lines_of_page session.old)))
+        (O.told out.old) (O.told out.new) result }
+    ensures late { ¬ EndsUnlaid result }
+{
+    match session.show(alloc) {
+        Ok(placed) => deliver_lines(out, &placed, session.metrics()),
+        Err(Memory) => tell(out, Refusal::Memory),
+    }
+}
+
+/// Answers the lines of a script over a session, or tells why it doesn't.
+fn answer_script<I: Inputs, O: Sink, L: Ledger>(
+    alloc: Global,
+    session: &mut Session,
+    name: &str,
+    inputs: &mut I,
+    out: &mut O,
+    steps: &mut Steps<L>,
+) -> Status
+    ensures answered { Answered (Edits name.now)
+        (option_map (scripted name.now session.old) (I.told inputs.old).files)
+        (λ files. files name.now ≡ None)
+        (I.told inputs.old) (I.told inputs.new)
+        (O.told out.old) (O.told out.new) result }
+    ensures late { ¬ EndsBeforeTree result }
+{
+    match load_script(alloc, name, inputs) {
+        Ok(script) => answer_lines(alloc, session, script.as_slice(), out, steps),
+        Err(refusal) => tell(out, refusal),
+    }
 }
 
 /// Writes the canonical print of both files, and a line feed.
 fn check<O: Sink>(alloc: Global, metrics: &Metrics, tree: &Tree, out: &mut O) -> Status
-    ensures { Written (Ok (checked metrics.now tree.now)) (O.told out.old) (O.told out.new) result }
+    ensures { Written (Ok (whole_text (checked metrics.now tree.now))) (O.told out.old) (O.told out.new) result }
 {
     match print_both(alloc, metrics, tree) {
         Ok(text) => deliver(out, text.as_slice(), Status::Done),

@@ -23,6 +23,8 @@ pub enum Status {
     Memory,
     /// A number of the tree's layout can't be stored.
     Range,
+    /// The script, a line of it or the number of its lines passes its limit.
+    ScriptLimit,
 }
 
 impl Status {
@@ -39,6 +41,7 @@ impl Status {
             Status::WriteFault => 6,
             Status::Memory => 7,
             Status::Range => 8,
+            Status::ScriptLimit => 9,
         }
     }
 

@@ -1,5 +1,6 @@
 //! The program `mathlay`: it lays out the tree of one file with the metrics of another and writes
-//! what stands where, or prints both files in their canonical form.
+//! what stands where, answers the lines of a script that edits the tree, or prints both files in
+//! their canonical form.
 //!
 //! `main` hands the words of the command line, the system's files and standard output to
 //! `commands::run`, which does all that the program does, and ends with the number of its status.

@@ -17,7 +17,7 @@ const WIDE: &[u8] =
 
 const EMPTY_BOX: &[u8] = b"box 1 math 0 0 0 0 0 0 0\n";
 
-const USAGE: &[u8] = b"usage: mathlay layout METRICS TREE | check METRICS TREE\n";
+const USAGE: &[u8] = b"usage: mathlay layout METRICS TREE | edit METRICS TREE SCRIPT | check METRICS TREE\n";
 
 /// An environment whose words are these bytes, and which has no variables.
 #[derive(Drop)]
@@ -48,8 +48,14 @@ impl Env for Made {
 
 #[test]
 fn words_lead_to_an_exit_status(rt: HostRuntime) -> Result<(), Fail> {
-    let rows: [(&'static [&'static [u8]], usize, u8, &[u8]); 10] = [
+    let rows: [(&'static [&'static [u8]], usize, u8, &[u8]); 11] = [
         (&[b"mathlay", b"layout", b"m", b"t"], 100, 0, EMPTY_BOX),
+        (
+            &[b"mathlay", b"edit", b"m", b"t", b"s"],
+            100,
+            0,
+            b"refused root\n",
+        ),
         (&[b"mathlay", b"layout", b"m"], 100, 2, USAGE),
         (&[b"mathlay", b"layout", b"m", b"t", b"t"], 100, 2, USAGE),
         // words that are no text
@@ -73,6 +79,7 @@ fn words_lead_to_an_exit_status(rt: HostRuntime) -> Result<(), Fail> {
         inputs.add_file("m", METRICS)?;
         inputs.add_file("t", b"{\"name\":\"math\"}")?;
         inputs.add_file("w", WIDE)?;
+        inputs.add_file("s", b"{\"op\":\"remove\",\"node\":1}")?;
         let mut out = MemorySink::make(rt.alloc(), room)?;
         let env = (Made { words }, rt.alloc());
         let code = started::<Brand>(&env, &mut inputs, &mut out, Blank::new(1));

@@ -1,17 +1,20 @@
-use Rattle.std.proofs.Common.{Err}
+use Rattle.std.proofs.Common.{inl, Err}
+use Rattle.commands.specs.Command.{work_of}
 use Rattle.commands.proofs.Answering.{without_tree, with_tree}
 use Rattle.commands.proofs.program.answer_over.Goals as goal
 
 pub returns-in-Ok-clause-answered : goal.returns-in-Ok-clause-answered
-returns-in-Ok-clause-answered g c = record {
-  result = c.do_task.ensures.written.result;
-  answers = with_tree _ _ _ _ _ _ _ c.in-Ok.ensures c.do_task.ensures.written.gives;
-  delivers = c.do_task.ensures.written.delivers;
-}
+returns-in-Ok-clause-answered g c =
+    let a = c.do_task.ensures.answered in
+    record {
+      result = a.result;
+      answers = with_tree (work_of c.args.task) c.args.metrics c.args.name.now _ _ _ c.in-Ok.tree a.result c.in-Ok.ensures a.answers;
+      delivers = a.delivers;
+    }
 
 pub returns-in-Err-clause-answered : goal.returns-in-Err-clause-answered
 returns-in-Err-clause-answered g c = record {
   result = Err c.in-Err.refusal;
-  answers = without_tree _ _ _ _ _ _ c.in-Err.ensures;
-  delivers = c.tell.ensures;
+  answers = without_tree (work_of c.args.task) c.args.metrics c.args.name.now _ _ c.in-Err.refusal c.in-Err.ensures;
+  delivers = inl c.tell.ensures;
 }

@@ -1,5 +1,5 @@
 use Rattle.std.proofs.Common.{refl, inl, inr, subst, ◌∙◌, Ok, Err}
-use Rattle.commands.specs.Answer.{checked}
+use Rattle.commands.specs.Answer.{checked, whole_text}
 use Rattle.commands.specs.Ends.{Delivers}
 use Rattle.commands.specs.declared.status.Status.TheVariants.{Done}
 use Rattle.commands.specs.declared.refusal.Refusal.TheVariants.{Memory}
@@ -7,7 +7,7 @@ use Rattle.commands.proofs.program.check.Goals as goal
 
 pub returns-in-Ok : goal.returns-in-Ok
 returns-in-Ok g c = record {
-  result = Ok (checked c.args.metrics.now c.args.tree.now);
+  result = Ok (whole_text (checked c.args.metrics.now c.args.tree.now));
   gives = inr refl;
   delivers = subst (λ text. Delivers text Done (g.O.Sink.told c.args.out.now) (g.O.Sink.told c.deliver.new.out) c.deliver.result)
       (c.as_slice.ensures ∙ c.in-Ok.ensures) c.deliver.ensures;

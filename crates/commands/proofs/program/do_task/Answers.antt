@@ -1,20 +1,30 @@
-use Rattle.std.proofs.Common.{subst, sym}
+use Rattle.std.proofs.Common.{inl, subst, sym, ap}
+use Rattle.std.specs.Option.{option_map}
 use Rattle.commands.specs.Answer.{done}
-use Rattle.commands.specs.Ends.{StepsStand, Written}
+use Rattle.commands.specs.Command.{Work, work_of}
+use Rattle.commands.specs.Ends.{Answered}
+use Rattle.commands.specs.Parts.{LacksScript}
+use Rattle.commands.proofs.Answering.{checked_answers, laid_out_answers}
 use Rattle.commands.proofs.program.do_task.Goals as goal
 
-pub returns-in-Layout-clause-written : goal.returns-in-Layout-clause-written
-unfolding done
-returns-in-Layout-clause-written g c =
-    subst (λ task. Written (done task c.args.metrics.now c.args.tree.now) (g.O.Sink.told c.args.out.now) (g.O.Sink.told c.lay_out.new.out) c.lay_out.result)
-    (sym c.in-Layout.is) c.lay_out.ensures.written
+pub returns-in-Layout-clause-answered : goal.returns-in-Layout-clause-answered
+returns-in-Layout-clause-answered g c =
+    let told = g.I.Inputs.told c.args.inputs.now in
+    let m = c.args.metrics in
+    let t = c.args.tree in
+    let w = c.lay_out.ensures.written in
+    subst (λ (work : Work). Answered work (option_map (done work m t) told.files) (LacksScript work m t) told told
+    (g.O.Sink.told c.args.out.now) (g.O.Sink.told c.lay_out.new.out) c.lay_out.result)
+    (sym (ap work_of c.in-Layout.is))
+    (record { result = w.result; answers = laid_out_answers m t told w.result w.gives; delivers = inl w.delivers })
 
-pub returns-in-Layout-clause-steps : goal.returns-in-Layout-clause-steps
-returns-in-Layout-clause-steps g c = λ stand.
-    absurd (c.lay_out.ensures.late (subst (λ task. StepsStand task c.lay_out.result) c.in-Layout.is stand))
-
-pub returns-in-Check-clause-written : goal.returns-in-Check-clause-written
-unfolding done
-returns-in-Check-clause-written g c =
-    subst (λ task. Written (done task c.args.metrics.now c.args.tree.now) (g.O.Sink.told c.args.out.now) (g.O.Sink.told c.check.new.out) c.check.result)
-    (sym c.in-Check.is) c.check.ensures
+pub returns-in-Check-clause-answered : goal.returns-in-Check-clause-answered
+returns-in-Check-clause-answered g c =
+    let told = g.I.Inputs.told c.args.inputs.now in
+    let m = c.args.metrics in
+    let t = c.args.tree in
+    let w = c.check-status.ensures in
+    subst (λ (work : Work). Answered work (option_map (done work m t) told.files) (LacksScript work m t) told told
+    (g.O.Sink.told c.args.out.now) (g.O.Sink.told c.check-status.new.out) c.check-status.result)
+    (sym (ap work_of c.in-Check.is))
+    (record { result = w.result; answers = checked_answers m t told w.result w.gives; delivers = inl w.delivers })

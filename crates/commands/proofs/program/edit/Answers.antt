@@ -1,0 +1,19 @@
+use Rattle.std.proofs.Common.{inl, Err}
+use Rattle.commands.proofs.Answering.{with_session, without_session}
+use Rattle.commands.proofs.program.edit.Goals as goal
+
+pub returns-in-Ok-clause-answered : goal.returns-in-Ok-clause-answered
+returns-in-Ok-clause-answered g c =
+    let a = c.answer_script-status.ensures.answered in
+    record {
+      result = a.result;
+      answers = with_session c.args.script.now c.args.metrics c.args.tree _ _ c.in-Ok.session a.result c.in-Ok.ensures.gives a.answers;
+      delivers = a.delivers;
+    }
+
+pub returns-in-Err-clause-answered : goal.returns-in-Err-clause-answered
+returns-in-Err-clause-answered g c = record {
+  result = Err c.in-Err.refusal;
+  answers = without_session c.args.script.now c.args.metrics c.args.tree _ c.in-Err.refusal c.in-Err.ensures.gives;
+  delivers = inl c.tell.ensures;
+}
