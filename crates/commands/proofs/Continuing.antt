@@ -115,16 +115,6 @@ appends_nothing : (a : Option (List ℕ)) → Appends a a []
 appends_nothing None = tt
 appends_nothing (Some a) = sym (append-nil a)
 
--- before the first line
-pub begins : (wanted : Output) (first : SinkTold) → Continues wanted wanted first first
-begins wanted first = record {
-  sent = [];
-  together = refl;
-  status = refl;
-  appended = appends_nothing first.written;
-  later = omega arith;
-}
-
 -- after a line that was answered
 pub continued : (wanted : Output) (most left : ℕ) (session next : SessionValue) (line : List ℕ) (rest lines : List (List ℕ))
     (first now later : SinkTold) → rest ≡ line ∷ lines → most ≡ left + 1 → is_short line ≡ true → next ≡ after_line session line

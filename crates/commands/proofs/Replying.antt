@@ -2,15 +2,11 @@
 use Rattle.std.proofs.Common.{◌≡◌, ◌∙◌, sym, refl, subst, ℕ, ◌+◌, ◌≤◌, Bool, true, false, List, [], ◌∷◌, ◌++◌, length, take, arith, append-nil, length-append, Option, Some, None}
 use Rattle.std.specs.Prelude.{Result, Ok, Err, IsOk, if◌then◌else◌}
 use Rattle.std.proofs.Math.Seq.{take-append-add}
-use Rattle.std.proofs.lemmas.List.{take-append-le}
 use Rattle.std.specs.Io.KnownBytes.{Appends}
 use Rattle.doc_io.specs.Causes.{SinkTold}
 use Rattle.doc_io.specs.Whole.{WritesAll}
 use Rattle.doc_io.proofs.Known.{appends_both}
-use Rattle.tree_edits.specs.Applying.{IsProperEdit}
-use Rattle.tree_edits.specs.Commands.{IsProperEdit as IsReadEdit}
 use Rattle.tree_edits.specs.declared.edit.Edit.{Edit}
-use Rattle.tree_edits.specs.declared.edit.Edit.TheVariants.{Text, Attr, Insert, Remove, Replace}
 use Rattle.tree_edits.specs.Commands.{command_in}
 use Rattle.tree_edits.specs.declared.command.Command.{Command}
 use Rattle.tree_edits.specs.declared.command.Command.TheVariants.{Show, Change}
@@ -21,14 +17,6 @@ use Rattle.commands.specs.Parts.{Tells}
 use Rattle.commands.specs.declared.reply.Reply.{Reply}
 use Rattle.commands.specs.declared.reply.Reply.TheVariants.{Nothing, Accepted, Refused, Shown}
 use Rattle.commands.specs.declared.replies.Stop.TheVariants as stop
-
--- an edit that was read brings what an edit may bring
-pub read_proper : (edit : Edit) → IsReadEdit edit → IsProperEdit edit
-read_proper (Text id text) h = h
-read_proper (Attr id name value) h = h
-read_proper (Insert id index element) h = h
-read_proper (Remove id) h = h
-read_proper (Replace id element) h = h
 
 -- ---- two pieces, one after the other
 
@@ -71,20 +59,6 @@ module _ {E : Type 0} (a b c : SinkTold) (xs ys : List ℕ) where
     empty = empty_both (Err e) first next;
   }
 
--- the first wasn't written whole
-pub written_front : {E : Type 0} (a b : SinkTold) (xs ys : List ℕ) (e : E) → WritesAll a b xs (Err e) → WritesAll a b (xs ++ ys) (Err e)
-written_front {E} a b xs ys e first = record {
-  faults = first.faults;
-  whole = tt;
-  part = (
-    first.part.0,
-    omega (arith, length-append xs ys, first.part.1),
-    subst (Appends a.written b.written) (sym (take-append-le first.part.0 xs ys first.part.1)) first.part.2,
-  );
-  failed = first.failed;
-  empty = λ none. first.empty (both_empty xs ys none).0;
-}
-
 -- ---- a reply
 
 appends_nothing : (a : Option (List ℕ)) → Appends a a []
@@ -107,15 +81,6 @@ not_told {E} a b text e w = record {
   fault = λ is. w.failed;
   later = w.faults;
   silent = λ none is. absurd (let ok = (w.empty none).0 in cc);
-}
-
-pub not_made : (a : SinkTold) (text : List ℕ) → Tells text a a (Err stop.Memory)
-not_made a text = record {
-  whole = tt;
-  front = (0, omega arith, appends_nothing a.written);
-  fault = λ is. absurd cc;
-  later = omega arith;
-  silent = λ none is. absurd cc;
 }
 
 -- ---- the session after a line

@@ -1,5 +1,5 @@
 -- Worked runs: the definitions of the program, computed from the bytes of the files and the words.
-use Rattle.std.proofs.Common.{◌≡◌, ◌∙◌, ap, ℕ, pos, List, [], ◌∷◌, ◌++◌, codes, Some, None, refl, lit≤}
+use Rattle.std.proofs.Common.{◌≡◌, ◌∙◌, ap, ℕ, pos, List, [], ◌∷◌, ◌++◌, codes, Some, None, refl, lit≤, Bool, true, false}
 use Rattle.std.specs.Prelude.{⊤, Ok, Err, if◌then◌else◌}
 use Rattle.std.specs.Fmt.{digits}
 use Rattle.std.specs.Str.{bytes_eq}
@@ -17,10 +17,27 @@ use Rattle.math_tree.specs.declared.kind.Kind.TheVariants.{Math, Mn}
 use Rattle.math_tree.specs.declared.node.Node.{Node}
 use Rattle.math_tree.specs.declared.node.Node.TheViews.{roll-Node}
 use Rattle.math_tree.specs.declared.node.Node.TheOpen.{Node-F}
+use Rattle.std.specs.Option.{option_and_then}
+use Rattle.std.specs.Str.{IsUtf8}
+use Rattle.math_tree.specs.Forms.{is_white_space}
+use Rattle.math_tree.specs.Trees.{Listed, listed}
+use Rattle.tree_edits.specs.Commands.{command_in, command_of, element_in, has_only, id_in, index_in, op_in, op_of, text_at, value_in}
+use Rattle.tree_edits.specs.Edits.{edited, first_refusal, refusal_of}
+use Rattle.tree_edits.specs.declared.command.Command.TheVariants.{Change}
+use Rattle.tree_edits.specs.declared.edit.Edit.{Edit as EditOfTree}
+use Rattle.tree_edits.specs.declared.edit.Edit.TheVariants.{Remove}
+use Rattle.tree_edits.specs.declared.edit.EditRefusal.TheVariants.{RootFixed}
+use Rattle.tree_edits.proofs.Frames.{listed_out}
+use Rattle.edit_session.specs.Session.{SessionValue}
+use Rattle.commands.specs.Script.{lines_of, is_short, within, is_within}
+use Rattle.commands.specs.Replies.{after_line, is_edited_in_range, replies, reply_by, reply_to, reply_to_command, reply_to_edit, text_of_reply, told_of}
+use Rattle.commands.specs.declared.reply.Cause.TheVariants.{NoCommand, Unmade}
+use Rattle.commands.specs.declared.reply.Reply.TheVariants.{Nothing, Refused}
 use Rattle.commands.specs.Command.{asked_by, Edits, Checks}
 use Rattle.commands.specs.Answer.{metrics_in, tree_of_json, tree_in, output_of, output}
 use Rattle.commands.proofs.Loading.{tree_short}
 use Rattle.commands.proofs.Answering.{refused_by_metrics}
+use Rattle.commands.proofs.RepliesLaws.{unchanged}
 use Rattle.commands.specs.declared.status.Status.TheVariants.{Usage, Metrics as MetricsStatus}
 use Rattle.commands.specs.declared.refusal.Refusal.TheVariants.{Metrics, Tree, TreeJson}
 
@@ -32,6 +49,11 @@ unfolding
     keyword_of words_of is_foreign after after_first finished metrics_of
     metrics_in
 on_literals = tt
+
+-- and the lines of a script
+unfoldable lines_on_literals : ⊤
+unfolding math_tree_on_literals id_in index_in text_at value_in element_in op_of op_in has_only command_of
+lines_on_literals = tt
 
 -- ---- a metrics file and a tree file
 
@@ -140,3 +162,107 @@ four_words = refl
 
 three_words : asked_by (codes "check" ∷ codes "m" ∷ codes "t" ∷ []) ≡ Some record { work = Checks; metrics = codes "m"; tree = codes "t" }
 three_words = refl
+
+-- ---- the lines of a script
+
+three_lines : lines_of (codes "a\n\nb") ≡ codes "a" ∷ [] ∷ codes "b" ∷ []
+unfolding lines_of
+three_lines = refl
+
+-- behind the last line feed there is no line
+ended_line : lines_of (codes "a\n") ≡ codes "a" ∷ []
+unfolding lines_of
+ended_line = refl
+
+no_line : lines_of [] ≡ []
+unfolding lines_of
+no_line = refl
+
+-- where two are answered, the third is too many
+two_of_three : within 2 (codes "a" ∷ [] ∷ codes "b" ∷ []) ≡ codes "a" ∷ [] ∷ []
+unfolding within is_short
+two_of_three = refl
+
+too_many_lines : is_within 2 (codes "a" ∷ [] ∷ codes "b" ∷ []) ≡ false
+unfolding is_within is_short
+too_many_lines = refl
+
+as_many_lines : is_within 3 (codes "a" ∷ [] ∷ codes "b" ∷ []) ≡ true
+unfolding is_within is_short
+as_many_lines = refl
+
+-- ---- replies
+
+abbrev session : SessionValue
+session = record { tree = tree_value; metrics = font }
+
+-- the command of a line is that of its text
+read_line : (line : List ℕ) → IsUtf8 line → command_in line ≡ option_and_then command_of (read line)
+read_line line text = ap (λ (b : Bool). option_and_then command_of (if b then read line else None)) (is_utf8-from_IsUtf8 line text)
+
+-- tab, space and form feed
+white_line : reply_to session (9 ∷ 32 ∷ 12 ∷ []) ≡ Nothing
+unfolding reply_to math_tree_on_literals
+white_line = refl
+
+abbrev move : List ℕ
+move = codes "{\"op\":\"move\"}"
+
+no_move : reply_to session move ≡ Refused NoCommand
+unfolding reply_to lines_on_literals lib.Utf8.encode
+no_move = ap (reply_to_command session) (read_line move (move, (refl, refl)))
+
+move_told : told_of session move ≡ codes "refused line\n"
+unfolding text_of_reply
+move_told = ap (text_of_reply font) no_move
+
+-- the elements of the tree
+listing : listed 1 tree_value.root
+    ≡ record { level = 1; head = (layer 1 (codes "math") Math [] []).head; children = 1 }
+    ∷ record { level = 2; head = (layer 2 (codes "mn") Mn (codes "1") []).head; children = 0 }
+    ∷ []
+listing =
+    listed_out 1 (layer 1 (codes "math") Math [] []).head (number_node (codes "1") ∷ [])
+    ∙ ap (λ below. record { level = 1; head = (layer 1 (codes "math") Math [] []).head; children = 1 } ∷ below ++ [])
+    (listed_out 2 (layer 2 (codes "mn") Mn (codes "1") []).head [])
+
+root_stays : (after : List Listed) (next : ℕ) → first_refusal (listed 1 tree_value.root) after next (Remove (record { 0 = 1 })) ≡ Some RootFixed
+unfolding math_tree_on_literals
+root_stays after next = ap (λ elements. first_refusal elements after next (Remove (record { 0 = 1 }))) listing
+
+removed_root : reply_to_edit session (Remove (record { 0 = 1 })) ≡ Refused (Unmade RootFixed)
+unfolding refusal_of
+removed_root = ap (λ reason. reply_by reason (is_edited_in_range session (Remove (record { 0 = 1 })))) (root_stays (listed 1 (edited tree_value (Remove (record { 0 = 1 }))).root) (edited tree_value (Remove (record { 0 = 1 }))).next_id)
+
+-- an edit that is accepted, where its layout can be stored, and what is answered then
+accepted_line : (edit : EditOfTree) (line : List ℕ) → is_white_space line ≡ false → command_in line ≡ Some (Change edit)
+    → refusal_of tree_value edit ≡ None → is_edited_in_range session edit ≡ true → told_of session line ≡ codes "ok\n"
+unfolding reply_to text_of_reply
+accepted_line edit line black is free fits =
+    ap (λ (white : Bool). text_of_reply font (if white then Nothing else reply_to_command session (command_in line))) black
+    ∙ ap (λ command. text_of_reply font (reply_to_command session command)) is
+    ∙ (λ i. text_of_reply font (reply_by (free i) (fits i)))
+
+abbrev remove : List ℕ
+remove = codes "{\"op\":\"remove\",\"node\":1}"
+
+remove_told : told_of session remove ≡ codes "refused root\n"
+unfolding reply_to text_of_reply lines_on_literals lib.Utf8.encode
+remove_told =
+    ap (λ command. text_of_reply font (reply_to_command session command)) (read_line remove (remove, (refl, refl)))
+    ∙ ap (text_of_reply font) removed_root
+
+white_stays : after_line session (9 ∷ []) ≡ session
+unfolding after_line math_tree_on_literals
+white_stays = refl
+
+move_stays : after_line session move ≡ session
+move_stays = unchanged session move (λ e. let other = no_move in cc)
+
+-- a line of white space, a line that is no command, and an edit that is refused
+three_replies : replies session ((9 ∷ []) ∷ move ∷ remove ∷ []) ≡ codes "refused line\nrefused root\n"
+unfolding reply_to text_of_reply math_tree_on_literals
+three_replies =
+    ap (λ s. told_of s move ++ (told_of (after_line s move) remove ++ [])) white_stays
+    ∙ ap (λ s. told_of session move ++ (told_of s remove ++ [])) move_stays
+    ∙ (λ i. move_told i ++ (remove_told i ++ []))

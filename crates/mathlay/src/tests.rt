@@ -17,7 +17,8 @@ const WIDE: &[u8] =
 
 const EMPTY_BOX: &[u8] = b"box 1 math 0 0 0 0 0 0 0\n";
 
-const USAGE: &[u8] = b"usage: mathlay layout METRICS TREE | edit METRICS TREE SCRIPT | check METRICS TREE\n";
+const USAGE: &[u8] =
+    b"usage: mathlay layout METRICS TREE | edit METRICS TREE SCRIPT | check METRICS TREE\n";
 
 /// An environment whose words are these bytes, and which has no variables.
 #[derive(Drop)]
