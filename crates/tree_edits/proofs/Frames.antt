@@ -17,10 +17,6 @@ use Rattle.tree_edits.specs.Paths.{children_of, node_at, changed_at}
 abbrev pub entry : ℕ → Head → ℕ → Listed
 entry level head children = record { level = level; head = head; children = children }
 
--- an element as a list shows it
-abbrev pub shown : ℕ → Node → Listed
-shown level n = entry level (head_of n) (length (children_of n))
-
 -- ---- an element over its children
 
 pub head_rolled : (head : Head) (nodes : List Node) → head_of (node head nodes) ≡ head

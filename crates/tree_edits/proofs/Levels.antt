@@ -7,8 +7,9 @@ use Rattle.std.specs.List.{AllByRecursion, flat_map, sum_by}
 use Rattle.math_tree.proofs.Nodes.{by_children, listed_element}
 use Rattle.math_tree.specs.Trees.{Listed, listed, element_count, byte_count, bytes_of_head, IsProper}
 use Rattle.math_tree.specs.declared.node.Node.{Node}
-use Rattle.tree_edits.proofs.Frames.{entry, shown}
+use Rattle.tree_edits.proofs.Frames.{entry}
 use Rattle.tree_edits.specs.Paths.{children_of}
+use Rattle.tree_edits.specs.Reasons.{shown}
 
 abbrev pub raised : ℕ → Listed → Listed
 raised more e = entry (e.level + more) e.head e.children

@@ -29,11 +29,14 @@ pub mod Inverse
 -- how much there is in an element, and new ids
 mod Measuring
 mod NewIds
--- the numbers of an edited tree, the change that an edit is, and the first reason against it
+-- what planning an edit finds: the numbers of the edited tree, the change that the edit is, and the
+-- first reason against it
+mod Allowed
 mod AttributeBytes
 mod PathEnds
-mod Totalling
-mod Stepping
-mod Reasoning
-mod Plans
-mod WaysOut
+mod EditedTotals
+mod OneStep
+mod FirstReason
+mod PlanMade
+-- what carrying it out takes gives the tree back
+mod ThereAndBack

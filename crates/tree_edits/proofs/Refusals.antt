@@ -1,18 +1,16 @@
 -- An edit that isn't refused passes each test.
-use Rattle.std.proofs.Common.{◌≡◌, ◌∙◌, sym, ap, refl, ℕ, ◌^◌, List, [], ◌∷◌, ◌++◌, Bool, true, false, cond, nat_lt, Option, Some, None, is_some}
-use Rattle.std.proofs.lemmas.Bool.{cond-true, cond-false, not-false}
+use Rattle.std.proofs.Common.{◌≡◌, sym, refl, ℕ, ◌^◌, List, [], ◌∷◌, Bool, true, false, cond, nat_lt, Option, Some, None, is_some}
+use Rattle.std.proofs.lemmas.Bool.{not-false}
 use Rattle.std.proofs.lemmas.Option.{none-some}
 use Rattle.std.specs.List.{AllByRecursion, find}
 use Rattle.std.specs.Option.{option_map}
 use Rattle.math_tree.specs.Trees.{TreeValue, Listed, listed}
 use Rattle.tree_edits.specs.Edits.{edited, is_not_text, is_in_text, is_past, is_fixed, is_misnamed, is_right_to_left, is_long, is_deep, is_large, target, at_target, refusals, first_refusal, refusal_of}
+use Rattle.tree_edits.specs.Reasons.{first_reason}
 use Rattle.tree_edits.specs.declared.edit.Edit.{Edit}
 use Rattle.tree_edits.specs.declared.edit.EditRefusal.{EditRefusal}
 
--- ---- the first of some rows that holds
-
-abbrev pub first_of : List (Bool × EditRefusal) → Option EditRefusal
-first_of rows = option_map (λ row. row.1) (find (λ row. row.0) rows)
+-- ---- rows of which none holds
 
 abbrev pub AllFail : List (Bool × EditRefusal) → Type 0
 AllFail rows = AllByRecursion (λ row. row.0 ≡ false) rows
@@ -22,26 +20,11 @@ row_fails : (test : Bool) (row : Bool × EditRefusal) (found : Option (Bool × E
 row_fails true row found h = absurd (none-some row.1 (sym h))
 row_fails false row found h = (refl, h)
 
-pub all_fail : (rows : List (Bool × EditRefusal)) → first_of rows ≡ None → AllFail rows
+pub all_fail : (rows : List (Bool × EditRefusal)) → first_reason rows ≡ None → AllFail rows
 all_fail [] h = tt
 all_fail (row ∷ rows) h =
     let parts = row_fails row.0 row (find (λ (row : Bool × EditRefusal). row.0) rows) h in
     (parts.0, all_fail rows parts.1)
-
-pub none_holds : (rows : List (Bool × EditRefusal)) → AllFail rows → first_of rows ≡ None
-none_holds [] h = refl
-none_holds (row ∷ rows) h =
-    ap (option_map (λ (row : Bool × EditRefusal). row.1)) (cond-false row.0 (Some row) (find (λ (row : Bool × EditRefusal). row.0) rows) h.0)
-    ∙ none_holds rows h.1
-
--- the one that holds behind those that fail
-pub first_holds : (front : List (Bool × EditRefusal)) (test : Bool) (refusal : EditRefusal) (back : List (Bool × EditRefusal))
-    → AllFail front → test ≡ true → first_of (front ++ ((test, refusal) ∷ back)) ≡ Some refusal
-first_holds [] test refusal back h holds =
-    ap (option_map (λ (row : Bool × EditRefusal). row.1)) (cond-true test (Some (test, refusal)) (find (λ (row : Bool × EditRefusal). row.0) back) holds)
-first_holds (row ∷ front) test refusal back h holds =
-    ap (option_map (λ (row : Bool × EditRefusal). row.1)) (cond-false row.0 (Some row) (find (λ (row : Bool × EditRefusal). row.0) (front ++ ((test, refusal) ∷ back))) h.0)
-    ∙ first_holds front test refusal back h.1 holds
 
 -- ---- an edit that isn't refused
 

@@ -13,10 +13,11 @@ use Rattle.math_tree.specs.Reading.{Planted, nodes_from}
 use Rattle.math_tree.specs.Trees.{Listed, node, listed, ids_of, element_count, byte_count, bytes_of_head, IsProper}
 use Rattle.math_tree.specs.declared.node.Node.{Node}
 use Rattle.math_tree.specs.declared.node.Node.TheFolds.{fold-Node, fold_out-Node}
-use Rattle.tree_edits.proofs.Frames.{entry, shown, listed_out, head_rolled, children_rolled}
+use Rattle.tree_edits.proofs.Frames.{entry, listed_out, head_rolled, children_rolled}
 use Rattle.tree_edits.proofs.Levels.{length_at, bytes_in}
 use Rattle.tree_edits.specs.Edits.{head_of, is_deep}
 use Rattle.tree_edits.specs.Paths.{children_of}
+use Rattle.tree_edits.specs.Reasons.{shown}
 
 -- ---- the nodes
 

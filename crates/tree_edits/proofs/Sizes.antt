@@ -10,13 +10,14 @@ use Rattle.math_tree.specs.Trees.{TreeValue, Listed, listed, element_count, byte
 use Rattle.math_tree.specs.declared.node.Head.{Head}
 use Rattle.math_tree.specs.declared.node.Node.{Node}
 use Rattle.math_tree.specs.declared.node.NodeId.{NodeId}
-use Rattle.tree_edits.proofs.Frames.{entry, shown, flat_set}
+use Rattle.tree_edits.proofs.Frames.{entry, flat_set}
 use Rattle.tree_edits.proofs.Levels.{bytes_in, bytes_at, length_at}
 use Rattle.tree_edits.proofs.OneElement.{own_change_law, parent_change_law}
 use Rattle.tree_edits.proofs.Renumbered.{bytes_renumbered, count_renumbered, deep_renumbered}
 use Rattle.tree_edits.proofs.Splices.{Spliced, spliced_at, ahead, behind, beyond, parted, inserted, removed, standing, count_spliced, bytes_spliced, deep_spliced}
 use Rattle.tree_edits.specs.Edits.{has_id, head_of, with_text, with_attribute, edited, is_deep}
 use Rattle.tree_edits.specs.Paths.{children_of, node_at, changed}
+use Rattle.tree_edits.specs.Reasons.{shown}
 use Rattle.tree_edits.specs.declared.change.Change.TheVariants.{SetText, SetValue, PutChild, TakeChild, SwapChild}
 use Rattle.tree_edits.specs.declared.edit.Edit.{Edit}
 use Rattle.tree_edits.specs.declared.edit.Edit.TheVariants.{Text, Attr, Insert, Remove, Replace}

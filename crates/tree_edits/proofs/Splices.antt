@@ -12,10 +12,11 @@ use Rattle.math_tree.specs.Forms.{most_levels}
 use Rattle.math_tree.specs.Trees.{Listed, node, listed, bytes_of_head}
 use Rattle.math_tree.specs.declared.node.Head.{Head}
 use Rattle.math_tree.specs.declared.node.Node.{Node}
-use Rattle.tree_edits.proofs.Frames.{entry, shown, listed_out, flat_set, put_back, framed, before_change}
+use Rattle.tree_edits.proofs.Frames.{entry, listed_out, flat_set, put_back, framed, before_change}
 use Rattle.tree_edits.proofs.Levels.{bytes_in}
 use Rattle.tree_edits.specs.Edits.{is_deep}
 use Rattle.tree_edits.specs.Paths.{children_of, node_at, changed_at}
+use Rattle.tree_edits.specs.Reasons.{shown}
 
 pub record Spliced (before after : List Listed) (own made : Listed) (gone new : List Listed) : Type 0 where
   pub front : List Listed

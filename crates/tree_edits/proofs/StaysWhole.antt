@@ -11,7 +11,7 @@ use Rattle.math_tree.specs.Trees.{TreeValue, Listed, node, listed, ids_of, IsWho
 use Rattle.math_tree.specs.declared.node.Head.{Head}
 use Rattle.math_tree.specs.declared.node.Node.{Node}
 use Rattle.math_tree.specs.declared.node.NodeId.{NodeId}
-use Rattle.tree_edits.proofs.Frames.{entry, shown, head_rolled}
+use Rattle.tree_edits.proofs.Frames.{entry, head_rolled}
 use Rattle.tree_edits.proofs.Ids.{distinct_spliced, given_spliced}
 use Rattle.tree_edits.proofs.Levels.{bytes_in, proper_at}
 use Rattle.tree_edits.proofs.OneElement.{own_change_law, parent_change_law}
@@ -26,6 +26,7 @@ use Rattle.tree_edits.specs.Applying.{IsProperEdit}
 use Rattle.tree_edits.specs.Edits.{named, has_id, head_of, with_text, with_attribute, added, edited, is_deep, at_target, is_in_text, is_not_text, refusal_of, target}
 use Rattle.tree_edits.specs.Laws.{IsOwn, IsOfParent, own_change, parent_change}
 use Rattle.tree_edits.specs.Paths.{children_of, node_at, changed}
+use Rattle.tree_edits.specs.Reasons.{shown}
 use Rattle.tree_edits.specs.declared.edit.Edit.{Edit}
 use Rattle.tree_edits.specs.declared.edit.Edit.TheVariants.{Text, Attr, Insert, Remove, Replace}
 

@@ -6,9 +6,10 @@ use Rattle.std.specs.List.{AllByRecursion, IsDistinct, find, flat_map, list_any}
 use Rattle.math_tree.proofs.Nodes.{listed_element}
 use Rattle.math_tree.specs.Trees.{TreeValue, Listed, listed, ids_of, IsWhole}
 use Rattle.math_tree.specs.declared.node.Node.{Node}
-use Rattle.tree_edits.proofs.Frames.{shown, framed, before_change}
+use Rattle.tree_edits.proofs.Frames.{framed, before_change}
 use Rattle.tree_edits.specs.Edits.{has_id, head_of}
 use Rattle.tree_edits.specs.Paths.{children_of, node_at}
+use Rattle.tree_edits.specs.Reasons.{shown}
 
 -- the first element of an id
 abbrev pub first_of_id : ℕ → List Listed → Option Listed

@@ -1,5 +1,5 @@
 -- The command that a line of a script stands for.
-use Rattle.std.specs.Prelude.{ℕ, ◌-◌, ◌^◌, List, [], ◌∷◌, min, Bool, nat_lt, if◌then◌else◌, Option, Some, None, Result, Ok, Err, ◌≡◌, All, codes}
+use Rattle.std.specs.Prelude.{ℕ, ◌-◌, ◌^◌, List, [], ◌∷◌, min, Bool, nat_lt, if◌then◌else◌, Option, Some, None, Result, Ok, Err, ◌≡◌, codes}
 use Rattle.std.specs.List.{find, list_all, list_any}
 use Rattle.std.specs.Option.{option_and_then, option_map, option_map_or}
 use Rattle.std.specs.Str.{bytes_eq, is_utf8}
@@ -8,12 +8,12 @@ use Rattle.serde_json.specs.Find.{get, as_number, as_str, as_u64}
 use Rattle.serde_json.specs.Read.{read}
 use Rattle.math_tree.specs.Elements.{keys_in}
 use Rattle.math_tree.specs.Reading.{part_of}
-use Rattle.math_tree.specs.Trees.{IsProper, listed}
 use Rattle.math_tree.specs.declared.fault.TreeFault.{TreeFault}
 use Rattle.math_tree.specs.declared.node.Node.{Node}
 use Rattle.math_tree.specs.declared.node.NodeId.{NodeId}
 use Rattle.math_tree.specs.declared.refusal.TreeRefusal.{TreeRefusal}
 use Rattle.math_tree.specs.declared.refusal.TreeRefusal.TheVariants.{Fault, Memory as NoMemory}
+use Rattle.tree_edits.specs.Applying.{IsProperEdit}
 use Rattle.tree_edits.specs.declared.command.Command.{Command}
 use Rattle.tree_edits.specs.declared.command.Command.TheVariants.{Show, Change}
 use Rattle.tree_edits.specs.declared.command.CommandRefusal.{CommandRefusal}
@@ -155,13 +155,6 @@ of_element (Fault fault) = BadLine
 of_element NoMemory = Memory
 
 -- the elements that an edit brings are each in their form
-abbrev pub IsProperEdit : Edit → Type 0
-IsProperEdit (Text id text) = Unit {0}
-IsProperEdit (Attr id name value) = Unit {0}
-IsProperEdit (Insert id index element) = All IsProper (listed 1 element)
-IsProperEdit (Remove id) = Unit {0}
-IsProperEdit (Replace id element) = All IsProper (listed 1 element)
-
 abbrev pub IsProperCommand : Command → Type 0
 IsProperCommand Show = Unit {0}
 IsProperCommand (Change edit) = IsProperEdit edit

@@ -10,7 +10,7 @@ use math_tree::{Attribute, Head, MOST_LEVELS, Node, Tree};
 
 /// How many elements there are, and how many bytes of names, attributes and texts they hold. The
 /// greatest number stands for all that are greater.
-#[derive(Clone, Copy, Debug)]
+#[derive(Clone, Copy)]
 pub struct Size {
     pub elements: u64,
     pub bytes: u64,

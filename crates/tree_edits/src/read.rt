@@ -4,7 +4,8 @@ ghost use Rattle.serde_json.specs.View.{view};
 ghost use Rattle.tree_edits.specs.Commands.{command_in, command_of, command_under, command_by};
 ghost use Rattle.tree_edits.specs.Commands.{text_edit, attribute_edit, insert_edit, replace_edit};
 ghost use Rattle.tree_edits.specs.Commands.{op_of, op_in, is_key_of, has_only};
-ghost use Rattle.tree_edits.specs.Commands.{Gives, IsProperEdit, IsProperCommand};
+ghost use Rattle.tree_edits.specs.Applying.{IsProperEdit};
+ghost use Rattle.tree_edits.specs.Commands.{Gives, IsProperCommand};
 
 use crate::keys::{element_in, id_in, index_in, text_at, value_in};
 use crate::{Command, CommandRefusal, Edit};

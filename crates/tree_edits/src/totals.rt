@@ -15,7 +15,7 @@ use fixed_units::Txt;
 use math_tree::{MOST_BYTES, MOST_ELEMENTS, Node, Tree};
 
 /// How deep and how large a tree is, and how far its ids go.
-#[derive(Clone, Copy, Debug)]
+#[derive(Clone, Copy)]
 pub struct Totals {
     /// Whether an element stands deeper than those of a tree may.
     pub deep: bool,

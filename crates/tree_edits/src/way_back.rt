@@ -11,7 +11,7 @@ use std::alloc::Global;
 
 /// Where that which a change takes out goes back to, and the memory for it. It is made before the
 /// change, so that undoing takes none.
-#[derive(Debug, Drop)]
+#[derive(Drop)]
 pub enum WayBack {
     /// The element gets a text.
     Text,

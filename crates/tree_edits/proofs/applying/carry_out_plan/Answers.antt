@@ -1,7 +1,7 @@
 use Rattle.std.proofs.Common.{◌≡◌, ◌∙◌, refl, Some}
 use Rattle.std.specs.Option.{option_and_then}
 use Rattle.math_tree.specs.Trees.{TreeValue}
-use Rattle.tree_edits.proofs.WaysOut.{undoes}
+use Rattle.tree_edits.proofs.ThereAndBack.{undoes}
 use Rattle.tree_edits.specs.Paths.{node_at, former_of}
 use Rattle.tree_edits.specs.Planning.{planned}
 use Rattle.tree_edits.proofs.applying.carry_out_plan.Goals as goal

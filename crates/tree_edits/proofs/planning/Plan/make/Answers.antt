@@ -1,6 +1,7 @@
 use Rattle.std.proofs.Common.{◌≡◌, ◌∙◌, sym, ap, refl, inr, ◌+◌, length, Some, None}
-use Rattle.tree_edits.proofs.Plans.{is_plan}
-use Rattle.tree_edits.proofs.Reasoning.{is_named, allows_it, unknown_node, own_first, limit_first}
+use Rattle.tree_edits.proofs.Allowed.{is_named, allows_it}
+use Rattle.tree_edits.proofs.PlanMade.{is_plan}
+use Rattle.tree_edits.proofs.FirstReason.{unknown_node, own_first, limit_first}
 use Rattle.tree_edits.specs.Reasons.{own_reason, shown}
 use Rattle.tree_edits.proofs.planning.Plan.make.Goals as goal
 

@@ -1,5 +1,5 @@
 use Rattle.std.proofs.Common.{◌≡◌, Some}
-use Rattle.tree_edits.proofs.Stepping.{is_step}
+use Rattle.tree_edits.proofs.OneStep.{is_step}
 use Rattle.tree_edits.specs.Paths.{node_at}
 use Rattle.tree_edits.proofs.planning.Step.make.Goals as goal
 

@@ -1,24 +1,16 @@
-use Rattle.std.proofs.Common.{◌≡◌, subst, ℕ, List}
-use Rattle.math_tree.specs.Trees.{TreeValue}
-use Rattle.math_tree.specs.declared.node.Node.{Node}
-use Rattle.tree_edits.proofs.Stepping
+use Rattle.tree_edits.proofs.Allowed.{as_is}
+use Rattle.tree_edits.proofs.OneStep
 use Rattle.tree_edits.specs.Edits.{edited}
-use Rattle.tree_edits.specs.Planning.{Allows}
-use Rattle.tree_edits.specs.declared.edit.Edit.{Edit}
 use Rattle.tree_edits.specs.declared.change.Change.TheVariants.{SetText, TakeChild, SwapChild}
 use Rattle.tree_edits.proofs.planning.Step.of_edit.Goals as goal
-
--- what is asked of an edit, where the edit is another in its place
-abbrev as_is : {edit other : Edit} (tree : TreeValue) (path : List ℕ) (element : Node) → edit ≡ other → Allows edit tree path element → Allows other tree path element
-as_is tree path element same allows = subst (λ (e : Edit). Allows e tree path element) same allows
 
 pub returns-in-Text : goal.returns-in-Text
 returns-in-Text c =
     let tree = c.args.tree.now in
     let element = c.requires.allowed.element in
     let allows = as_is tree c.args.path element c.in-Text.is c.requires.allowed.allows in
-    rw c.in-Text.is (Stepping.made_by tree.root (edited tree _).root c.args.path (SetText c.in-Text.text) c.make.result
-    (Stepping.text_made tree c.args.path element c.in-Text.field-0 c.in-Text.text allows) c.make.ensures)
+    rw c.in-Text.is (OneStep.made_by tree.root (edited tree _).root c.args.path (SetText c.in-Text.text) c.make.result
+    (OneStep.text_made tree c.args.path element c.in-Text.field-0 c.in-Text.text allows) c.make.ensures)
 
 pub returns-in_ok-change-in-Attr : goal.returns-in_ok-change-in-Attr
 returns-in_ok-change-in-Attr c =
@@ -26,8 +18,8 @@ returns-in_ok-change-in-Attr c =
     let element = c.requires.allowed.element in
     let change = c.in_ok-change-in-Attr.change in
     let allows = as_is tree c.args.path element c.in-Attr.is c.requires.allowed.allows in
-    rw c.in-Attr.is (Stepping.made_by tree.root (edited tree _).root c.args.path change c.make-in-Attr.result
-    (Stepping.value_made tree c.args.path element c.in-Attr.field-0 c.in-Attr.name c.in-Attr.value c.element_at-element.result.now change allows
+    rw c.in-Attr.is (OneStep.made_by tree.root (edited tree _).root c.args.path change c.make-in-Attr.result
+    (OneStep.value_made tree c.args.path element c.in-Attr.field-0 c.in-Attr.name c.in-Attr.value c.element_at-element.result.now change allows
     c.in_ok-change-in-Attr.ensures) c.make-in-Attr.ensures)
 
 pub returns-in_ok-change-in-Insert : goal.returns-in_ok-change-in-Insert
@@ -37,8 +29,8 @@ returns-in_ok-change-in-Insert c =
     let change = c.in_ok-change-in-Insert.change in
     let allows = as_is tree c.args.path element c.in-Insert.is c.requires.allowed.allows in
     let child = rw c.next_id.ensures.exact at c.numbered-new.ensures in
-    rw c.in-Insert.is (Stepping.made_by tree.root (edited tree _).root c.args.path change c.make-in-Insert.result
-    (Stepping.child_made tree c.args.path element c.in-Insert.field-0 c.in-Insert.index c.in-Insert.new c.numbered-new.result
+    rw c.in-Insert.is (OneStep.made_by tree.root (edited tree _).root c.args.path change c.make-in-Insert.result
+    (OneStep.child_made tree c.args.path element c.in-Insert.field-0 c.in-Insert.index c.in-Insert.new c.numbered-new.result
     c.element_at-element-in-Insert.result.now change allows child c.in_ok-change-in-Insert.ensures) c.make-in-Insert.ensures)
 
 pub make-requires-in-Remove : goal.make-requires-in-Remove
@@ -46,15 +38,15 @@ make-requires-in-Remove c =
     let tree = c.args.tree.now in
     let element = c.requires.allowed.element in
     let allows = as_is tree c.args.path element c.in-Remove.is c.requires.allowed.allows in
-    Stepping.taking_fits tree c.args.path element c.split-over.result.0 c.split-over.result.1 c.split-over.ensures c.in-Remove.field-0 allows
+    OneStep.taking_fits tree c.args.path element c.split-over.result.0 c.split-over.result.1 c.split-over.ensures c.in-Remove.field-0 allows
 
 pub returns-in-Remove : goal.returns-in-Remove
 returns-in-Remove c =
     let tree = c.args.tree.now in
     let element = c.requires.allowed.element in
     let allows = as_is tree c.args.path element c.in-Remove.is c.requires.allowed.allows in
-    rw c.in-Remove.is (Stepping.made_by tree.root (edited tree _).root c.split-over.result.0 (TakeChild c.split-over.result.1) c.make-in-Remove.result
-    (Stepping.taking_made tree c.args.path element c.split-over.result.0 c.split-over.result.1 c.split-over.ensures c.in-Remove.field-0 allows)
+    rw c.in-Remove.is (OneStep.made_by tree.root (edited tree _).root c.split-over.result.0 (TakeChild c.split-over.result.1) c.make-in-Remove.result
+    (OneStep.taking_made tree c.args.path element c.split-over.result.0 c.split-over.result.1 c.split-over.ensures c.in-Remove.field-0 allows)
     c.make-in-Remove.ensures)
 
 pub make-requires-in-Replace : goal.make-requires-in-Replace
@@ -62,7 +54,7 @@ make-requires-in-Replace c =
     let tree = c.args.tree.now in
     let element = c.requires.allowed.element in
     let allows = as_is tree c.args.path element c.in-Replace.is c.requires.allowed.allows in
-    Stepping.swapping_fits tree c.args.path element c.split-over-in-Replace.result.0 c.split-over-in-Replace.result.1 c.split-over-in-Replace.ensures
+    OneStep.swapping_fits tree c.args.path element c.split-over-in-Replace.result.0 c.split-over-in-Replace.result.1 c.split-over-in-Replace.ensures
     c.in-Replace.field-0 c.in-Replace.new c.numbered-new-in-Replace.result allows
 
 pub returns-in-Replace : goal.returns-in-Replace
@@ -72,6 +64,6 @@ returns-in-Replace c =
     let child = c.numbered-new-in-Replace.result in
     let allows = as_is tree c.args.path element c.in-Replace.is c.requires.allowed.allows in
     let numbered = rw c.next_id-in-Replace.ensures.exact at c.numbered-new-in-Replace.ensures in
-    rw c.in-Replace.is (Stepping.made_by tree.root (edited tree _).root c.split-over-in-Replace.result.0 (SwapChild c.split-over-in-Replace.result.1 child)
-    c.make-in-Replace.result (Stepping.swapping_made tree c.args.path element c.split-over-in-Replace.result.0 c.split-over-in-Replace.result.1
+    rw c.in-Replace.is (OneStep.made_by tree.root (edited tree _).root c.split-over-in-Replace.result.0 (SwapChild c.split-over-in-Replace.result.1 child)
+    c.make-in-Replace.result (OneStep.swapping_made tree c.args.path element c.split-over-in-Replace.result.0 c.split-over-in-Replace.result.1
     c.split-over-in-Replace.ensures c.in-Replace.field-0 c.in-Replace.new child allows numbered) c.make-in-Replace.ensures)

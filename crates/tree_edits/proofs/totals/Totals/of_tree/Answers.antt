@@ -1,4 +1,4 @@
-use Rattle.tree_edits.proofs.Totalling.{tree_totals}
+use Rattle.tree_edits.proofs.EditedTotals.{tree_totals}
 use Rattle.tree_edits.proofs.totals.Totals.of_tree.Goals as goal
 
 pub returns : goal.returns

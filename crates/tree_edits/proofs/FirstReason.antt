@@ -1,16 +1,17 @@
 -- Which reason against an edit is the first.
-use Rattle.std.proofs.Common.{◌≡◌, ◌∙◌, sym, ap, refl, subst, inl, inr, ℕ, ◌+◌, ◌-◌, ◌^◌, ◌<◌, ◌≤◌, List, [], ◌∷◌, ◌++◌, length, Bool, true, false, cond, nat_lt, Option, Some, None, arith}
+use Rattle.std.proofs.Common.{◌≡◌, ◌∙◌, sym, ap, refl, inl, inr, ℕ, ◌+◌, ◌-◌, ◌^◌, ◌<◌, ◌≤◌, List, [], ◌∷◌, ◌++◌, length, Bool, true, false, cond, nat_lt, Option, Some, None, arith}
 use Rattle.std.proofs.lemmas.Bool.{cases_lt, lt-ltb, le-ltb, ltb-false, or_parts}
-use Rattle.std.proofs.lemmas.Option.{none-some, same_Some}
+use Rattle.std.proofs.lemmas.Option.{none-some}
 use Rattle.std.specs.List.{find, list_any}
 use Rattle.std.specs.Option.{option_map}
-use Rattle.math_tree.specs.Forms.{most_levels, most_elements, most_bytes}
+use Rattle.math_tree.specs.Forms.{most_elements, most_bytes}
 use Rattle.math_tree.specs.Trees.{TreeValue, IsWhole, listed, byte_count, element_count}
 use Rattle.math_tree.specs.declared.node.Node.{Node}
+use Rattle.tree_edits.proofs.Allowed.{IsNamed}
 use Rattle.tree_edits.proofs.Refusals.{all_fail}
 use Rattle.tree_edits.proofs.Target.{found_at, found_nowhere}
 use Rattle.tree_edits.specs.Edits.{named, has_id, head_of, edited, is_deep, refusal_of}
-use Rattle.tree_edits.specs.Paths.{node_at, LeadsTo}
+use Rattle.tree_edits.specs.Paths.{node_at}
 use Rattle.tree_edits.specs.Planning.{Allows}
 use Rattle.tree_edits.specs.Reasons.{broken_limit, first_reason, limits, own_reason, own_reasons, shown}
 use Rattle.tree_edits.specs.Sizes.{capped, totals_of}
@@ -59,30 +60,6 @@ capped_lt bound n small = elim (cases_lt bound n) [
 pub capped_limit : (deep : Bool) (elements bytes next : ℕ) → broken_limit deep (capped elements) (capped bytes) (capped next) ≡ broken_limit deep elements bytes next
 capped_limit deep elements bytes next =
     rw (capped_lt most_elements elements (omega arith), capped_lt most_bytes bytes (omega arith), capped_lt (2 ^ 32) next (omega arith)) refl
-
--- ---- the element that an edit names
-
-pub record IsNamed (edit : Edit) (tree : TreeValue) (path : List ℕ) (element : Node) : Type 0 where
-  pub whole : IsWhole tree
-  pub at : node_at path tree.root ≡ Some element
-  pub has : has_id (named edit) (head_of element) ≡ true
-  pub short : 1 + length path ≤ most_levels
-
--- the way that was found leads to it
-pub is_named : (edit : Edit) (tree : TreeValue) (id : ℕ) (root top : Node) (path places : List ℕ) (found : Node) → IsWhole tree → root ≡ tree.root
-    → id ≡ named edit → LeadsTo id 1 root path → top ≡ tree.root → places ≡ path → node_at places top ≡ Some found → IsNamed edit tree path found
-is_named edit tree id root top path places found whole root_is id_is leads top_is places_are at =
-    let same : leads.element ≡ found = same_Some leads.element found (sym leads.at ∙ ap (node_at path) (root_is ∙ sym top_is) ∙ ap (λ p. node_at p top) (sym places_are) ∙ at) in
-    record {
-      whole = whole;
-      at = ap (node_at path) (sym root_is) ∙ leads.at ∙ ap Some same;
-      has = subst (λ n. has_id (named edit) (head_of n) ≡ true) same (subst (λ i. has_id i (head_of leads.element) ≡ true) id_is leads.has);
-      short = leads.short;
-    }
-
-pub allows_it : (edit : Edit) (tree : TreeValue) (path : List ℕ) (element : Node) → IsNamed edit tree path element
-    → own_reason edit (shown (1 + length path) element) ≡ None → Allows edit tree path element
-allows_it edit tree path element is own = record { whole = is.whole; at = is.at; has = is.has; short = is.short; own = own }
 
 -- ---- the first reason against an edit
 

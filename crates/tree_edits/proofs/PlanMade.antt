@@ -2,7 +2,7 @@
 use Rattle.std.proofs.Common.{◌≡◌, ◌∙◌, ap, ℕ, List, None, arith}
 use Rattle.math_tree.specs.Trees.{TreeValue}
 use Rattle.math_tree.specs.declared.node.Node.{Node}
-use Rattle.tree_edits.proofs.Reasoning.{limit_first, keeps}
+use Rattle.tree_edits.proofs.FirstReason.{limit_first, keeps}
 use Rattle.tree_edits.proofs.StaysWhole.{stays_whole}
 use Rattle.tree_edits.specs.Applying.{IsProperEdit}
 use Rattle.tree_edits.specs.Edits.{edited}
