@@ -22,18 +22,18 @@ use Rattle.tree_edits.specs.declared.totals.Totals.{Totals}
 
 -- ---- the first of two lists
 
-reason_by : (test : Bool) (row : Bool × EditRefusal) (some rest : Option (Bool × EditRefusal)) (more : Option (Bool × EditRefusal)) (reason : EditRefusal)
+reason_by : (test : Bool) (row : Bool × EditRefusal) (some more : Option (Bool × EditRefusal)) (reason : EditRefusal)
     → option_map (λ row. row.1) (cond test (Some row) some) ≡ Some reason
     → (option_map (λ row. row.1) some ≡ Some reason → option_map (λ row. row.1) more ≡ Some reason)
     → option_map (λ row. row.1) (cond test (Some row) more) ≡ Some reason
-reason_by true row some rest more reason h each = h
-reason_by false row some rest more reason h each = each h
+reason_by true row some more reason h each = h
+reason_by false row some more reason h each = each h
 
 pub first_of_front : (front back : List (Bool × EditRefusal)) (reason : EditRefusal) → first_reason front ≡ Some reason
     → first_reason (front ++ back) ≡ Some reason
 first_of_front [] back reason h = absurd (none-some reason h)
 first_of_front (row ∷ front) back reason h =
-    reason_by row.0 row (find (λ (r : Bool × EditRefusal). r.0) front) None (find (λ (r : Bool × EditRefusal). r.0) (front ++ back)) reason h
+    reason_by row.0 row (find (λ (r : Bool × EditRefusal). r.0) front) (find (λ (r : Bool × EditRefusal). r.0) (front ++ back)) reason h
     (first_of_front front back reason)
 
 none_by : (test : Bool) (row : Bool × EditRefusal) (some more : Option (Bool × EditRefusal)) (meant : Option EditRefusal)
