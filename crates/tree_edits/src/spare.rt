@@ -47,7 +47,7 @@ impl Spare {
         })
     }
 
-    /// The one that such a root is.
+    /// The same of such a root that was in use.
     pub fn of(root: Node) -> Spare
         requires { root ≡ spare_root }
         ensures { result ≡ root }
