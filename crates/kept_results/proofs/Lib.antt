@@ -1,6 +1,10 @@
 pub mod Agreement
 pub mod Counts
+pub mod Dropping
 pub mod Law
 pub mod Lists
 pub mod Passing
+pub mod Renewing
+pub mod Sealing
 pub mod Turns
+pub mod Whole

@@ -2,5 +2,6 @@ pub mod Closed
 pub mod Contexts
 pub mod Ends
 pub mod Kept
+pub mod Laws
 pub mod Looking
 pub mod Passes

@@ -2,9 +2,20 @@
 //!
 //! A law is proved where it is a contract, so each function here has one and computes nothing.
 ghost use Rattle.kept_results.specs.Closed.{ClosedLaw};
+ghost use Rattle.kept_results.specs.Laws.{KeptLaw, SealLaw};
 
 /// Where an entry and all that are reached from it by naming are closed, it keeps the layout of its
 /// element.
 pub fn closed_entries_keep_layouts()
     ensures { ClosedLaw }
+{}
+
+/// Where the layout of an element is kept, all that it needs is kept too.
+pub fn what_a_layout_needs_is_kept()
+    ensures { KeptLaw }
+{}
+
+/// `seal` keeps the state, and each entry that is no older one; no mark and no flag is left.
+pub fn seal_keeps_the_state()
+    ensures { SealLaw }
 {}

@@ -5,17 +5,20 @@
 //! marks the elements on the way to it; what a marked element keeps from before is of no use.
 //!
 //! - Models: this project's own; MathML Core says nothing of it.
-//! - Proved: an outcome that is kept, and follows by the equations from others that are kept, is that
-//!   of the layout (`laws`).
+//! - Proved: a pass gives the layout exactly, computes nothing that is kept, and nothing twice, and can
+//!   be undone; an outcome that is kept, and follows by the equations from others that do, is that of
+//!   the layout (`laws`).
 //! - Knows nothing of: edits, and by which equation an element of a kind is laid out.
 //! - Change what a kept layout is: `specs/Kept.antt`.
 #![tactic(auto)]
 
 mod contexts; // the same context, and once more
+mod ends; // undo_pass, seal
 mod entries; // one element's entries
 pub mod laws; // what holds of kept layouts
 mod memo; // Entry, Memo
 mod relay; // a pass over an element
 
+pub use ends::{seal, undo_pass};
 pub use memo::{Entry, Memo};
 pub use relay::relay_element;

@@ -1,0 +1,96 @@
+-- Loops that renew each memo below, one after another.
+use Rattle.std.proofs.Common.{◌≡◌, ◌∙◌, refl, sym, ap, ℕ, zero, suc, ◌+◌, arith, false, List, [], ◌∷◌, ◌++◌, drop, length, map, set, take, Some, slice_get}
+use Rattle.std.proofs.lemmas.Option.{none-some, same_Some}
+use Rattle.kept_results.specs.Ends.{not_fresh, sealed, settled_all, stripped}
+use Rattle.kept_results.specs.declared.memo.Entry.{Entry}
+use Rattle.kept_results.specs.declared.memo.Memo.{Memo}
+use Rattle.kept_results.specs.declared.memo.Memo.TheOpen.{Memo-F}
+use Rattle.kept_results.specs.declared.memo.Memo.TheViews.{out-Memo, out-roll-Memo, roll-Memo}
+use Rattle.kept_results.proofs.Agreement.{renewed}
+use Rattle.kept_results.proofs.Counts.{sealed_out, stripped_out}
+
+-- the first memos below are renewed, and all else is as it was
+pub record Renewed (renew : Memo → Memo) (before now : Memo) (at : ℕ) : Type 0 where
+  pub marked : (out-Memo now).marked ≡ (out-Memo before).marked
+  pub facts : (out-Memo now).facts ≡ (out-Memo before).facts
+  pub kids : (out-Memo now).kids ≡ (out-Memo before).kids
+  pub entries : (out-Memo now).entries ≡ (out-Memo before).entries
+  pub below : (out-Memo now).below ≡ map renew (take at (out-Memo before).below) ++ drop at (out-Memo before).below
+
+module _ (renew : Memo → Memo) where
+  pub as_many : (memos : List Memo) (at : ℕ) → length (map renew (take at memos) ++ drop at memos) ≡ length memos
+  as_many [] zero = refl
+  as_many [] (suc at) = refl
+  as_many (k ∷ memos) zero = refl
+  as_many (k ∷ memos) (suc at) = ap suc (as_many memos at)
+
+  next_is : (memos : List Memo) (at : ℕ) → slice_get (map renew (take at memos) ++ drop at memos) at ≡ slice_get memos at
+  next_is [] zero = refl
+  next_is [] (suc at) = refl
+  next_is (k ∷ memos) zero = refl
+  next_is (k ∷ memos) (suc at) = next_is memos at
+
+  set_next : (memos : List Memo) (at : ℕ) (old : Memo) → slice_get memos at ≡ Some old
+      → set (map renew (take at memos) ++ drop at memos) at (renew old) ≡ map renew (take (suc at) memos) ++ drop (suc at) memos
+  set_next [] at old h = absurd (none-some old h)
+  set_next (k ∷ memos) zero old h = ap (λ (x : Memo). renew x ∷ memos) (sym (same_Some k old h))
+  set_next (k ∷ memos) (suc at) old h = ap (λ (l : List Memo). renew k ∷ l) (set_next memos at old h)
+
+  renewed_all : (memos : List Memo) (at : ℕ) → length memos ≡ at → map renew (take at memos) ++ drop at memos ≡ map renew memos
+  renewed_all [] zero h = refl
+  renewed_all [] (suc at) h = refl
+  renewed_all (k ∷ memos) zero h = absurd (omega arith)
+  renewed_all (k ∷ memos) (suc at) h = ap (λ (l : List Memo). renew k ∷ l) (renewed_all memos at (omega arith))
+
+  -- one more
+  pub renewed_more : (before now : Memo) (at : ℕ) (old new : Memo) → Renewed renew before now at → slice_get (out-Memo now).below at ≡ Some old → new ≡ renew old
+      → Renewed renew before (roll-Memo (renewed now at new)) (at + 1)
+  renewed_more before now at old new h there e =
+      let memos : List Memo = (out-Memo before).below in
+      let out : out-Memo (roll-Memo (renewed now at new)) ≡ renewed now at new = out-roll-Memo (renewed now at new) in
+      let was : slice_get memos at ≡ Some old = sym (next_is memos at) ∙ ap (λ l. slice_get l at) (sym h.below) ∙ there in
+      let one : suc at ≡ at + 1 = omega arith in
+      record {
+        marked = ap (λ (l : Memo-F Memo). l.marked) out ∙ h.marked;
+        facts = ap (λ (l : Memo-F Memo). l.facts) out ∙ h.facts;
+        kids = ap (λ (l : Memo-F Memo). l.kids) out ∙ h.kids;
+        entries = ap (λ (l : Memo-F Memo). l.entries) out ∙ h.entries;
+        below = ap (λ (l : Memo-F Memo). l.below) out ∙ ap (λ l. set l at new) h.below
+            ∙ ap (set (map renew (take at memos) ++ drop at memos) at) e ∙ set_next memos at old was
+            ∙ ap (λ n. map renew (take n memos) ++ drop n memos) one;
+      }
+
+  -- when all are renewed
+  pub below_all : (before now : Memo) (at : ℕ) → Renewed renew before now at → length (out-Memo before).below ≡ at → (out-Memo now).below ≡ map renew (out-Memo before).below
+  below_all before now at h e = h.below ∙ renewed_all (out-Memo before).below at e
+
+pub stripped_end : (before now : Memo) (at : ℕ) (entries : List Entry) → Renewed stripped before now at → length (out-Memo before).below ≡ at
+    → entries ≡ not_fresh (out-Memo now).entries
+    → roll-Memo record { marked = (out-Memo now).marked; facts = (out-Memo now).facts; kids = (out-Memo now).kids; entries = entries; below = (out-Memo now).below } ≡ stripped before
+stripped_end before now at entries h l e =
+    (λ i. roll-Memo record {
+      marked = h.marked i;
+      facts = h.facts i;
+      kids = h.kids i;
+      entries = (e ∙ ap not_fresh h.entries) i;
+      below = below_all stripped before now at h l i;
+    }) ∙ sym (stripped_out before)
+
+-- as it stands when its own entries are dropped
+abbrev pub dropped : Memo → List Entry → Memo-F Memo
+dropped now entries = record { marked = (out-Memo now).marked; facts = (out-Memo now).facts; kids = (out-Memo now).kids; entries = entries; below = (out-Memo now).below }
+
+abbrev unmarked : Memo-F Memo → Memo
+unmarked layer = roll-Memo record { marked = false; facts = layer.facts; kids = layer.kids; entries = layer.entries; below = layer.below }
+
+pub sealed_end : (before now : Memo) (at : ℕ) (entries : List Entry) → Renewed sealed before now at → length (out-Memo before).below ≡ at
+    → entries ≡ settled_all (out-Memo now).marked (out-Memo now).entries → unmarked (out-Memo (roll-Memo (dropped now entries))) ≡ sealed before
+sealed_end before now at entries h l e =
+    ap unmarked (out-roll-Memo (dropped now entries))
+    ∙ (λ i. roll-Memo record {
+      marked = false;
+      facts = h.facts i;
+      kids = h.kids i;
+      entries = (e ∙ (λ j. settled_all (h.marked j) (h.entries j))) i;
+      below = below_all sealed before now at h l i;
+    }) ∙ sym (sealed_out before)

@@ -1,0 +1,57 @@
+ghost use Rattle.std.specs.Prelude.{◌≡◌};
+ghost use Rattle.kept_results.specs.Ends.{not_fresh, sealed, settled_all, stripped};
+
+use crate::entries::is_live;
+use crate::memo::{Entry, Memo};
+use fixed_units::List;
+
+/// Undoes a pass: what it made is dropped, and all else is as before it. It takes no memory.
+pub fn undo_pass(memo: &mut Memo)
+    ensures { memo.new ≡ stripped memo.old }
+{
+    for at in 0..memo.below.len() {
+        undo_pass(memo.below.at_mut(at));
+    }
+    drop_fresh(&mut memo.entries);
+}
+
+/// Ends a pass that was done: older entries are dropped, and marks and flags are cleared. It takes no
+/// memory.
+pub fn seal(memo: &mut Memo)
+    ensures { memo.new ≡ sealed memo.old }
+{
+    for at in 0..memo.below.len() {
+        seal(memo.below.at_mut(at));
+    }
+    drop_older(&mut memo.entries, memo.marked);
+    memo.marked = false;
+}
+
+/// Drops the entries that the present pass made. They stand at the end, and so nothing is moved.
+fn drop_fresh(entries: &mut List<Entry>)
+    ensures { entries.new ≡ not_fresh entries.old }
+{
+    let count = entries.len();
+    for step in 0..count {
+        let at = count - 1 - step;
+        if entries.as_slice()[at].fresh {
+            entries.remove(at);
+        }
+    }
+}
+
+/// Drops the older entries, and clears the flags of the others. These stand at the end, so that only
+/// they are moved.
+fn drop_older(entries: &mut List<Entry>, marked: bool)
+    ensures { entries.new ≡ settled_all marked entries.old }
+{
+    let count = entries.len();
+    for step in 0..count {
+        let at = count - 1 - step;
+        if is_live(marked, &entries.as_slice()[at]) {
+            entries.at_mut(at).fresh = false;
+        } else {
+            entries.remove(at);
+        }
+    }
+}
