@@ -1,4 +1,4 @@
--- Which statuses come before a tree is read, or before it is laid out.
+-- Which statuses come before there is a tree, or before it is laid out.
 use Rattle.std.proofs.Common.{inl, inr, subst, ℕ, List, Bool, true, false}
 use Rattle.doc_io.specs.Causes.{SinkTold}
 use Rattle.doc_io.specs.declared.whole.ReadRefusal.{ReadRefusal}
@@ -19,7 +19,7 @@ late text wanted s old new not d unlaid = elim d.whole [
   | inr e ↦ not (subst EndsUnlaid e.0 unlaid)
 ]
 
--- the same, with a status of a tree that was read
+-- the same, with a status of a tree that there is
 pub later : (text : List ℕ) (wanted s : Status) (old new : SinkTold) → ¬ EndsBeforeTree wanted → Delivers text wanted old new s → ¬ EndsBeforeTree s
 later text wanted s old new not d unread = elim d.whole [
   | inl w ↦ subst EndsBeforeTree w unread
@@ -35,7 +35,7 @@ pub replied_later : (text : Text) (old new : SinkTold) (s : Status) → Delivers
 replied_later text old new s (inl d) = later text.bytes (status_of_end text.whole) s old new (not_before text.whole) d
 replied_later text old new s (inr out) = λ unread. subst EndsBeforeTree out.memory unread
 
--- what comes before a tree is read comes before it is laid out
+-- what comes before there is a tree comes before it is laid out
 pub before_unlaid : (s : Status) → EndsBeforeTree s → EndsUnlaid s
 before_unlaid Done e = e
 before_unlaid Usage e = e

@@ -162,7 +162,7 @@ pub record Ends (asked : Option Asked) (before after : InputsTold) (old new : Si
 
 -- ---- steps
 
--- the run ended before the tree was read
+-- the run ended before there was a tree
 abbrev pub EndsBeforeTree : Status → Type 0
 EndsBeforeTree Usage = Unit {0}
 EndsBeforeTree Metrics = Unit {0}
