@@ -6,7 +6,7 @@ use Rattle.math_tree.specs.declared.node.Node.{Node}
 use Rattle.math_tree.specs.declared.node.Node.TheViews.{out-Node}
 use Rattle.layout_model.specs.declared.context.Context.{Context}
 use Rattle.layout_model.specs.declared.context.Question.{Question}
-use Rattle.kept_results.specs.Kept.{Agrees, AreApart, HasEntry, Holds, HoldsIn, HoldsOne, IsKept, IsMemoOf, IsMissing, IsSound, Keeps, NamesKept, StandAt, is_live}
+use Rattle.kept_results.specs.Kept.{Agrees, AreApart, HasEntry, Holds, HoldsIn, HoldsOne, IsKept, IsMemoOf, IsMissing, IsSound, Keeps, NamesKept, StandAt, is_live, is_marked}
 use Rattle.kept_results.specs.declared.memo.Entry.{Entry}
 use Rattle.kept_results.specs.declared.memo.Memo.{Memo}
 use Rattle.kept_results.specs.declared.memo.Memo.TheOpen.{Memo-F}
@@ -18,9 +18,8 @@ use Rattle.kept_results.proofs.Lists.{all_both, all_then, one_place, pushed, pus
 -- with another memo below, at a place
 abbrev pub renewed : Memo → ℕ → Memo → Memo-F Memo
 renewed memo place new = record {
-  marked = (out-Memo memo).marked;
+  former = (out-Memo memo).former;
   facts = (out-Memo memo).facts;
-  kids = (out-Memo memo).kids;
   entries = (out-Memo memo).entries;
   below = set (out-Memo memo).below place new;
 }
@@ -28,9 +27,8 @@ renewed memo place new = record {
 -- with one entry more
 abbrev pub added : Memo → Entry → Memo-F Memo
 added memo entry = record {
-  marked = (out-Memo memo).marked;
+  former = (out-Memo memo).former;
   facts = (out-Memo memo).facts;
-  kids = (out-Memo memo).kids;
   entries = (out-Memo memo).entries ++ entry ∷ [];
   below = (out-Memo memo).below;
 }
@@ -90,7 +88,7 @@ module _ (memo : Memo) (more : Entry) where
     at = λ path entry h. subst (λ (l : Memo-F Memo). HoldsIn path l entry) (sym (out-roll-Memo (added memo more))) (holds_added path entry h);
   }
 
-  pub has_added : is_live (out-Memo memo).marked more ≡ true → HasEntry (out-Memo (roll-Memo (added memo more))) more
+  pub has_added : is_live (is_marked (out-Memo memo)) more ≡ true → HasEntry (out-Memo (roll-Memo (added memo more))) more
   has_added live =
       let has : HasEntry (added memo more) more = record { place = length (out-Memo memo).entries; at = pushed (out-Memo memo).entries more; live = live } in
       subst (λ (l : Memo-F Memo). HasEntry l more) (sym (out-roll-Memo (added memo more))) has
@@ -148,7 +146,6 @@ module _ (m : MetricsValue) where
       let move = all_then (NamesKept node below) (NamesKept node (set below place new)) (names_renewed memo place old new at keeps node) in
       let own : IsMemoOf m node (renewed memo place new) = record {
         facts_are = here.facts_are;
-        kids_are = here.kids_are;
         as_many = length-set below place new ∙ here.as_many;
         sound = λ entry has.
             let s = here.sound entry record { place = has.place; at = has.at; live = has.live } in
@@ -171,18 +168,17 @@ module _ (m : MetricsValue) where
 
   -- one sound entry more
   pub agrees_added : (node : Node) (memo : Memo) (more : Entry) → Agrees m node memo → IsSound m node (out-Memo memo).below more
-      → IsMissing (out-Memo memo).marked more.context (out-Memo memo).entries → Agrees m node (roll-Memo (added memo more))
+      → IsMissing (is_marked (out-Memo memo)) more.context (out-Memo memo).entries → Agrees m node (roll-Memo (added memo more))
   agrees_added node memo more h sound missing =
       let here = h.at [] node memo (refl, refl) in
       let own : IsMemoOf m node (added memo more) = record {
         facts_are = here.facts_are;
-        kids_are = here.kids_are;
         as_many = here.as_many;
         sound = λ entry has.
             elim (push_cases (out-Memo memo).entries more entry has.place has.at) [
               | inl p ↦ subst (IsSound m node (out-Memo memo).below) (sym p) sound
               | inr q ↦ here.sound entry record { place = has.place; at = q; live = has.live }
             ];
-        apart = apart_added (out-Memo memo).marked (out-Memo memo).entries more here.apart missing;
+        apart = apart_added (is_marked (out-Memo memo)) (out-Memo memo).entries more here.apart missing;
       } in
       agrees_made node (added memo more) own (λ j kid kept f g. agrees_child node memo j kid kept h f g)

@@ -1,5 +1,5 @@
 -- What a pass adds to a memo: what was there before is as it was, and how many entries there are.
-use Rattle.std.proofs.Common.{◌≡◌, ◌∙◌, sym, ap, ℕ, zero, suc, ◌+◌, arith, Bool, true, false, cond, not, List, [], ◌∷◌, ◌++◌, filter, get_or, length, length-append, map, set, Some, slice_get}
+use Rattle.std.proofs.Common.{◌≡◌, ◌∙◌, sym, ap, ℕ, zero, suc, ◌+◌, arith, Bool, true, false, cond, not, List, [], ◌∷◌, ◌++◌, filter, get_or, length, length-append, map, set, Some, slice_get, None}
 use Rattle.std.proofs.lemmas.List.{append-nil, map-set}
 use Rattle.std.proofs.lemmas.List.Elements.{filter-append}
 use Rattle.std.proofs.lemmas.List.Sums.{sum_by-set}
@@ -7,7 +7,7 @@ use Rattle.std.proofs.lemmas.Option.{get_or_from_slice_get, none-some, same_Some
 use Rattle.std.specs.List.{sum}
 use Rattle.std.specs.Option.{option_map}
 use Rattle.kept_results.specs.Ends.{kept_count, live_in, not_fresh, sealed, sealed_layer, settled_all, stripped, stripped_layer}
-use Rattle.kept_results.specs.Kept.{is_live}
+use Rattle.kept_results.specs.Kept.{is_live, is_marked}
 use Rattle.kept_results.specs.declared.memo.Entry.{Entry}
 use Rattle.kept_results.specs.declared.memo.Memo.{Memo}
 use Rattle.kept_results.specs.declared.memo.Memo.TheFolds.{fold-roll-Memo, fold_out-Memo}
@@ -19,9 +19,8 @@ use Rattle.kept_results.proofs.Agreement.{added, renewed}
 
 abbrev pub stripped_over : Memo-F Memo → Memo
 stripped_over layer = roll-Memo record {
-  marked = layer.marked;
+  former = layer.former;
   facts = layer.facts;
-  kids = layer.kids;
   entries = not_fresh layer.entries;
   below = map stripped layer.below;
 }
@@ -34,10 +33,9 @@ stripped_roll = fold-roll-Memo Memo stripped_layer
 
 abbrev pub sealed_over : Memo-F Memo → Memo-F Memo
 sealed_over layer = record {
-  marked = false;
+  former = None;
   facts = layer.facts;
-  kids = layer.kids;
-  entries = settled_all layer.marked layer.entries;
+  entries = settled_all (is_marked layer) layer.entries;
   below = map sealed layer.below;
 }
 
@@ -45,7 +43,7 @@ pub sealed_out : (memo : Memo) → sealed memo ≡ roll-Memo (sealed_over (out-M
 sealed_out = fold_out-Memo Memo sealed_layer
 
 abbrev count_over : Memo-F Memo → ℕ
-count_over layer = length (filter (is_live layer.marked) layer.entries) + sum (map kept_count layer.below)
+count_over layer = length (filter (is_live (is_marked layer)) layer.entries) + sum (map kept_count layer.below)
 
 pub count_out : (memo : Memo) → kept_count memo ≡ count_over (out-Memo memo)
 count_out = fold_out-Memo ℕ live_in
@@ -69,17 +67,16 @@ module _ (memo : Memo) (more : Entry) where
       filter-append (λ entry. not entry.fresh) entries (more ∷ []) ∙ ap (λ (l : List Entry). not_fresh entries ++ l) (failed (λ entry. not entry.fresh) more (ap not fresh)) ∙ append-nil (not_fresh entries) in
       stripped_roll (added memo more)
       ∙ ap (λ (l : List Entry). roll-Memo record {
-        marked = (out-Memo memo).marked;
+        former = (out-Memo memo).former;
         facts = (out-Memo memo).facts;
-        kids = (out-Memo memo).kids;
         entries = l;
         below = map stripped (out-Memo memo).below;
       }) same ∙ sym (stripped_out memo)
 
-  pub count_added : is_live (out-Memo memo).marked more ≡ true → kept_count (roll-Memo (added memo more)) ≡ kept_count memo + 1
+  pub count_added : is_live (is_marked (out-Memo memo)) more ≡ true → kept_count (roll-Memo (added memo more)) ≡ kept_count memo + 1
   count_added live =
       let entries : List Entry = (out-Memo memo).entries in
-      let test : Entry → Bool = is_live (out-Memo memo).marked in
+      let test : Entry → Bool = is_live (is_marked (out-Memo memo)) in
       let one = ap length (filter-append test entries (more ∷ []) ∙ ap (λ (l : List Entry). filter test entries ++ l) (passed test more live)) in
       let long = length-append (filter test entries) (more ∷ []) in
       omega (arith, count_roll (added memo more), count_out memo, one, long)
@@ -99,9 +96,8 @@ module _ (memo : Memo) (place : ℕ) (old new : Memo) (at : slice_get (out-Memo 
   stripped_renewed e =
       stripped_roll (renewed memo place new)
       ∙ ap (λ (l : List Memo). roll-Memo record {
-        marked = (out-Memo memo).marked;
+        former = (out-Memo memo).former;
         facts = (out-Memo memo).facts;
-        kids = (out-Memo memo).kids;
         entries = not_fresh (out-Memo memo).entries;
         below = l;
       }) (map_same below place at e) ∙ sym (stripped_out memo)

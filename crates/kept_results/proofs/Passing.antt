@@ -6,7 +6,7 @@ use Rattle.font_metrics.specs.Metrics.{MetricsValue}
 use Rattle.math_tree.specs.declared.node.Node.{Node}
 use Rattle.math_tree.specs.declared.node.Node.TheViews.{out-Node}
 use Rattle.layout_model.specs.declared.context.Context.{Context}
-use Rattle.kept_results.specs.Kept.{Agrees, Holds, HoldsIn, IsMissing, IsSound, is_live}
+use Rattle.kept_results.specs.Kept.{Agrees, Holds, HoldsIn, IsMissing, IsSound, is_live, is_marked}
 use Rattle.kept_results.specs.Passes.{HasNoRepeat, IsPairKept, IsPairMissing, Pair, Passes}
 use Rattle.kept_results.specs.declared.memo.Entry.{Entry}
 use Rattle.kept_results.specs.declared.memo.Memo.{Memo}
@@ -147,18 +147,18 @@ module _ (m : MetricsValue) where
         grown = λ e. let l = length-map k.pairs (under place) in let g = k.grown e in let s = count_renewed memo place old new at in omega arith;
       }
 
-  missing_here : (memo : Memo) (context : Context) → IsMissing (out-Memo memo).marked context (out-Memo memo).entries → IsPairMissing memo (pair_at [] context)
+  missing_here : (memo : Memo) (context : Context) → IsMissing (is_marked (out-Memo memo)) context (out-Memo memo).entries → IsPairMissing memo (pair_at [] context)
   missing_here memo context h one =
-      missing_kept (out-Memo memo).marked context (out-Memo memo).entries one.held.place one.entry h one.held.at one.held.live one.in_context
+      missing_kept (is_marked (out-Memo memo)) context (out-Memo memo).entries one.held.place one.entry h one.held.at one.held.live one.in_context
 
   -- one step, whose outcome is kept
   pub passes_added : (node : Node) (needed : Pair → Type 0) (memo : Memo) (more : Entry) (context : Context) (from to : ℕ) → Agrees m node memo
-      → IsSound m node (out-Memo memo).below more → IsMissing (out-Memo memo).marked context (out-Memo memo).entries → more.context ≡ context → more.fresh ≡ true
+      → IsSound m node (out-Memo memo).below more → IsMissing (is_marked (out-Memo memo)) context (out-Memo memo).entries → more.context ≡ context → more.fresh ≡ true
       → needed (pair_at [] context) → to ≡ from + 1 → Passes m node needed memo (roll-Memo (added memo more)) from to true
   passes_added node needed memo more context from to h sound missing is fresh need step =
-      let live = fresh_live (out-Memo memo).marked more fresh in
+      let live = fresh_live (is_marked (out-Memo memo)) more fresh in
       record {
-        agrees = agrees_added m node memo more h sound (subst (λ (x : Context). IsMissing (out-Memo memo).marked x (out-Memo memo).entries) (sym is) missing);
+        agrees = agrees_added m node memo more h sound (subst (λ (x : Context). IsMissing (is_marked (out-Memo memo)) x (out-Memo memo).entries) (sym is) missing);
         same = stripped_added memo more fresh;
         keeps = keeps_added memo more;
         pairs = pair_at [] context ∷ [];
@@ -172,7 +172,7 @@ module _ (m : MetricsValue) where
 
   -- one step, whose outcome isn't kept
   pub passes_step : (node : Node) (needed : Pair → Type 0) (memo : Memo) (context : Context) (from to : ℕ) → Agrees m node memo
-      → IsMissing (out-Memo memo).marked context (out-Memo memo).entries → needed (pair_at [] context) → to ≡ from + 1 → Passes m node needed memo memo from to false
+      → IsMissing (is_marked (out-Memo memo)) context (out-Memo memo).entries → needed (pair_at [] context) → to ≡ from + 1 → Passes m node needed memo memo from to false
   passes_step node needed memo context from to h missing need step = record {
     agrees = h;
     same = refl;

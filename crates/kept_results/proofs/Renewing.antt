@@ -1,6 +1,7 @@
 -- Loops that renew each memo below, one after another.
-use Rattle.std.proofs.Common.{◌≡◌, ◌∙◌, refl, sym, ap, ℕ, zero, suc, ◌+◌, arith, false, List, [], ◌∷◌, ◌++◌, drop, length, map, set, take, Some, slice_get}
+use Rattle.std.proofs.Common.{◌≡◌, ◌∙◌, refl, sym, ap, ℕ, zero, suc, ◌+◌, arith, List, [], ◌∷◌, ◌++◌, drop, length, map, set, take, Some, slice_get, None, is_some}
 use Rattle.std.proofs.lemmas.Option.{none-some, same_Some}
+use Rattle.kept_results.specs.Kept.{is_marked}
 use Rattle.kept_results.specs.Ends.{not_fresh, sealed, settled_all, stripped}
 use Rattle.kept_results.specs.declared.memo.Entry.{Entry}
 use Rattle.kept_results.specs.declared.memo.Memo.{Memo}
@@ -11,9 +12,8 @@ use Rattle.kept_results.proofs.Counts.{sealed_out, stripped_out}
 
 -- the first memos below are renewed, and all else is as it was
 pub record Renewed (renew : Memo → Memo) (before now : Memo) (at : ℕ) : Type 0 where
-  pub marked : (out-Memo now).marked ≡ (out-Memo before).marked
+  pub former : (out-Memo now).former ≡ (out-Memo before).former
   pub facts : (out-Memo now).facts ≡ (out-Memo before).facts
-  pub kids : (out-Memo now).kids ≡ (out-Memo before).kids
   pub entries : (out-Memo now).entries ≡ (out-Memo before).entries
   pub below : (out-Memo now).below ≡ map renew (take at (out-Memo before).below) ++ drop at (out-Memo before).below
 
@@ -51,9 +51,8 @@ module _ (renew : Memo → Memo) where
       let was : slice_get memos at ≡ Some old = sym (next_is memos at) ∙ ap (λ l. slice_get l at) (sym h.below) ∙ there in
       let one : suc at ≡ at + 1 = omega arith in
       record {
-        marked = ap (λ (l : Memo-F Memo). l.marked) out ∙ h.marked;
+        former = ap (λ (l : Memo-F Memo). l.former) out ∙ h.former;
         facts = ap (λ (l : Memo-F Memo). l.facts) out ∙ h.facts;
-        kids = ap (λ (l : Memo-F Memo). l.kids) out ∙ h.kids;
         entries = ap (λ (l : Memo-F Memo). l.entries) out ∙ h.entries;
         below = ap (λ (l : Memo-F Memo). l.below) out ∙ ap (λ l. set l at new) h.below
             ∙ ap (set (map renew (take at memos) ++ drop at memos) at) e ∙ set_next memos at old was
@@ -66,31 +65,29 @@ module _ (renew : Memo → Memo) where
 
 pub stripped_end : (before now : Memo) (at : ℕ) (entries : List Entry) → Renewed stripped before now at → length (out-Memo before).below ≡ at
     → entries ≡ not_fresh (out-Memo now).entries
-    → roll-Memo record { marked = (out-Memo now).marked; facts = (out-Memo now).facts; kids = (out-Memo now).kids; entries = entries; below = (out-Memo now).below } ≡ stripped before
+    → roll-Memo record { former = (out-Memo now).former; facts = (out-Memo now).facts; entries = entries; below = (out-Memo now).below } ≡ stripped before
 stripped_end before now at entries h l e =
     (λ i. roll-Memo record {
-      marked = h.marked i;
+      former = h.former i;
       facts = h.facts i;
-      kids = h.kids i;
       entries = (e ∙ ap not_fresh h.entries) i;
       below = below_all stripped before now at h l i;
     }) ∙ sym (stripped_out before)
 
 -- as it stands when its own entries are dropped
 abbrev pub dropped : Memo → List Entry → Memo-F Memo
-dropped now entries = record { marked = (out-Memo now).marked; facts = (out-Memo now).facts; kids = (out-Memo now).kids; entries = entries; below = (out-Memo now).below }
+dropped now entries = record { former = (out-Memo now).former; facts = (out-Memo now).facts; entries = entries; below = (out-Memo now).below }
 
 abbrev unmarked : Memo-F Memo → Memo
-unmarked layer = roll-Memo record { marked = false; facts = layer.facts; kids = layer.kids; entries = layer.entries; below = layer.below }
+unmarked layer = roll-Memo record { former = None; facts = layer.facts; entries = layer.entries; below = layer.below }
 
 pub sealed_end : (before now : Memo) (at : ℕ) (entries : List Entry) → Renewed sealed before now at → length (out-Memo before).below ≡ at
-    → entries ≡ settled_all (out-Memo now).marked (out-Memo now).entries → unmarked (out-Memo (roll-Memo (dropped now entries))) ≡ sealed before
+    → entries ≡ settled_all (is_marked (out-Memo now)) (out-Memo now).entries → unmarked (out-Memo (roll-Memo (dropped now entries))) ≡ sealed before
 sealed_end before now at entries h l e =
     ap unmarked (out-roll-Memo (dropped now entries))
     ∙ (λ i. roll-Memo record {
-      marked = false;
+      former = None;
       facts = h.facts i;
-      kids = h.kids i;
-      entries = (e ∙ (λ j. settled_all (h.marked j) (h.entries j))) i;
+      entries = (e ∙ (λ j. settled_all (is_some (h.former j)) (h.entries j))) i;
       below = below_all sealed before now at h l i;
     }) ∙ sym (sealed_out before)

@@ -1,5 +1,5 @@
 -- What the seal leaves of a memo.
-use Rattle.std.proofs.Common.{◌≡◌, ◌∙◌, refl, sym, ap, subst, ℕ, zero, suc, Bool, true, false, cond, ◌&&◌, List, [], ◌∷◌, filter, map, Some, slice_get}
+use Rattle.std.proofs.Common.{◌≡◌, ◌∙◌, refl, sym, ap, subst, ℕ, zero, suc, Bool, true, false, cond, ◌&&◌, List, [], ◌∷◌, filter, map, Some, slice_get, None}
 use Rattle.std.proofs.lemmas.List.{length-map}
 use Rattle.std.proofs.lemmas.Option.{none-some, same_Some, slice_get-map}
 use Rattle.std.specs.List.{list_all}
@@ -9,7 +9,7 @@ use Rattle.math_tree.specs.declared.node.Node.{Node}
 use Rattle.layout_model.specs.declared.context.Context.{Context}
 use Rattle.layout_model.specs.declared.context.Question.{Question}
 use Rattle.kept_results.specs.Ends.{not_fresh, sealed, settled, settled_all, stripped}
-use Rattle.kept_results.specs.Kept.{Agrees, AreApart, HasEntry, Holds, HoldsIn, IsMemoOf, IsMissing, IsSound, NamesKept, StandAt, is_live}
+use Rattle.kept_results.specs.Kept.{Agrees, AreApart, HasEntry, Holds, HoldsIn, IsMemoOf, IsMissing, IsSound, NamesKept, StandAt, is_live, is_marked}
 use Rattle.kept_results.specs.Laws.{SealLaw, WasHeld, is_unmarked, unmarked_layer}
 use Rattle.kept_results.specs.declared.memo.Entry.{Entry}
 use Rattle.kept_results.specs.declared.memo.Memo.{Memo}
@@ -58,7 +58,7 @@ settled_has marked (x ∷ entries) (suc place) entry h live = by (is_live marked
     by false (p, at) = (p, at)
 
 has_sealed : (layer : Memo-F Memo) (entry : Entry) → HasEntry layer entry → HasEntry (sealed_over layer) (settled entry)
-has_sealed layer entry h = let r = settled_has layer.marked layer.entries h.place entry h.at h.live in record { place = r.0; at = r.1; live = refl }
+has_sealed layer entry h = let r = settled_has (is_marked layer) layer.entries h.place entry h.at h.live in record { place = r.0; at = r.1; live = refl }
 
 -- ---- at paths
 
@@ -79,7 +79,7 @@ stays (place ∷ path) memo entry h =
 was : (path : List ℕ) (memo : Memo) (entry : Entry) → Holds path (sealed memo) entry → WasHeld path memo entry
 was [] memo entry h =
     let k : HasEntry (sealed_over (out-Memo memo)) entry = subst (λ (l : Memo-F Memo). HasEntry l entry) (out_sealed memo) h in
-    let r = settled_was (out-Memo memo).marked (out-Memo memo).entries k.place entry k.at in
+    let r = settled_was (is_marked (out-Memo memo)) (out-Memo memo).entries k.place entry k.at in
     record { former = r.former; held = record { place = r.place; at = r.at; live = r.live }; is = r.is }
 was (place ∷ path) memo entry h =
     let k : HoldsIn (place ∷ path) (sealed_over (out-Memo memo)) entry = subst (λ (l : Memo-F Memo). HoldsIn (place ∷ path) l entry) (out_sealed memo) h in
@@ -118,10 +118,9 @@ module _ (m : MetricsValue) where
   memo_sealed : (node : Node) (layer : Memo-F Memo) → IsMemoOf m node layer → IsMemoOf m node (sealed_over layer)
   memo_sealed node layer h = record {
     facts_are = h.facts_are;
-    kids_are = h.kids_are;
     as_many = length-map layer.below sealed ∙ h.as_many;
     sound = λ entry has.
-        let r = settled_was layer.marked layer.entries has.place entry has.at in
+        let r = settled_was (is_marked layer) layer.entries has.place entry has.at in
         let s = h.sound r.former record { place = r.place; at = r.at; live = r.live } in
         let names = all_then (NamesKept node layer.below) (NamesKept node (sealed_over layer).below) (names_sealed node layer) in
         let is : IsSound m node (sealed_over layer).below (settled r.former) = record {
@@ -134,7 +133,7 @@ module _ (m : MetricsValue) where
           twos_kept = names r.former.twos s.twos_kept;
         } in
         subst (IsSound m node (sealed_over layer).below) (sym r.is) is;
-    apart = apart_sealed layer.marked layer.entries h.apart;
+    apart = apart_sealed (is_marked layer) layer.entries h.apart;
   }
 
   stood : (path : List ℕ) (node : Node) (memo : Memo) (element : Node) (kept : Memo) → StandAt path node (sealed memo) element kept
@@ -189,10 +188,9 @@ plain_sealed = ind-Memo HasNoFlag (λ x y is.
     ap (λ (l : List Memo). map stripped (map sealed l)) below ∙ all_plain y.below ∙ ap (map sealed) (sym below) in
     ap stripped (sealed_out memo) ∙ stripped_roll (sealed_over layer)
     ∙ (λ i. roll-Memo record {
-      marked = false;
+      former = None;
       facts = layer.facts;
-      kids = layer.kids;
-      entries = none_fresh (filter (is_live layer.marked) layer.entries) i;
+      entries = none_fresh (filter (is_live (is_marked layer)) layer.entries) i;
       below = same i;
     }) ∙ sym (sealed_out memo))
 

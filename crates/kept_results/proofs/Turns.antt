@@ -1,5 +1,5 @@
 -- The turns of a pass: one question more, and both waves of an element.
-use Rattle.std.proofs.Common.{◌≡◌, ◌∙◌, refl, sym, ap, subst, ℕ, ◌+◌, ◌<◌, Bool, true, false, ◌&&◌, List, [], ◌∷◌, ◌++◌, length, map, set, take, get_or, arith, length-append, All, Contains, Some, slice_get}
+use Rattle.std.proofs.Common.{◌≡◌, ◌∙◌, refl, sym, ap, subst, ℕ, ◌+◌, ◌<◌, Bool, true, false, ◌&&◌, List, [], ◌∷◌, ◌++◌, length, map, set, take, get_or, arith, length-append, All, Contains, Some, slice_get, suc}
 use Rattle.std.proofs.lemmas.List.{get_or-append-add, get_or_append_left, map_more}
 use Rattle.std.proofs.lemmas.List.Elements.{Contains-append_left, Contains-append_right}
 use Rattle.std.proofs.lemmas.Option.{same_Some}
@@ -23,9 +23,11 @@ use Rattle.layout_model.proofs.Alike.{handed_down}
 use Rattle.layout_model.proofs.Made.{answer_of_child}
 use Rattle.layout_core.proofs.Waves.{all_fit}
 use Rattle.layout_core.proofs.Whole.{and_true, fits_true, first_false, lay_waves, ones_below, ones_stored, outcome_false, range_waves, twos_below, twos_stored}
+use Rattle.embellished.specs.Facts.{facts}
+use Rattle.math_tree.specs.declared.node.Node.TheViews.{out-Node}
 use Rattle.kept_results.specs.Contexts.{IsProper, Suits}
 use Rattle.kept_results.specs.Kept.{Agrees, IsKept, IsMissing, IsSound, Keeps, NamesKept, Stores}
-use Rattle.kept_results.specs.Looking.{HasAnswer, IsKeptNow}
+use Rattle.kept_results.specs.Looking.{HasAnswer, IsKeptNow, own_facts}
 use Rattle.kept_results.specs.Passes.{AnswersNeed, Needs, Pair, Passes}
 use Rattle.kept_results.specs.declared.memo.Entry.{Entry}
 use Rattle.kept_results.specs.declared.memo.Memo.{Memo}
@@ -95,8 +97,8 @@ module _ (m : MetricsValue) (node kid : Node) (place : ℕ) (asks : List Questio
 pub own_entries : (memo : Memo) (place : ℕ) (new : Memo) → (out-Memo (roll-Memo (renewed memo place new))).entries ≡ (out-Memo memo).entries
 own_entries memo place new = ap (λ (l : Memo-F Memo). l.entries) (out-roll-Memo (renewed memo place new))
 
-pub own_mark : (memo : Memo) (place : ℕ) (new : Memo) → (out-Memo (roll-Memo (renewed memo place new))).marked ≡ (out-Memo memo).marked
-own_mark memo place new = ap (λ (l : Memo-F Memo). l.marked) (out-roll-Memo (renewed memo place new))
+pub own_mark : (memo : Memo) (place : ℕ) (new : Memo) → (out-Memo (roll-Memo (renewed memo place new))).former ≡ (out-Memo memo).former
+own_mark memo place new = ap (λ (l : Memo-F Memo). l.former) (out-roll-Memo (renewed memo place new))
 
 -- ---- what is kept
 
@@ -240,3 +242,19 @@ module _ {m : MetricsValue} {node shown : Node} {context : Context} {ones twos :
         ones_kept = subst (AllByRecursion (NamesKept node (out-Memo before).below)) (sym kept.ones_are) h;
         twos_kept = subst (AllByRecursion (NamesKept node (out-Memo before).below)) (sym kept.twos_are) k;
       }
+
+-- ---- what is known of the children
+
+mapped_same : {A B C : Type 0} (f : A → C) (g : B → C) (xs : List A) (ys : List B) → length xs ≡ length ys
+    → ((i : ℕ) (x : A) (y : B) → slice_get xs i ≡ Some x → slice_get ys i ≡ Some y → f x ≡ g y) → map f xs ≡ map g ys
+mapped_same f g [] [] l h = refl
+mapped_same f g [] (y ∷ ys) l h = absurd (omega (arith, l))
+mapped_same f g (x ∷ xs) [] l h = absurd (omega (arith, l))
+mapped_same {A} {B} {C} f g (x ∷ xs) (y ∷ ys) l h =
+    ap (λ (z : C). z ∷ map f xs) (h 0 x y refl refl)
+    ∙ ap (λ (rest : List C). g y ∷ rest) (mapped_same f g xs ys (omega (arith, l)) (λ i a b p q. h (suc i) a b p q))
+
+pub facts_known : (m : MetricsValue) (node : Node) (memo : Memo) → Agrees m node memo → map own_facts (out-Memo memo).below ≡ map facts (out-Node node).children
+facts_known m node memo h =
+    mapped_same own_facts facts (out-Memo memo).below (out-Node node).children (h.at [] node memo (refl, refl)).as_many
+    (λ i kept child a b. (h.at (i ∷ []) child kept (child, kept, b, a, (refl, refl))).facts_are)

@@ -1,7 +1,7 @@
 -- How a pass ends: what it made is dropped again, or else what is older.
-use Rattle.std.specs.Prelude.{ℕ, ◌+◌, Bool, false, not, List, filter, length, map}
+use Rattle.std.specs.Prelude.{ℕ, ◌+◌, Bool, false, not, List, filter, length, map, None}
 use Rattle.std.specs.List.{sum}
-use Rattle.kept_results.specs.Kept.{is_live}
+use Rattle.kept_results.specs.Kept.{is_live, is_marked}
 use Rattle.kept_results.specs.declared.memo.Entry.{Entry}
 use Rattle.kept_results.specs.declared.memo.Memo.{Memo}
 use Rattle.kept_results.specs.declared.memo.Memo.TheFolds.{fold-Memo}
@@ -16,9 +16,8 @@ not_fresh entries = filter (λ entry. not entry.fresh) entries
 
 abbrev pub stripped_layer : Memo-F Memo → Memo
 stripped_layer layer = roll-Memo record {
-  marked = layer.marked;
+  former = layer.former;
   facts = layer.facts;
-  kids = layer.kids;
   entries = not_fresh layer.entries;
   below = layer.below;
 }
@@ -44,10 +43,9 @@ settled_all marked entries = map settled (filter (is_live marked) entries)
 
 abbrev pub sealed_layer : Memo-F Memo → Memo
 sealed_layer layer = roll-Memo record {
-  marked = false;
+  former = None;
   facts = layer.facts;
-  kids = layer.kids;
-  entries = settled_all layer.marked layer.entries;
+  entries = settled_all (is_marked layer) layer.entries;
   below = layer.below;
 }
 
@@ -58,7 +56,7 @@ sealed memo = fold-Memo Memo sealed_layer memo
 -- ---- how many
 
 abbrev pub live_in : Memo-F ℕ → ℕ
-live_in layer = length (filter (is_live layer.marked) layer.entries) + sum layer.below
+live_in layer = length (filter (is_live (is_marked layer)) layer.entries) + sum layer.below
 
 -- the number of entries that aren't older
 abbrev pub kept_count : Memo → ℕ

@@ -1,5 +1,5 @@
 -- Kept layouts, and when they are those of a tree.
-use Rattle.std.specs.Prelude.{◌≡◌, ⊤, ℕ, Bool, true, not, ◌||◌, List, [], ◌∷◌, length, map, Some, slice_get}
+use Rattle.std.specs.Prelude.{◌≡◌, ⊤, ℕ, Bool, true, not, ◌||◌, List, [], ◌∷◌, length, map, Some, slice_get, is_some}
 use Rattle.std.specs.List.{AllByRecursion}
 use Rattle.font_metrics.specs.Metrics.{MetricsValue}
 use Rattle.math_tree.specs.declared.node.Node.{Node}
@@ -24,6 +24,10 @@ use Rattle.kept_results.specs.declared.memo.Memo.TheViews.{out-Memo}
 abbrev pub Stores : Entry → Outcome → Type 0
 Stores entry outcome = entry.outcome ≡ outcome
 
+-- the present edit changes the element, or one below it
+abbrev pub is_marked : {X : Type 0} → Memo-F X → Bool
+is_marked layer = is_some layer.former
+
 -- an entry of a marked element that the present pass didn't make is an older one
 abbrev pub is_live : Bool → Entry → Bool
 is_live marked entry = not marked || entry.fresh
@@ -32,7 +36,7 @@ is_live marked entry = not marked || entry.fresh
 pub record HasEntry (layer : Memo-F Memo) (entry : Entry) : Type 0 where
   pub place : ℕ
   pub at : slice_get layer.entries place ≡ Some entry
-  pub live : is_live layer.marked entry ≡ true
+  pub live : is_live (is_marked layer) entry ≡ true
 
 -- it has one in a context
 pub record IsKept (layer : Memo-F Memo) (context : Context) : Type 0 where
@@ -71,14 +75,13 @@ pub record IsSound (m : MetricsValue) (node : Node) (below : List Memo) (entry :
   pub ones_kept : AllByRecursion (NamesKept node below) entry.ones
   pub twos_kept : AllByRecursion (NamesKept node below) entry.twos
 
--- what is known of an element and of its children, one memo for each child, and entries that are sound, but for the
+-- what is known of an element, one memo for each child, and entries that are sound, but for the
 -- older ones, and of which no two are in one context
 pub record IsMemoOf (m : MetricsValue) (node : Node) (layer : Memo-F Memo) : Type 0 where
   pub facts_are : layer.facts ≡ facts node
-  pub kids_are : layer.kids ≡ map facts (out-Node node).children
   pub as_many : length layer.below ≡ length (out-Node node).children
   pub sound : (entry : Entry) → HasEntry layer entry → IsSound m node layer.below entry
-  pub apart : AreApart layer.marked layer.entries
+  pub apart : AreApart (is_marked layer) layer.entries
 
 -- an element of a tree and its memo, by the places of children down to it
 abbrev pub StandAt : List ℕ → Node → Memo → Node → Memo → Type 0

@@ -5,7 +5,7 @@ use Rattle.font_metrics.specs.Metrics.{MetricsValue}
 use Rattle.math_tree.specs.declared.node.Node.{Node}
 use Rattle.layout_model.specs.declared.context.Context.{Context}
 use Rattle.kept_results.specs.Ends.{sealed, settled, stripped}
-use Rattle.kept_results.specs.Kept.{Agrees, Holds, HoldsOne}
+use Rattle.kept_results.specs.Kept.{Agrees, Holds, HoldsOne, is_marked}
 use Rattle.kept_results.specs.Passes.{IsPairKept, Needs, Pair}
 use Rattle.kept_results.specs.declared.memo.Entry.{Entry}
 use Rattle.kept_results.specs.declared.memo.Memo.{Memo}
@@ -21,7 +21,7 @@ abbrev pub KeptLaw : Type 0
 KeptLaw = (m : MetricsValue) (node : Node) (memo : Memo) (context : Context) → Agrees m node memo → HoldsOne [] memo context → AllKept m node context memo
 
 abbrev pub unmarked_layer : Memo-F Bool → Bool
-unmarked_layer layer = not layer.marked && list_all (λ below. below) layer.below
+unmarked_layer layer = not (is_marked layer) && list_all (λ below. below) layer.below
 
 -- no element is marked
 abbrev pub is_unmarked : Memo → Bool

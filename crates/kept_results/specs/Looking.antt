@@ -4,6 +4,7 @@ use Rattle.layout_model.specs.declared.context.Context.{Context}
 use Rattle.layout_model.specs.declared.context.Question.{Question}
 use Rattle.layout_model.specs.declared.outcome.Answer.{Answer}
 use Rattle.layout_model.specs.declared.outcome.Outcome.{Outcome}
+use Rattle.embellished.specs.declared.facts.Facts.{Facts}
 use Rattle.kept_results.specs.Kept.{HasEntry, Stores}
 use Rattle.kept_results.specs.declared.memo.Entry.{Entry}
 use Rattle.kept_results.specs.declared.memo.Memo.{Memo}
@@ -28,9 +29,12 @@ pub record IsKeptNow (before after : Memo) (context : Context) (outcome : Outcom
   pub twos_are : entry.twos ≡ twos
   pub fresh : entry.fresh ≡ true
   pub added : after ≡ roll-Memo record {
-    marked = (out-Memo before).marked;
+    former = (out-Memo before).former;
     facts = (out-Memo before).facts;
-    kids = (out-Memo before).kids;
     entries = (out-Memo before).entries ++ entry ∷ [];
     below = (out-Memo before).below;
   }
+
+-- what the element of a memo is among operators
+abbrev pub own_facts : Memo → Facts
+own_facts memo = (out-Memo memo).facts

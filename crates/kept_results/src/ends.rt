@@ -1,7 +1,7 @@
 ghost use Rattle.std.specs.Prelude.{◌≡◌};
 ghost use Rattle.kept_results.specs.Ends.{not_fresh, sealed, settled_all, stripped};
 
-use crate::entries::is_live;
+use crate::entries::{is_live, is_marked};
 use crate::memo::{Entry, Memo};
 use fixed_units::List;
 
@@ -23,8 +23,9 @@ pub fn seal(memo: &mut Memo)
     for at in 0..memo.below.len() {
         seal(memo.below.at_mut(at));
     }
-    drop_older(&mut memo.entries, memo.marked);
-    memo.marked = false;
+    let marked = is_marked(memo);
+    drop_older(&mut memo.entries, marked);
+    memo.former = None;
 }
 
 /// Drops the entries that the present pass made. They stand at the end, and so nothing is moved.

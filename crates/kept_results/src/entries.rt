@@ -1,13 +1,21 @@
-ghost use Rattle.std.specs.Prelude.{◌≡◌, ◌++◌, ◌∷◌, [], true, false, IfOk, IfSome, IfNone, OnErr, OnOk};
-ghost use Rattle.kept_results.specs.Kept.{IsMissing, is_live};
-ghost use Rattle.kept_results.specs.Looking.{HasAnswer, IsKeptNow};
+ghost use Rattle.std.specs.Prelude.{◌≡◌, ◌++◌, ◌∷◌, [], true, false, IfOk, IfSome, IfNone, OnErr, OnOk, map};
+ghost use Rattle.kept_results.specs.Kept.{IsMissing, is_live, is_marked};
+ghost use Rattle.kept_results.specs.Looking.{HasAnswer, IsKeptNow, own_facts};
 ghost use Rattle.kept_results.specs.declared.memo.Memo.TheViews.{out-Memo};
 
 use crate::contexts::{copy_of as copy_of_context, is_same};
 use crate::memo::{Entry, Memo};
+use embellished::Facts;
 use fixed_units::{List, Memory};
 use layout_model::{Answer, Context, Outcome, Question};
 use std::alloc::Global;
+
+/// Whether the present edit changes the element, or one below it.
+pub fn is_marked(memo: &Memo) -> bool
+    ensures { result ≡ is_marked (out-Memo memo.now) }
+{
+    memo.former.is_some()
+}
 
 /// Whether an entry is no older one.
 pub fn is_live(marked: bool, entry: &Entry) -> bool
@@ -27,14 +35,26 @@ fn serves(marked: bool, entry: &Entry, context: &Context) -> bool
 /// The answer that is kept of an element in a context, where one is.
 pub fn kept_answer(alloc: Global, memo: &Memo, context: &Context) -> Result<Option<Answer>, Memory>
     ensures some { IfOk result (λ found. IfSome found (HasAnswer (out-Memo memo.now) context.now)) }
-    ensures none { IfOk result (λ found. IfNone found (IsMissing (out-Memo memo.now).marked context.now (out-Memo memo.now).entries)) }
+    ensures none { IfOk result (λ found. IfNone found (IsMissing (is_marked (out-Memo memo.now)) context.now (out-Memo memo.now).entries)) }
 {
+    let marked = is_marked(memo);
     for entry in memo.entries.as_slice() {
-        if serves(memo.marked, entry, context) {
+        if serves(marked, entry, context) {
             return Ok(Some(copy_of(alloc, &entry.outcome.answer)?));
         }
     }
     Ok(None)
+}
+
+/// What the children of an element are, in order, as a view of the element takes them.
+pub fn facts_below(alloc: Global, memo: &Memo) -> Result<List<Facts>, Memory>
+    ensures { IfOk result (λ kids. kids ≡ map own_facts (out-Memo memo.now).below) }
+{
+    let mut kids = List::make(alloc);
+    for below in memo.below.as_slice() {
+        kids.push(below.facts)?;
+    }
+    Ok(kids)
 }
 
 /// Keeps one layout more, and gives its answer.

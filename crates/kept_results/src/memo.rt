@@ -20,12 +20,11 @@ pub struct Entry {
 /// It is plain data that holds itself: contracts read a layer as `out-Memo` of it.
 #[derive(Debug, Drop)]
 pub struct Memo {
-    /// Whether the present edit changes the element, or one below it.
-    pub marked: bool,
+    /// What the element was among operators before the present edit, where that edit changes the element
+    /// or one below it: then it is marked.
+    pub former: Option<Facts>,
     /// What the element is among operators.
     pub facts: Facts,
-    /// What its children are, in order, as a view of the element takes them.
-    pub kids: List<Facts>,
     pub entries: List<Entry>,
     /// The same of each child.
     pub below: List<Memo>,

@@ -9,7 +9,7 @@ ghost use Rattle.kept_results.specs.Kept.{Agrees, IsKept, NamesKept};
 ghost use Rattle.kept_results.specs.Passes.{AnswersNeed, Needs, Passes};
 ghost use Rattle.kept_results.specs.declared.memo.Memo.TheViews.{out-Memo};
 
-use crate::entries::{keep, kept_answer};
+use crate::entries::{facts_below, keep, kept_answer};
 use crate::memo::Memo;
 use embellished::{NodeView, View};
 use fixed_units::{LayRefusal, List, Steps};
@@ -46,7 +46,8 @@ pub fn relay_element<L: Ledger>(
     if let Some(answer) = kept_answer(alloc, memo, context)? {
         return Ok(answer);
     }
-    let view = NodeView::make(alloc, node, memo.facts, &memo.kids)?;
+    let kids = facts_below(alloc, memo)?;
+    let view = NodeView::make(alloc, node, memo.facts, &kids)?;
     let ones = wave_one(alloc, &view, context, metrics)?;
     let one = relay_all(alloc, node, memo, &view, &ones, metrics, steps)?;
     let twos = wave_two(alloc, &view, context, metrics, &one)?;
@@ -73,7 +74,7 @@ fn relay_all<L: Ledger>(
     ensures passes { Passes metrics.now node.now (AnswersNeed metrics.now node.now asks.now) memo.old memo.new steps.old steps.new false }
     ensures passed { OnOk result (Passes metrics.now node.now (AnswersNeed metrics.now node.now asks.now) memo.old memo.new steps.old steps.new true) }
     ensures own { (out-Memo memo.new).entries ≡ (out-Memo memo.old).entries }
-    ensures marked { (out-Memo memo.new).marked ≡ (out-Memo memo.old).marked }
+    ensures marked { (out-Memo memo.new).former ≡ (out-Memo memo.old).former }
     ensures kept { OnOk result (AllByRecursion (NamesKept node.now (out-Memo memo.new).below) asks.now) }
     ensures ok { IfOk result (λ answers. answers ≡ map (answer_of metrics.now node.now) asks.now) }
     ensures fit { OnOk result (list_all (visit_fits metrics.now) (flat_map (visits_below metrics.now node.now) asks.now) ≡ true) }

@@ -1,5 +1,5 @@
-use Rattle.std.proofs.Common.{◌≡◌, length, arith}
-use Rattle.kept_results.specs.Ends.{sealed}
+use Rattle.std.proofs.Common.{◌≡◌, ◌∙◌, ap, Bool, length, arith}
+use Rattle.kept_results.specs.Ends.{sealed, settled_all}
 use Rattle.kept_results.specs.declared.memo.Memo.TheViews.{out-Memo}
 use Rattle.kept_results.proofs.Renewing.{renewed_more, sealed_end}
 use Rattle.kept_results.proofs.ends.+seal.Goals as goal
@@ -11,4 +11,4 @@ loop-at-preserved t c =
 pub returns : goal.returns
 returns t c =
     let all : length (out-Memo c.args.memo.now).below ≡ c.loop-at.at = omega arith in
-    sealed_end c.args.memo.now c.loop-at.memo c.loop-at.at c.drop_older.new.entries c.loop-at.invariant all c.drop_older.ensures
+    sealed_end c.args.memo.now c.loop-at.memo c.loop-at.at c.drop_older.new.entries c.loop-at.invariant all (c.drop_older.ensures ∙ ap (λ (b : Bool). settled_all b (out-Memo c.loop-at.memo).entries) c.is_marked-marked.ensures)

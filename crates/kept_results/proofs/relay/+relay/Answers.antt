@@ -1,7 +1,8 @@
-use Rattle.std.proofs.Common.{rules, ◌≡◌, ◌∙◌, refl, sym, ap, subst, ◌<◌, arith, true, false, List, [], map, Option, Some, None, IfNone, IfSome, Err}
+use Rattle.std.proofs.Common.{rules, ◌≡◌, ◌∙◌, refl, sym, ap, subst, ◌<◌, arith, true, false, List, [], map, Option, Some, None, IfNone, IfSome, Err, is_some}
 use Rattle.font_metrics.specs.Metrics.{MetricsValue}
 use Rattle.math_tree.specs.declared.node.Node.{Node}
 use Rattle.math_tree.specs.declared.node.Node.TheViews.{size-Node}
+use Rattle.embellished.specs.declared.facts.Facts.{Facts}
 use Rattle.layout_model.specs.Fits.{AreAnswers}
 use Rattle.layout_model.specs.Laws.{answer_of}
 use Rattle.layout_model.specs.declared.context.Context.{Context}
@@ -13,7 +14,7 @@ use Rattle.layout_core.proofs.Fits.{answers_are, range_is}
 use Rattle.layout_core.proofs.Waves.{all_fit, broken, fit_more}
 use Rattle.layout_core.proofs.Whole.{answers_all, ones_false, range_waves, size_false, twos_false}
 use Rattle.kept_results.specs.Contexts.{IsProper}
-use Rattle.kept_results.specs.Kept.{IsKept, IsMissing, NamesKept}
+use Rattle.kept_results.specs.Kept.{IsKept, IsMissing, NamesKept, is_marked}
 use Rattle.kept_results.specs.Looking.{HasAnswer}
 use Rattle.kept_results.specs.Passes.{AnswersNeed, Needs, Pair, Passes}
 use Rattle.kept_results.specs.declared.memo.Memo.{Memo}
@@ -21,7 +22,7 @@ use Rattle.kept_results.specs.declared.memo.Memo.TheViews.{out-Memo}
 use Rattle.kept_results.proofs.Agreement.{agrees_child, has_added}
 use Rattle.kept_results.proofs.Lists.{all_then}
 use Rattle.kept_results.proofs.Passing.{fresh_live, pair_at, passes_added, passes_both, passes_none, passes_partly, passes_step, passes_under, under}
-use Rattle.kept_results.proofs.Turns.{Waves, child_in_flow, kept_answers, kept_fits, kept_more, missing_same, names_still, needed_below, ones_proper, own_entries, own_mark, pass_ones, pass_twos, sound_made, suits_child, told_more, twos_proper, waves_fit, waves_lay, waves_unfit}
+use Rattle.kept_results.proofs.Turns.{Waves, child_in_flow, facts_known, kept_answers, kept_fits, kept_more, missing_same, names_still, needed_below, ones_proper, own_entries, own_mark, pass_ones, pass_twos, sound_made, suits_child, told_more, twos_proper, waves_fit, waves_lay, waves_unfit}
 use Rattle.kept_results.proofs.relay.+relay.Goals as goal
 
 none_of : (found : Option Answer) (P : Type 0) → IfNone found P → ((answer : Answer) → found ≡ Some answer → ⊥) → P
@@ -199,12 +200,15 @@ relay_element-make-requires-clause-own g t c =
 
 pub relay_element-make-requires-clause-known : goal.relay_element-make-requires-clause-known
 relay_element-make-requires-clause-known g t c =
-    let own = c.requires.agrees.at [] c.args.node.now c.args.memo.now (refl, refl) in
-    own.kids_are
+    (c.in_ok-kids.ensures {u = tt}) ∙ facts_known c.args.metrics.now c.args.node.now c.args.memo.now c.requires.agrees
 
 pub relay_element-make-requires-clause-few : goal.relay_element-make-requires-clause-few
 relay_element-make-requires-clause-few g t c =
     omega (arith, few_children c.args.node.now, c.requires.few)
+
+pub relay_element-returns-in_err-kids-clause-passes : goal.relay_element-returns-in_err-kids-clause-passes
+relay_element-returns-in_err-kids-clause-passes g t c =
+    passes_none c.args.metrics.now c.args.node.now (Needs c.args.metrics.now c.args.node.now c.args.context.now) c.args.memo.now c.args.steps.now false c.requires.agrees
 
 pub relay_element-returns-in_err-view-clause-passes : goal.relay_element-returns-in_err-view-clause-passes
 relay_element-returns-in_err-view-clause-passes g t c =
@@ -331,8 +335,8 @@ relay_element-returns-in_err-outcome-clause-passes g t c =
     let two = (c.in_ok-two.ensures {u = tt}) in
     let both : Passes m node (Needs m node context) c.args.memo.now c.relay_all-2.new.memo c.args.steps.now c.relay_all-2.new.steps true =
     passes_both m (pass_ones m node _ context shown _ o.ok one.passed) (pass_twos m node _ context shown _ o.ok _ one.ok _ w two.passed) in
-    let missing : IsMissing (out-Memo c.relay_all-2.new.memo).marked context (out-Memo c.relay_all-2.new.memo).entries =
-    missing_same _ _ context _ _ (none_of c.in_ok-answer.field-0 _ (c.in_ok-answer.ensures {u = tt}).none c.in_default.not-Some) (two.marked ∙ one.marked) (two.own ∙ one.own) in
+    let missing : IsMissing (is_marked (out-Memo c.relay_all-2.new.memo)) context (out-Memo c.relay_all-2.new.memo).entries =
+    missing_same _ _ context _ _ (none_of c.in_ok-answer.field-0 _ (c.in_ok-answer.ensures {u = tt}).none c.in_default.not-Some) (ap (λ (former : Option Facts). is_some former) (two.marked ∙ one.marked)) (two.own ∙ one.own) in
     passes_both m both (passes_step m node (Needs m node context) c.relay_all-2.new.memo context c.relay_all-2.new.steps c.finish.new.steps both.agrees missing (own_need m node context) c.finish.ensures.step)
 
 pub relay_element-returns-in_err-outcome-clause-range : goal.relay_element-returns-in_err-outcome-clause-range
@@ -363,8 +367,8 @@ relay_element-returns-in_err-keep-clause-passes g t c =
     let two = (c.in_ok-two.ensures {u = tt}) in
     let both : Passes m node (Needs m node context) c.args.memo.now c.relay_all-2.new.memo c.args.steps.now c.relay_all-2.new.steps true =
     passes_both m (pass_ones m node _ context shown _ o.ok one.passed) (pass_twos m node _ context shown _ o.ok _ one.ok _ w two.passed) in
-    let missing : IsMissing (out-Memo c.relay_all-2.new.memo).marked context (out-Memo c.relay_all-2.new.memo).entries =
-    missing_same _ _ context _ _ (none_of c.in_ok-answer.field-0 _ (c.in_ok-answer.ensures {u = tt}).none c.in_default.not-Some) (two.marked ∙ one.marked) (two.own ∙ one.own) in
+    let missing : IsMissing (is_marked (out-Memo c.relay_all-2.new.memo)) context (out-Memo c.relay_all-2.new.memo).entries =
+    missing_same _ _ context _ _ (none_of c.in_ok-answer.field-0 _ (c.in_ok-answer.ensures {u = tt}).none c.in_default.not-Some) (ap (λ (former : Option Facts). is_some former) (two.marked ∙ one.marked)) (two.own ∙ one.own) in
     subst (λ (memo : Memo). Passes m node (Needs m node context) c.args.memo.now memo c.args.steps.now c.finish.new.steps false) (sym (c.in_err-keep.ensures {u = tt}).unchanged)
     (passes_both m both (passes_step m node (Needs m node context) c.relay_all-2.new.memo context c.relay_all-2.new.steps c.finish.new.steps both.agrees missing (own_need m node context) c.finish.ensures.step))
 
@@ -380,8 +384,8 @@ relay_element-returns-clause-passes g t c =
     let two = (c.in_ok-two.ensures {u = tt}) in
     let both : Passes m node (Needs m node context) c.args.memo.now c.relay_all-2.new.memo c.args.steps.now c.relay_all-2.new.steps true =
     passes_both m (pass_ones m node _ context shown _ o.ok one.passed) (pass_twos m node _ context shown _ o.ok _ one.ok _ w two.passed) in
-    let missing : IsMissing (out-Memo c.relay_all-2.new.memo).marked context (out-Memo c.relay_all-2.new.memo).entries =
-    missing_same _ _ context _ _ (none_of c.in_ok-answer.field-0 _ (c.in_ok-answer.ensures {u = tt}).none c.in_default.not-Some) (two.marked ∙ one.marked) (two.own ∙ one.own) in
+    let missing : IsMissing (is_marked (out-Memo c.relay_all-2.new.memo)) context (out-Memo c.relay_all-2.new.memo).entries =
+    missing_same _ _ context _ _ (none_of c.in_ok-answer.field-0 _ (c.in_ok-answer.ensures {u = tt}).none c.in_default.not-Some) (ap (λ (former : Option Facts). is_some former) (two.marked ∙ one.marked)) (two.own ∙ one.own) in
     let waves : Waves m node c.in_ok-view.view.node.now context c.in_ok-ones.ones c.in_ok-twos.twos c.in_ok-one.one c.in_ok-two.two =
     record { shown_is = shown; ones_are = o.ok; one_is = one.ok; twos_are = w; two_is = two.ok } in
     let made = (c.in_ok-outcome.ensures {u = tt}) in
@@ -404,8 +408,8 @@ relay_element-returns-clause-passed g t c =
     let two = (c.in_ok-two.ensures {u = tt}) in
     let both : Passes m node (Needs m node context) c.args.memo.now c.relay_all-2.new.memo c.args.steps.now c.relay_all-2.new.steps true =
     passes_both m (pass_ones m node _ context shown _ o.ok one.passed) (pass_twos m node _ context shown _ o.ok _ one.ok _ w two.passed) in
-    let missing : IsMissing (out-Memo c.relay_all-2.new.memo).marked context (out-Memo c.relay_all-2.new.memo).entries =
-    missing_same _ _ context _ _ (none_of c.in_ok-answer.field-0 _ (c.in_ok-answer.ensures {u = tt}).none c.in_default.not-Some) (two.marked ∙ one.marked) (two.own ∙ one.own) in
+    let missing : IsMissing (is_marked (out-Memo c.relay_all-2.new.memo)) context (out-Memo c.relay_all-2.new.memo).entries =
+    missing_same _ _ context _ _ (none_of c.in_ok-answer.field-0 _ (c.in_ok-answer.ensures {u = tt}).none c.in_default.not-Some) (ap (λ (former : Option Facts). is_some former) (two.marked ∙ one.marked)) (two.own ∙ one.own) in
     let waves : Waves m node c.in_ok-view.view.node.now context c.in_ok-ones.ones c.in_ok-twos.twos c.in_ok-one.one c.in_ok-two.two =
     record { shown_is = shown; ones_are = o.ok; one_is = one.ok; twos_are = w; two_is = two.ok } in
     let made = (c.in_ok-outcome.ensures {u = tt}) in
@@ -419,7 +423,7 @@ relay_element-returns-clause-passed g t c =
 pub relay_element-returns-clause-kept : goal.relay_element-returns-clause-kept
 relay_element-returns-clause-kept g t c =
     let kept = (c.in_ok-keep.ensures {u = tt}).kept in
-    let live = fresh_live (out-Memo c.relay_all-2.new.memo).marked kept.entry kept.fresh in
+    let live = fresh_live (is_marked (out-Memo c.relay_all-2.new.memo)) kept.entry kept.fresh in
     subst (λ (memo : Memo). IsKept (out-Memo memo) c.args.context.now) (sym kept.added)
     record { entry = kept.entry; has = has_added c.relay_all-2.new.memo kept.entry live; in_context = kept.in_context }
 

@@ -18,7 +18,7 @@ pub record Answered (m : MetricsValue) (node : Node) (before memo : Memo) (asks 
   pub fit : all_fit m node (take index items) ≡ true
   pub passes : Passes m node (AnswersNeed m node asks) before memo from to true
   pub own : (out-Memo memo).entries ≡ (out-Memo before).entries
-  pub marked : (out-Memo memo).marked ≡ (out-Memo before).marked
+  pub marked : (out-Memo memo).former ≡ (out-Memo before).former
   pub kept : AllByRecursion (NamesKept node (out-Memo memo).below) (take index items)
 
 abbrev pub invariant-relay_all-loop-asked : goal.invariant-relay_all-loop-asked
