@@ -1,0 +1,4 @@
+pub mod Few
+pub mod LastAsked
+pub mod Reading
+pub mod Totals

@@ -1,0 +1,13 @@
+use Rattle.std.proofs.Common.{◌∙◌, refl}
+use Rattle.std.proofs.lemmas.List.{length-set}
+use Rattle.kept_laid.proofs.LastAsked.{put_more}
+use Rattle.kept_laid.proofs.last.put_all.Goals as goal
+
+pub loop-asked-preserved : goal.loop-asked-preserved
+loop-asked-preserved c =
+    let q = c.asked-item.result in
+    let places = c.loop-asked.places.items in
+    record {
+      as_many = length-set places q.kid _ ∙ c.loop-asked.invariant.as_many;
+      last = λ earlier h. put_more earlier c.as_slice-asked-items.result.now c.loop-asked.asked-index q places _ c.loop-asked-test.true c.asked-item.is refl (c.loop-asked.invariant.last earlier h);
+    }

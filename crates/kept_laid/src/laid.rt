@@ -1,0 +1,69 @@
+ghost use Rattle.std.specs.Prelude.{◌≡◌, ◌≤◌, ◌++◌, map, IfOk};
+ghost use Rattle.font_metrics.specs.Metrics.{MetricsValue};
+ghost use Rattle.math_tree.specs.Trees.{element_count};
+ghost use Rattle.layout_model.specs.Layout.{laid};
+ghost use Rattle.kept_results.specs.Kept.{Agrees, HasEntry, IsKept};
+ghost use Rattle.kept_results.specs.Looking.{own_facts};
+ghost use Rattle.kept_results.specs.declared.memo.Memo.TheViews.{out-Memo};
+ghost use Rattle.kept_laid.specs.Laid.{AgreesWithSome, kids_laid};
+
+use crate::last::last_contexts;
+use crate::lookup::kept_entry;
+use crate::outcomes::copy_of;
+use embellished::{Facts, NodeView, View};
+use fixed_units::{List, Memory};
+use kept_results::{Entry, Memo};
+use layout_model::{Context, Laid};
+use math_tree::Node;
+use std::alloc::Global;
+
+/// The layout of an element in a context, with all elements in flow below it, from what is kept: its
+/// heads are those of the tree, its outcomes those of entries. With each font's numbers with which
+/// the entries agree, it is what a fresh layout gives.
+#[cycle(read)]
+pub fn laid_of(alloc: Global, node: &Node, memo: &Memo, context: &Context) -> Result<Laid, Memory>
+    requires agrees { AgreesWithSome node.now memo.now }
+    requires few { element_count node.now ≤ 65_536 }
+    requires kept { IsKept (out-Memo memo.now) context.now }
+    ensures { IfOk result (λ all. (m : MetricsValue) → Agrees m node.now memo.now → all ≡ laid m node.now context.now) }
+{
+    let entry = kept_entry(memo, context);
+    Ok(Laid {
+        head: node.head.copy(alloc)?,
+        outcome: copy_of(alloc, &entry.outcome)?,
+        kids: laid_kids(alloc, node, memo, entry)?,
+    })
+}
+
+/// The children in flow of an element, each in the context of the last question to it for an entry.
+#[cycle(read)]
+fn laid_kids(alloc: Global, node: &Node, memo: &Memo, entry: &Entry) -> Result<List<Laid>, Memory>
+    requires agrees { AgreesWithSome node.now memo.now }
+    requires few { element_count node.now ≤ 65_536 }
+    requires has { HasEntry (out-Memo memo.now) entry.now }
+    ensures { IfOk result (λ kids. (m : MetricsValue) → Agrees m node.now memo.now → kids ≡ kids_laid m node.now (entry.now.ones ++ entry.now.twos)) }
+{
+    let facts = facts_below(alloc, memo)?;
+    let view = NodeView::make(alloc, node, memo.facts, &facts)?;
+    let count = view.kids();
+    let last = last_contexts(alloc, count, entry)?;
+    let mut kids = List::make(alloc);
+    for index in 0..count {
+        if let Some(context) = last[index] {
+            let below = &memo.below.as_slice()[view.place(index)];
+            kids.push(laid_of(alloc, view.node_at(index), below, context)?)?;
+        }
+    }
+    Ok(kids)
+}
+
+/// What the children of an element are among operators, in order.
+fn facts_below(alloc: Global, memo: &Memo) -> Result<List<Facts>, Memory>
+    ensures { IfOk result (λ kids. kids ≡ map own_facts (out-Memo memo.now).below) }
+{
+    let mut kids = List::make(alloc);
+    for below in memo.below.as_slice() {
+        kids.push(below.facts)?;
+    }
+    Ok(kids)
+}

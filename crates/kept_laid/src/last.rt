@@ -1,0 +1,50 @@
+ghost use Rattle.std.specs.Prelude.{◌≡◌, ◌++◌, [], length, List as Sequence, IfOk};
+ghost use Rattle.std.specs.List.{All};
+ghost use Rattle.layout_model.specs.Questions.{IsBelow};
+ghost use Rattle.layout_model.specs.declared.context.Question.{Question as Asked};
+ghost use Rattle.kept_laid.specs.Last.{AreLast, seen_contexts};
+
+use fixed_units::{List, Memory};
+use kept_results::Entry;
+use layout_model::{Context, Question};
+use std::alloc::Global;
+
+/// Of each of so many children in flow, the context of the last question to it for an entry.
+pub fn last_contexts<'a>(
+    alloc: Global,
+    count: usize,
+    entry: &'a Entry,
+) -> Result<Vec<Option<&'a Context>>, Memory>
+    requires ones { All (IsBelow count) entry.now.ones }
+    requires twos { All (IsBelow count) entry.now.twos }
+    ensures as_many { IfOk result (λ places. length places.items ≡ count) }
+    ensures last { IfOk result (λ places. AreLast (entry.now.ones ++ entry.now.twos) (seen_contexts places.items)) }
+{
+    let mut places = none_asked(alloc, count)?;
+    put_all(&entry.ones, &mut places);
+    put_all(&entry.twos, &mut places);
+    Ok(places)
+}
+
+/// No child is asked so far.
+fn none_asked<'a>(alloc: Global, count: usize) -> Result<Vec<Option<&'a Context>>, Memory>
+    ensures as_many { IfOk result (λ places. length places.items ≡ count) }
+    ensures none { IfOk result (λ places. AreLast [] (seen_contexts places.items)) }
+{
+    let mut places = Vec::new(alloc);
+    for _ in 0..count {
+        places.push(None)?;
+    }
+    Ok(places)
+}
+
+/// Further questions, in order.
+fn put_all<'a>(asks: &'a List<Question>, places: &mut Vec<Option<&'a Context>>)
+    requires within { All (IsBelow (length places.old.items)) asks.now }
+    ensures as_many { length places.new.items ≡ length places.old.items }
+    ensures last { (before : Sequence Asked) → AreLast before (seen_contexts places.old.items) → AreLast (before ++ asks.now) (seen_contexts places.new.items) }
+{
+    for asked in asks.as_slice() {
+        places[asked.kid as usize] = Some(&asked.context);
+    }
+}

@@ -1,0 +1,24 @@
+//! What is read off kept layouts: the layout of a tree, the answer of an element, and how many
+//! entries there are.
+//!
+//! Nothing is laid out here, and no step is taken: all that these calls give stands in entries.
+//!
+//! - Models: this project's own; MathML Core says nothing of it.
+//! - Proved: what is read is what a fresh layout gives, with each font's numbers with which the
+//!   entries agree; where only what is needed is kept, there are at most twice as many entries as
+//!   elements (`laws`).
+//! - Knows nothing of: how entries are made, and when they are dropped.
+//! - Change what a kept layout is: `kept_results`.
+#![tactic(auto)]
+
+mod amount; // how many entries there are
+mod contexts; // the same context
+mod last; // the last question to each child
+pub mod laws; // what holds of all kept layouts
+mod laid; // a tree of kept layouts
+mod lookup; // one entry of an element
+mod outcomes; // outcomes once more
+
+pub use amount::count;
+pub use laid::laid_of;
+pub use lookup::{root_answer, root_box};

@@ -1,0 +1,56 @@
+ghost use Rattle.std.specs.Prelude.{◌≡◌, true, false};
+ghost use Rattle.font_metrics.specs.Metrics.{MetricsValue};
+ghost use Rattle.math_tree.specs.declared.node.Node.{Node as Element};
+ghost use Rattle.layout_model.specs.Layout.{lay};
+ghost use Rattle.kept_results.specs.Kept.{Agrees, HasEntry, IsKept, is_live, is_marked};
+ghost use Rattle.kept_results.specs.declared.memo.Memo.TheViews.{out-Memo};
+
+use crate::contexts::is_same;
+use fixed_units::MathBox;
+use kept_results::{Entry, Memo};
+use layout_model::{Answer, Context};
+
+/// The answer that is kept of the root of a tree in a context. It takes no memory.
+pub fn root_answer<'a>(memo: &'a Memo, context: &Context) -> &'a Answer
+    requires kept { IsKept (out-Memo memo.now) context.now }
+    ensures { (m : MetricsValue) (node : Element) → Agrees m node memo.now → result.now ≡ (lay m node context.now).answer }
+{
+    &kept_entry(memo, context).outcome.answer
+}
+
+/// The box that is kept of the root of a tree in a context. It takes no memory.
+pub fn root_box(memo: &Memo, context: &Context) -> MathBox
+    requires kept { IsKept (out-Memo memo.now) context.now }
+    ensures { (m : MetricsValue) (node : Element) → Agrees m node memo.now → result ≡ (lay m node context.now).answer.frame }
+{
+    root_answer(memo, context).frame
+}
+
+/// The entry of an element in a context that is no older one.
+pub fn kept_entry<'a>(memo: &'a Memo, context: &Context) -> &'a Entry
+    requires kept { IsKept (out-Memo memo.now) context.now }
+    ensures has { HasEntry (out-Memo memo.now) result.now }
+    ensures in_context { result.now.context ≡ context.now }
+{
+    for entry in memo.entries.as_slice() {
+        if serves(memo, entry, context) {
+            return entry;
+        }
+    }
+    unreachable!()
+}
+
+/// Is this an entry in a context, and no older one?
+fn serves(memo: &Memo, entry: &Entry, context: &Context) -> bool
+    ensures yes { result ≡ true → (is_live (is_marked (out-Memo memo.now)) entry.now ≡ true) × (entry.now.context ≡ context.now) }
+    ensures no { result ≡ false → is_live (is_marked (out-Memo memo.now)) entry.now ≡ true → entry.now.context ≡ context.now → ⊥ }
+{
+    is_live(memo, entry) && is_same(&entry.context, context)
+}
+
+/// Whether an entry of an element is no older one.
+pub fn is_live(memo: &Memo, entry: &Entry) -> bool
+    ensures { result ≡ is_live (is_marked (out-Memo memo.now)) entry.now }
+{
+    memo.former.is_none() || entry.fresh
+}
