@@ -14,13 +14,13 @@ use Rattle.layout_model.specs.declared.context.Context.{Context}
 use Rattle.layout_model.proofs.TwoContexts.{two_contexts}
 use Rattle.kept_results.specs.Ends.{kept_count}
 use Rattle.kept_results.specs.Kept.{Agrees, AreApart, HasEntry, Holds, IsMissing, StandAt, is_live, is_marked}
-use Rattle.kept_results.specs.Passes.{Needs}
+use Rattle.kept_results.specs.Passes.{Needs, Pair}
 use Rattle.kept_results.specs.declared.memo.Entry.{Entry}
 use Rattle.kept_results.specs.declared.memo.Memo.{Memo}
 use Rattle.kept_results.specs.declared.memo.Memo.TheOpen.{Memo-F}
 use Rattle.kept_results.specs.declared.memo.Memo.TheViews.{out-Memo}
 use Rattle.kept_results.proofs.Counts.{count_out}
-use Rattle.kept_laid.specs.Few.{FewLaw, KeepsNeeded, LimitLaw}
+use Rattle.kept_laid.specs.Few.{FewLaw, KeepsNoOther, LimitLaw}
 
 -- ---- the entries of one element
 
@@ -111,9 +111,12 @@ held_at : (path : List ℕ) (node : Node) (memo : Memo) (element : Node) (kept :
 held_at [] node memo element kept entry s has = subst (λ (k : Memo). HasEntry (out-Memo k) entry) s.1 has
 held_at (place ∷ path) node memo element kept entry s has = (s.1, s.3, held_at path s.0 s.1 element kept entry s.4 has)
 
-module _ (m : MetricsValue) (node : Node) (context : Context) (memo : Memo) (may : MayBeAsked m node context) (agrees : Agrees m node memo) (needed : KeepsNeeded m node context memo) where
+abbrev pair_of : List ℕ → Context → Pair
+pair_of path context = record { path = path; context = context }
+
+module _ (m : MetricsValue) (node : Node) (context : Context) (memo : Memo) (may : MayBeAsked m node context) (agrees : Agrees m node memo) (needed : KeepsNoOther m node context memo) where
   abbrev NeedsAt : List ℕ → Context → Type 0
-  NeedsAt path other = Needs m node context record { path = path; context = other }
+  NeedsAt path other = Needs m node context (pair_of path other)
 
   all_few : AllHaveFew node memo
   all_few path element kept s =
@@ -125,7 +128,7 @@ module _ (m : MetricsValue) (node : Node) (context : Context) (memo : Memo) (may
             (λ a b d h k l. two_contexts m node context may path h.element k.element l.element a b d h.made k.made l.made)
             (live_differ (is_marked layer) layer.entries here.apart)
             (all_live (is_marked layer) (λ (entry : Entry). NeedsAt path entry.context) layer.entries
-            (λ place entry at is. needed path entry (held_at path node memo element kept entry s record { place = place; at = at; live = is })));
+            (λ place entry at is. needed (pair_of path entry.context) record { entry = entry; held = held_at path node memo element kept entry s record { place = place; at = at; live = is }; in_context = refl }));
       }
 
 pub few_law : FewLaw

@@ -11,7 +11,7 @@ use Rattle.layout_model.specs.declared.laid.Laid.{Laid}
 use Rattle.kept_results.specs.Kept.{Agrees}
 use Rattle.kept_results.specs.declared.memo.Memo.{Memo}
 
--- there are a font's numbers with which a memo agrees with its tree
+-- there are metrics with which a memo agrees with its tree
 pub record AgreesWithSome (node : Node) (memo : Memo) : Type 0 where
   pub metrics : MetricsValue
   pub agrees : Agrees metrics node memo

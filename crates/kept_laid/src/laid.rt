@@ -18,8 +18,8 @@ use math_tree::Node;
 use std::alloc::Global;
 
 /// The layout of an element in a context, with all elements in flow below it, from what is kept: its
-/// heads are those of the tree, its outcomes those of entries. With each font's numbers with which
-/// the entries agree, it is what a fresh layout gives.
+/// heads are those of the tree, its outcomes those of entries. With any metrics with which the memo
+/// agrees, it is what a fresh layout gives.
 #[cycle(read)]
 pub fn laid_of(alloc: Global, node: &Node, memo: &Memo, context: &Context) -> Result<Laid, Memory>
     requires agrees { AgreesWithSome node.now memo.now }

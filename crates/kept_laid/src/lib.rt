@@ -4,9 +4,8 @@
 //! Nothing is laid out here, and no step is taken: all that these calls give stands in entries.
 //!
 //! - Models: this project's own; MathML Core says nothing of it.
-//! - Proved: what is read is what a fresh layout gives, with each font's numbers with which the
-//!   entries agree; where only what is needed is kept, there are at most twice as many entries as
-//!   elements (`laws`).
+//! - Proved: what is read is what a fresh layout gives, with any metrics with which the memo agrees;
+//!   where only what is needed is kept, there are at most twice as many entries as elements (`laws`).
 //! - Knows nothing of: how entries are made, and when they are dropped.
 //! - Change what a kept layout is: `kept_results`.
 #![tactic(auto)]

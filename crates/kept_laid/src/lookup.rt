@@ -1,6 +1,6 @@
 ghost use Rattle.std.specs.Prelude.{◌≡◌, true, false};
 ghost use Rattle.font_metrics.specs.Metrics.{MetricsValue};
-ghost use Rattle.math_tree.specs.declared.node.Node.{Node as Element};
+ghost use Rattle.math_tree.specs.declared.node.Node.{Node};
 ghost use Rattle.layout_model.specs.Layout.{lay};
 ghost use Rattle.kept_results.specs.Kept.{Agrees, HasEntry, IsKept, is_live, is_marked};
 ghost use Rattle.kept_results.specs.declared.memo.Memo.TheViews.{out-Memo};
@@ -13,7 +13,7 @@ use layout_model::{Answer, Context};
 /// The answer that is kept of the root of a tree in a context. It takes no memory.
 pub fn root_answer<'a>(memo: &'a Memo, context: &Context) -> &'a Answer
     requires kept { IsKept (out-Memo memo.now) context.now }
-    ensures { (m : MetricsValue) (node : Element) → Agrees m node memo.now → result.now ≡ (lay m node context.now).answer }
+    ensures { (m : MetricsValue) (node : Node) → Agrees m node memo.now → result.now ≡ (lay m node context.now).answer }
 {
     &kept_entry(memo, context).outcome.answer
 }
@@ -21,7 +21,7 @@ pub fn root_answer<'a>(memo: &'a Memo, context: &Context) -> &'a Answer
 /// The box that is kept of the root of a tree in a context. It takes no memory.
 pub fn root_box(memo: &Memo, context: &Context) -> MathBox
     requires kept { IsKept (out-Memo memo.now) context.now }
-    ensures { (m : MetricsValue) (node : Element) → Agrees m node memo.now → result ≡ (lay m node context.now).answer.frame }
+    ensures { (m : MetricsValue) (node : Node) → Agrees m node memo.now → result ≡ (lay m node context.now).answer.frame }
 {
     root_answer(memo, context).frame
 }
