@@ -1,0 +1,6 @@
+pub mod Blanks
+pub mod Clearing
+pub mod Flagging
+pub mod Listed
+pub mod Sweeping
+pub mod Walking

@@ -1,0 +1,33 @@
+use Rattle.std.proofs.Common.{◌≡◌, true, sym, subst}
+use Rattle.kept_results.specs.Ends.{stripped}
+use Rattle.kept_results.specs.Kept.{Agrees, IsKept}
+use Rattle.kept_results.specs.Laws.{is_unmarked}
+use Rattle.kept_results.specs.declared.memo.Memo.{Memo}
+use Rattle.kept_results.specs.declared.memo.Memo.TheViews.{out-Memo}
+use Rattle.kept_results.proofs.Sealing.{seal_law}
+use Rattle.kept_sweep.proofs.Blanks.{blank_agrees, kept_sealed}
+use Rattle.kept_sweep.proofs.start.start_layout.Goals as goal
+
+pub relay_element-requires-clause-agrees : goal.relay_element-requires-clause-agrees
+relay_element-requires-clause-agrees g c =
+    subst (Agrees c.args.metrics.now c.args.node.now) (sym (c.in_ok-memo.ensures {u = tt})) (blank_agrees c.args.metrics.now c.args.node.now)
+
+pub sweep_layouts-requires-clause-agrees : goal.sweep_layouts-requires-clause-agrees
+sweep_layouts-requires-clause-agrees g c =
+    let m = c.args.metrics.now in
+    subst (Agrees m c.args.node.now) (sym c.seal.ensures) (seal_law m c.args.node.now c.relay_element.new.memo (c.in_ok-relay_element.ensures {u = tt}).passed.agrees).agrees
+
+pub sweep_layouts-requires-clause-unmarked : goal.sweep_layouts-requires-clause-unmarked
+sweep_layouts-requires-clause-unmarked g c =
+    let m = c.args.metrics.now in
+    subst (λ (memo : Memo). is_unmarked memo ≡ true) (sym c.seal.ensures) (seal_law m c.args.node.now c.relay_element.new.memo (c.in_ok-relay_element.ensures {u = tt}).passed.agrees).unmarked
+
+pub sweep_layouts-requires-clause-plain : goal.sweep_layouts-requires-clause-plain
+sweep_layouts-requires-clause-plain g c =
+    let m = c.args.metrics.now in
+    subst (λ (memo : Memo). stripped memo ≡ memo) (sym c.seal.ensures) (seal_law m c.args.node.now c.relay_element.new.memo (c.in_ok-relay_element.ensures {u = tt}).passed.agrees).plain
+
+pub sweep_layouts-requires-clause-kept : goal.sweep_layouts-requires-clause-kept
+sweep_layouts-requires-clause-kept g c =
+    let done = c.in_ok-relay_element.ensures {u = tt} in
+    subst (λ (memo : Memo). IsKept (out-Memo memo) c.args.context.now) (sym c.seal.ensures) (kept_sealed c.args.metrics.now c.args.node.now c.relay_element.new.memo c.args.context.now done.passed.agrees done.kept)

@@ -1,0 +1,4 @@
+pub mod Blank
+pub mod Flagged
+pub mod Places
+pub mod Swept

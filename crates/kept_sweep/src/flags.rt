@@ -1,0 +1,106 @@
+ghost use Rattle.std.specs.Prelude.{◌≡◌, ◌++◌, length, map, true, false, IfSome, IfNone};
+ghost use Rattle.std.specs.List.{AllByRecursion};
+ghost use Rattle.math_tree.specs.declared.node.Node.TheViews.{out-Node};
+ghost use Rattle.embellished.specs.Facts.{facts};
+ghost use Rattle.kept_results.specs.Kept.{Agrees, IsKept, IsMissing, NamesKept};
+ghost use Rattle.kept_results.specs.Looking.{own_facts};
+ghost use Rattle.kept_results.specs.declared.memo.Memo.TheViews.{out-Memo};
+ghost use Rattle.kept_sweep.specs.Flagged.{AreFlagged, BelowAgree, IsFlagged, StandsAt, all_marked, cleared};
+
+use crate::contexts::is_same;
+use crate::places::{Spot, place_from};
+use embellished::Facts;
+use fixed_units::List;
+use font_metrics::Metrics;
+use kept_results::{Entry, Memo};
+use layout_model::{Context, Question};
+use math_tree::Node;
+
+/// Marks every element.
+pub fn mark_all(memo: &mut Memo)
+    ensures { memo.new ≡ all_marked memo.old }
+{
+    for at in 0..memo.below.len() {
+        mark_all(memo.below.at_mut(at));
+    }
+    memo.former = Some(memo.facts);
+}
+
+/// Flags the entry of an element in a context, and all that its layout needs below it. What is
+/// flagged already isn't gone through again. `metrics` are those of the layouts that are kept; none
+/// of their numbers is read.
+#[cycle(flag)]
+pub fn flag_needed(node: &Node, memo: &mut Memo, context: &Context, metrics: &Metrics)
+    requires agrees { Agrees metrics.now node.now memo.old }
+    requires whole { Agrees metrics.now node.now (cleared memo.old) }
+    requires kept { IsKept (out-Memo (cleared memo.old)) context.now }
+    ensures { IsFlagged metrics.now node.now context.now memo.old memo.new }
+{
+    if let Some(at) = place_of(memo, context) {
+        if !memo.entries.as_slice()[at].fresh {
+            flag_asked(
+                node,
+                &memo.facts,
+                &mut memo.below,
+                &memo.entries.as_slice()[at],
+                metrics,
+            );
+            memo.entries.at_mut(at).fresh = true;
+        }
+    }
+}
+
+/// Flags what an entry needs of the children.
+#[cycle(flag)]
+fn flag_asked(node: &Node, own: &Facts, below: &mut List<Memo>, entry: &Entry, metrics: &Metrics)
+    requires own { own.now ≡ facts node.now }
+    requires known { map own_facts below.old ≡ map facts (out-Node node.now).children }
+    requires agrees { BelowAgree metrics.now node.now below.old }
+    requires whole { BelowAgree metrics.now node.now (map cleared below.old) }
+    requires ones { AllByRecursion (NamesKept node.now (map cleared below.old)) entry.now.ones }
+    requires twos { AllByRecursion (NamesKept node.now (map cleared below.old)) entry.now.twos }
+    ensures flagged { AreFlagged metrics.now node.now (entry.now.ones ++ entry.now.twos) below.old below.new }
+    ensures ones { AllByRecursion (NamesKept node.now below.new) entry.now.ones }
+    ensures twos { AllByRecursion (NamesKept node.now below.new) entry.now.twos }
+{
+    flag_wave(node, own, below, &entry.ones, metrics);
+    flag_wave(node, own, below, &entry.twos, metrics);
+}
+
+/// Flags what the answers to the questions of one wave need.
+#[cycle(flag)]
+fn flag_wave(
+    node: &Node,
+    own: &Facts,
+    below: &mut List<Memo>,
+    asks: &List<Question>,
+    metrics: &Metrics,
+)
+    requires own { own.now ≡ facts node.now }
+    requires known { map own_facts below.old ≡ map facts (out-Node node.now).children }
+    requires agrees { BelowAgree metrics.now node.now below.old }
+    requires whole { BelowAgree metrics.now node.now (map cleared below.old) }
+    requires named { AllByRecursion (NamesKept node.now (map cleared below.old)) asks.now }
+    ensures flagged { AreFlagged metrics.now node.now asks.now below.old below.new }
+    ensures named { AllByRecursion (NamesKept node.now below.new) asks.now }
+{
+    let mut spot = Spot { index: 0, place: 0 };
+    for asked in asks.as_slice() {
+        spot = place_from(node, own, below.as_slice(), spot, asked.kid as usize);
+        let child = &node.children.as_slice()[spot.place];
+        flag_needed(child, below.at_mut(spot.place), &asked.context, metrics);
+    }
+}
+
+/// Where the entry in a context stands, older or not.
+fn place_of(memo: &Memo, context: &Context) -> Option<usize>
+    ensures some { IfSome result (λ place. StandsAt (out-Memo memo.now).entries context.now place) }
+    ensures none { IfNone result (IsMissing false context.now (out-Memo memo.now).entries) }
+{
+    for at in 0..memo.entries.len() {
+        if is_same(&memo.entries.as_slice()[at].context, context) {
+            return Some(at);
+        }
+    }
+    None
+}
