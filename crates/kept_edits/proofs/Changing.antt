@@ -1,0 +1,238 @@
+-- Memos agree with a tree again when the same is changed in both.
+use Rattle.std.proofs.Common.{◌≡◌, ◌∙◌, inl, inr, refl, sym, ap, subst, ℕ, zero, suc, ◌<◌, ◌≤◌, arith, Bool, true, false, true≢false, cond, not, List, [], ◌∷◌, get_or, insert, length, length-set, map, remove, set, Option, Some, None, slice_get}
+use Rattle.std.proofs.lemmas.Option.{get_or_from_slice_get, none-some, same_Some, slice_get-map, slice_get_within}
+use Rattle.std.specs.List.{AllByRecursion}
+use Rattle.std.specs.Option.{option_and_then, option_map, option_map_or}
+use Rattle.font_metrics.specs.Metrics.{MetricsValue}
+use Rattle.math_tree.specs.Trees.{node as node_of}
+use Rattle.math_tree.specs.declared.node.Head.{Head}
+use Rattle.math_tree.specs.declared.node.Node.{Node}
+use Rattle.math_tree.specs.declared.node.Node.TheOpen.{Node-F}
+use Rattle.math_tree.specs.declared.node.Node.TheViews.{out-Node, out-roll-Node}
+use Rattle.tree_edits.specs.Edits.{head_of, with_attribute, with_text}
+use Rattle.tree_edits.specs.Paths.{Fits, FitsAt, changed, changed_at, children_of, node_at}
+use Rattle.tree_edits.specs.declared.change.Change.{Change}
+use Rattle.tree_edits.specs.declared.change.Change.TheVariants.{SetText, SetValue, PutChild, TakeChild, SwapChild}
+use Rattle.embellished.specs.Facts.{facts}
+use Rattle.embellished.specs.declared.facts.Facts.{Facts}
+use Rattle.kept_results.specs.Ends.{not_fresh, stripped}
+use Rattle.kept_results.specs.Kept.{AreApart, IsMemoOf, is_live}
+use Rattle.kept_results.specs.Looking.{own_facts}
+use Rattle.kept_results.specs.declared.memo.Entry.{Entry}
+use Rattle.kept_results.specs.declared.memo.Memo.{Memo}
+use Rattle.kept_results.specs.declared.memo.Memo.TheOpen.{Memo-F}
+use Rattle.kept_results.specs.declared.memo.Memo.TheViews.{out-Memo, out-roll-Memo, roll-Memo}
+use Rattle.kept_results.proofs.Agreement.{agrees_child, agrees_made}
+use Rattle.kept_results.proofs.Counts.{stripped_out, stripped_roll}
+use Rattle.kept_results.proofs.Lists.{set_here}
+use Rattle.kept_edits.specs.Changed.{changed_below, changed_memo, renewed, renewed_on, with_below}
+use Rattle.kept_edits.specs.Laws.{ChangeLaw, IsReadyFor, IsSame, KnownOn}
+use Rattle.kept_edits.specs.declared.change.MemoChange.{MemoChange}
+use Rattle.kept_edits.specs.declared.change.MemoChange.TheVariants.{Stay, PutMemo, TakeMemo, SwapMemo}
+use Rattle.kept_edits.proofs.Lists.{both_insert, both_remove, both_set, length_insert, length_remove, same_all, some_at}
+
+-- ---- no entry is fresh
+
+abbrev pub NoneFresh : List Entry → Type 0
+NoneFresh entries = AllByRecursion (λ entry. entry.fresh ≡ false) entries
+
+shorter : (entries : List Entry) → length (not_fresh entries) ≤ length entries
+shorter [] = omega arith
+shorter (entry ∷ entries) = by entry.fresh (shorter entries)
+  where
+    by : (b : Bool) → length (not_fresh entries) ≤ length entries → length (cond (not b) (entry ∷ not_fresh entries) (not_fresh entries)) ≤ suc (length entries)
+    by true h = omega (arith, h)
+    by false h = omega (arith, h)
+
+none_fresh : (entries : List Entry) → not_fresh entries ≡ entries → NoneFresh entries
+none_fresh [] h = tt
+none_fresh (entry ∷ entries) h = by (none_fresh entries) entry.fresh refl h
+  where
+    by : (not_fresh entries ≡ entries → NoneFresh entries) → (b : Bool) → entry.fresh ≡ b → cond (not b) (entry ∷ not_fresh entries) (not_fresh entries) ≡ entry ∷ entries
+        → (entry.fresh ≡ false) × NoneFresh entries
+    by rest true e h = absurd (omega (arith, ap length h, shorter entries))
+    by rest false e h = let same : not_fresh entries ≡ entries = cc in (e, rest same)
+
+no_live : (entries : List Entry) (place : ℕ) (entry : Entry) → NoneFresh entries → slice_get entries place ≡ Some entry → is_live true entry ≡ true → ⊥
+no_live [] place entry h at live = none-some entry at
+no_live (x ∷ entries) zero entry h at live = true≢false (sym live ∙ ap (λ (e : Entry). e.fresh) (sym (same_Some x entry at)) ∙ h.0)
+no_live (x ∷ entries) (suc place) entry h at live = no_live entries place entry h.1 at live
+
+none_apart : (entries : List Entry) → NoneFresh entries → AreApart true entries
+none_apart [] h = tt
+none_apart (x ∷ entries) h = (λ live. absurd (true≢false (sym live ∙ h.0)), none_apart entries h.1)
+
+-- ---- a memo without fresh entries
+
+abbrev stripped_parts : Memo → Memo-F Memo
+stripped_parts memo = record {
+  former = (out-Memo memo).former;
+  facts = (out-Memo memo).facts;
+  entries = not_fresh (out-Memo memo).entries;
+  below = map stripped (out-Memo memo).below;
+}
+
+parts_plain : (memo : Memo) → stripped memo ≡ memo → stripped_parts memo ≡ out-Memo memo
+parts_plain memo h = sym (out-roll-Memo (stripped_parts memo)) ∙ ap out-Memo (sym (stripped_out memo) ∙ h)
+
+pub entries_plain : (memo : Memo) → stripped memo ≡ memo → not_fresh (out-Memo memo).entries ≡ (out-Memo memo).entries
+entries_plain memo h = ap (λ (l : Memo-F Memo). l.entries) (parts_plain memo h)
+
+below_plain : (memo : Memo) (place : ℕ) (kept : Memo) → stripped memo ≡ memo → slice_get (out-Memo memo).below place ≡ Some kept → stripped kept ≡ kept
+below_plain memo place kept h at =
+    same_Some (stripped kept) kept
+    (sym (slice_get-map stripped (out-Memo memo).below place ∙ ap (option_map stripped) at)
+    ∙ ap (λ (l : Memo-F Memo). slice_get l.below place) (parts_plain memo h) ∙ at)
+
+-- ---- a marked memo
+
+abbrev pub marked : Memo → Facts → List Memo → Memo-F Memo
+marked memo own below = record { former = Some (own_facts memo); facts = own; entries = (out-Memo memo).entries; below = below }
+
+pub marked_is : (memo : Memo) (own : Facts) (below : List Memo) → with_below (renewed own memo) below ≡ roll-Memo (marked memo own below)
+marked_is memo own below =
+    ap (λ (l : Memo-F Memo). roll-Memo record { former = l.former; facts = l.facts; entries = l.entries; below = below })
+    (out-roll-Memo (marked memo own (out-Memo memo).below))
+
+-- ---- children and their memos
+
+module _ (m : MetricsValue) where
+  pub record Paired (nodes : List Node) (memos : List Memo) : Type 0 where
+    pub as_many : length memos ≡ length nodes
+    pub each : (i : ℕ) (child : Node) (kept : Memo) → slice_get nodes i ≡ Some child → slice_get memos i ≡ Some kept → IsReadyFor m child kept
+
+  pub paired : (node : Node) (memo : Memo) → IsReadyFor m node memo → Paired (children_of node) (out-Memo memo).below
+  paired node memo h = record {
+    as_many = (h.agrees.at [] node memo (refl, refl)).as_many;
+    each = λ i child kept a b. record { agrees = agrees_child m node memo i child kept h.agrees a b; plain = below_plain memo i kept h.plain b };
+  }
+
+  paired_set : (nodes : List Node) (memos : List Memo) (i : ℕ) (child : Node) (kept : Memo) → Paired nodes memos → IsReadyFor m child kept → Paired (set nodes i child) (set memos i kept)
+  paired_set nodes memos i child kept h new = record {
+    as_many = length-set memos i kept ∙ h.as_many ∙ sym (length-set nodes i child);
+    each = λ j c k a b.
+        elim (both_set nodes memos i j child c kept k h.as_many a b) [
+          | inl e ↦ subst (λ (z : Memo). IsReadyFor m c z) (sym e.1) (subst (λ (n : Node). IsReadyFor m n kept) (sym e.0) new)
+          | inr t ↦ h.each t.0 c k t.1 t.2
+        ];
+  }
+
+  paired_insert : (nodes : List Node) (memos : List Memo) (i : ℕ) (child : Node) (kept : Memo) → i ≤ length nodes → Paired nodes memos → IsReadyFor m child kept → Paired (insert nodes i child) (insert memos i kept)
+  paired_insert nodes memos i child kept w h new = record {
+    as_many = let l = h.as_many in omega (arith, length_insert nodes i child w, length_insert memos i kept (omega (arith, l, w)));
+    each = λ j c k a b.
+        elim (both_insert nodes memos i j child c kept k h.as_many w a b) [
+          | inl e ↦ subst (λ (z : Memo). IsReadyFor m c z) (sym e.1) (subst (λ (n : Node). IsReadyFor m n kept) (sym e.0) new)
+          | inr t ↦ h.each t.0 c k t.1 t.2
+        ];
+  }
+
+  paired_remove : (nodes : List Node) (memos : List Memo) (i : ℕ) → i < length nodes → Paired nodes memos → Paired (remove nodes i) (remove memos i)
+  paired_remove nodes memos i w h = record {
+    as_many = let l = h.as_many in omega (arith, length_remove nodes i w, length_remove memos i (omega (arith, l, w)));
+    each = λ j c k a b. let t = both_remove nodes memos i j c k h.as_many a b in h.each t.0 c k t.1 t.2;
+  }
+
+  -- the children of an element that is made of parts
+  of_parts : (head : Head) (nodes : List Node) (memos : List Memo) → Paired nodes memos → Paired (children_of (node_of head nodes)) memos
+  of_parts head nodes memos h = subst (λ (l : Node-F Node). Paired l.children memos) (sym (out-roll-Node record { head = head; children = nodes })) h
+
+  paired_changed : (node : Node) (memos : List Memo) (change : Change) (other : MemoChange) → Fits change node → IsSame m change other → Paired (children_of node) memos
+      → Paired (children_of (changed change node)) (changed_below other memos)
+  paired_changed node memos (SetText text) Stay f s h = of_parts (with_text text (head_of node)) (children_of node) memos h
+  paired_changed node memos (SetValue name value room) Stay f s h = of_parts (with_attribute name value (head_of node)) (children_of node) memos h
+  paired_changed node memos (PutChild index child room) (PutMemo place memo space) f s h =
+      of_parts (head_of node) (insert (children_of node) index child) (insert memos place memo)
+      (subst (λ (p : ℕ). Paired (insert (children_of node) index child) (insert memos p memo)) (sym s.0) (paired_insert (children_of node) memos index child memo f.0 h s.1))
+  paired_changed node memos (TakeChild index) (TakeMemo place) f s h =
+      of_parts (head_of node) (remove (children_of node) index) (remove memos place)
+      (subst (λ (p : ℕ). Paired (remove (children_of node) index) (remove memos p)) (sym s) (paired_remove (children_of node) memos index f h))
+  paired_changed node memos (SwapChild index child) (SwapMemo place memo) f s h =
+      of_parts (head_of node) (set (children_of node) index child) (set memos place memo)
+      (subst (λ (p : ℕ). Paired (set (children_of node) index child) (set memos p memo)) (sym s.0) (paired_set (children_of node) memos index child memo h s.1))
+  paired_changed node memos (SetText text) (PutMemo place memo space) f s h = absurd s
+  paired_changed node memos (SetText text) (TakeMemo place) f s h = absurd s
+  paired_changed node memos (SetText text) (SwapMemo place memo) f s h = absurd s
+  paired_changed node memos (SetValue name value room) (PutMemo place memo space) f s h = absurd s
+  paired_changed node memos (SetValue name value room) (TakeMemo place) f s h = absurd s
+  paired_changed node memos (SetValue name value room) (SwapMemo place memo) f s h = absurd s
+  paired_changed node memos (PutChild index child room) Stay f s h = absurd s
+  paired_changed node memos (PutChild index child room) (TakeMemo place) f s h = absurd s
+  paired_changed node memos (PutChild index child room) (SwapMemo place memo) f s h = absurd s
+  paired_changed node memos (TakeChild index) Stay f s h = absurd s
+  paired_changed node memos (TakeChild index) (PutMemo place memo space) f s h = absurd s
+  paired_changed node memos (TakeChild index) (SwapMemo place memo) f s h = absurd s
+  paired_changed node memos (SwapChild index child) Stay f s h = absurd s
+  paired_changed node memos (SwapChild index child) (PutMemo place memo space) f s h = absurd s
+  paired_changed node memos (SwapChild index child) (TakeMemo place) f s h = absurd s
+
+  -- ---- where it agrees
+
+  marked_ready : (node : Node) (memo : Memo) (own : Facts) (below : List Memo) → stripped memo ≡ memo → own ≡ facts node → Paired (children_of node) below
+      → IsReadyFor m node (with_below (renewed own memo) below)
+  marked_ready node memo own below h is pairs =
+      let layer : Memo-F Memo = marked memo own below in
+      let none = none_fresh (out-Memo memo).entries (entries_plain memo h) in
+      let here : IsMemoOf m node layer = record {
+        facts_are = is;
+        as_many = pairs.as_many;
+        sound = λ entry has. absurd (no_live (out-Memo memo).entries has.place entry none has.at has.live);
+        apart = none_apart (out-Memo memo).entries none;
+      } in
+      let agrees = agrees_made m node layer here (λ i child kept a b. (pairs.each i child kept a b).agrees) in
+      let all : map stripped below ≡ below = same_all stripped below (λ i kept at.
+      let l = pairs.as_many in
+      let there = some_at (children_of node) i (omega (arith, slice_get_within below i kept at, l)) in
+      (pairs.each i there.0 kept there.1 at).plain) in
+      let plain : stripped (roll-Memo layer) ≡ roll-Memo layer =
+      stripped_roll layer ∙ (λ i. roll-Memo record { former = Some (own_facts memo); facts = own; entries = entries_plain memo h i; below = all i }) in
+      subst (IsReadyFor m node) (sym (marked_is memo own below)) record { agrees = agrees; plain = plain }
+
+  -- ---- at the end of a path
+
+  abbrev after : Change → List ℕ → Node → Node
+  after change path node = changed_at (changed change) path node
+
+  child_on : (change : Change) (place : ℕ) (path : List ℕ) (found : Option Node) (element : Node) → option_and_then (node_at path) found ≡ Some element → Fits change element
+      → (child : Node) × (found ≡ Some child) × FitsAt change path child
+  child_on change place path None element at fits = absurd (none-some element at)
+  child_on change place path (Some child) element at fits = (child, refl, record { element = element; at = at; fits = fits })
+
+  own_at : (known : List Facts) (n : ℕ) (own d : Facts) → slice_get known n ≡ Some own → get_or known n d ≡ own
+  own_at known n own d h = get_or_from_slice_get known n own d h
+
+  change_at : (path : List ℕ) (node : Node) (memo : Memo) (change : Change) (other : MemoChange) (known : List Facts) → IsReadyFor m node memo → FitsAt change path node
+      → IsSame m change other → KnownOn known path (after change path node) → IsReadyFor m (after change path node) (changed_memo other known path memo)
+  change_at [] node memo change other known h fits same is =
+      let fits_here = subst (Fits change) (sym (same_Some node fits.element fits.at)) fits.fits in
+      marked_ready (changed change node) memo (get_or known 0 (own_facts memo)) (changed_below other (out-Memo memo).below) h.plain
+      (own_at known 0 (facts (changed change node)) (own_facts memo) is)
+      (paired_changed node (out-Memo memo).below change other fits_here same (paired node memo h))
+  change_at (place ∷ path) node memo change other known h fits same is =
+      let nodes : List Node = children_of node in
+      let below : List Memo = (out-Memo memo).below in
+      let pairs = paired node memo h in
+      let c = child_on change place path (slice_get nodes place) fits.element fits.at fits.fits in
+      let child : Node = c.0 in
+      let l = pairs.as_many in
+      let k = some_at below place (omega (arith, l, slice_get_within nodes place child c.1)) in
+      let kept : Memo = k.0 in
+      let child' : Node = after change path child in
+      let kept' : Memo = changed_memo other known path kept in
+      let made : Node = node_of (head_of node) (set nodes place child') in
+      let node_is : after change (place ∷ path) node ≡ made =
+      ap (λ (o : Option Node). option_map_or (λ z. node_of (head_of node) (set nodes place (after change path z))) o node) c.1 in
+      let memo_is : changed_memo other known (place ∷ path) memo ≡ with_below (renewed_on known (place ∷ path) memo) (set below place kept') =
+      ap (λ (o : Option Memo). with_below (renewed_on known (place ∷ path) memo) (option_map_or (λ z. set below place (changed_memo other known path z)) o below)) k.1 in
+      let known_made = subst (KnownOn known (place ∷ path)) node_is is in
+      let there : slice_get (out-Node made).children place ≡ Some child' =
+      ap (λ (z : Node-F Node). slice_get z.children place) (out-roll-Node record { head = head_of node; children = set nodes place child' }) ∙ set_here nodes place child' child c.1 in
+      let ready = change_at path child kept change other known (pairs.each place child kept c.1 k.1) c.2 same (known_made.1 child' there) in
+      let whole = marked_ready made memo (get_or known (length (place ∷ path)) (own_facts memo)) (set below place kept') h.plain
+      (own_at known (length (place ∷ path)) (facts made) (own_facts memo) known_made.0)
+      (of_parts (head_of node) (set nodes place child') (set below place kept') (paired_set nodes below place child' kept' pairs ready)) in
+      subst (λ (n : Node). IsReadyFor m n (changed_memo other known (place ∷ path) memo)) (sym node_is)
+      (subst (IsReadyFor m made) (sym memo_is) whole)
+
+pub change_law : ChangeLaw
+change_law m node memo change other path known h fits same is = change_at m path node memo change other known h fits same is

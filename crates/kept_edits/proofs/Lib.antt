@@ -1,0 +1,6 @@
+pub mod Backwards
+pub mod Changing
+pub mod Lists
+pub mod Needing
+pub mod Unlaid
+pub mod Ways

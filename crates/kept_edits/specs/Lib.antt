@@ -1,0 +1,4 @@
+pub mod Blank
+pub mod Changed
+pub mod Laws
+pub mod Need

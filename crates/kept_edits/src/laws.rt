@@ -1,0 +1,32 @@
+//! What holds of changed memos.
+//!
+//! A law is proved where it is a contract, so each function here has one and computes nothing.
+ghost use Rattle.kept_edits.specs.Laws.{BackLaw, BlankLaw, ChangeLaw};
+ghost use Rattle.kept_edits.specs.Need.{CountedLaw, StaysLaw};
+
+/// Where the same is changed in a tree and in memos that agree with it, they agree again, whatever the
+/// metrics are.
+pub fn changed_memos_agree()
+    ensures { ChangeLaw }
+{}
+
+/// A change that is taken back leaves no trace.
+pub fn changes_can_be_taken_back()
+    ensures { BackLaw }
+{}
+
+/// Memos of which nothing is kept agree with their tree.
+pub fn blank_memos_agree()
+    ensures { BlankLaw }
+{}
+
+/// What is kept of an element that an edit leaves alone stays as it is.
+pub fn what_an_edit_leaves_alone_stays_kept()
+    ensures { StaysLaw }
+{}
+
+/// Each step of a pass after an edit is a layout of an element that is new or on the way to the edit, or
+/// one that wasn't needed before; none is taken twice.
+pub fn a_pass_takes_what_is_counted()
+    ensures { CountedLaw }
+{}

@@ -1,0 +1,19 @@
+//! What an edit does to the layouts that are kept beside a tree.
+//!
+//! An edit changes one element at the end of a way. The memos on that way are marked, so that what
+//! they keep counts no more, and get the facts of their elements as these are then; a memo is put in,
+//! taken out or put in the place of another where a child is.
+//!
+//! - Models: this project's own; MathML Core says nothing of it.
+//! - Proved: after the same change of both, memos agree with the tree again, and taking the change back
+//!   gives the memos that were there before (`laws`).
+//! - Knows nothing of: which edits are refused, and layout.
+//! - Change what an edit does to memos: `specs/Changed.antt`, then `src/change.rt`.
+#![tactic(auto)]
+
+mod blanks; // memos of elements that were never laid out
+mod change; // MemoChange, change_memo, undo_memo
+pub mod laws; // of the definitions
+
+pub use blanks::blank;
+pub use change::{MemoChange, change_memo, undo_memo};
