@@ -2,7 +2,7 @@
 use Rattle.std.proofs.Common.{◌≡◌, ◌⊎◌, inl, inr, ℕ, zero, suc, ◌≤◌, List, ◌∷◌, take, refl, ap, sym, ◌∙◌, subst, Option, Some, None, IfSome, arith}
 use Rattle.std.specs.Prelude.{Bool, true, false, [], Result, Ok, Err, IsErrOf, IsSomeAnd, IsNone}
 use Rattle.std.specs.Option.{option_map}
-use Rattle.std.specs.Io.KnownBytes.{Appends, Keeps}
+use Rattle.std.specs.Io.KnownBytes.{Appends, IsAtEnd, Keeps}
 use Rattle.doc_io.specs.Causes.{Files, InputsTold, Rose, SinkTold}
 use Rattle.doc_io.proofs.Known.{appends_kept, kept_of_nothing}
 use Rattle.commands.specs.Command.{Asked, Work, usage_line}
@@ -65,6 +65,23 @@ not_write_fault Memory e = cc
 end_not : (whole : Bool) (s : Status) → ¬ (s ≡ status.Done) → ¬ (s ≡ status.ScriptLimit) → ¬ (status_of_end whole ≡ s)
 end_not true s done limit e = done (sym e)
 end_not false s done limit e = limit (sym e)
+
+-- nor is it that of work which was done
+not_done : (refusal : Refusal) → status_of refusal ≡ status.Done → ⊥
+not_done MetricsLong e = cc
+not_done (Metrics fault) e = cc
+not_done TreeLong e = cc
+not_done TreeJson e = cc
+not_done (Tree fault) e = cc
+not_done Range e = cc
+not_done ScriptLong e = cc
+not_done ReadFault e = cc
+not_done Memory e = cc
+
+-- a refusal that was told
+pub told_not_done : (refusal : Refusal) (text : List ℕ) (old new : SinkTold) (s : Status) → Delivers text (status_of refusal) old new s
+    → s ≡ status.Done → ⊥
+told_not_done refusal text old new s d is = elim d.whole [ inl w ↦ absurd cc | inr e ↦ not_done refusal (sym e.0 ∙ is) ]
 
 -- an answer as it is delivered
 abbrev DeliversAnswer : Result Text Refusal → SinkTold → SinkTold → Status → Type 0
@@ -211,8 +228,9 @@ module _ (asked : Asked) (before after : InputsTold) (old new : SinkTold) (s : S
   later (inl d) = d.later
   later (inr p) = p.1.later
 
-  pub ends : IsDelivered asked.work (output_of result) old new s → Ends (Some asked) before after old new s
-  ends d = record {
+  pub ends : IsDelivered asked.work (output_of result) old new s
+      → (s ≡ status.Done → IsInParts asked.work → IsAtEnd after.rest) → Ends (Some asked) before after old new s
+  ends d at_end = record {
     outcome = IfSome-first _ _ _ (whole d before.files a.answer);
     front = IfSome-second _ _ _ (whole d before.files a.answer);
     read_fault = λ is. a.fault (read_fault d is);
@@ -221,6 +239,7 @@ module _ (asked : Asked) (before after : InputsTold) (old new : SinkTold) (s : S
     unread_cut = unread_cut d;
     memory_cut = memory_cut d;
     complete = complete d before.files refl a.answer;
+    read_to_end = at_end;
     usage = λ is. absurd (usage d is);
     no_command = λ none. absurd cc;
     unread = λ none. absurd cc;
@@ -234,7 +253,7 @@ module _ (asked : Asked) (before after : InputsTold) (old new : SinkTold) (s : S
 pub answered_ends : (asked : Option Asked) (shown : Asked) (before after : InputsTold) (old new : SinkTold) (s : Status) → asked ≡ Some shown
     → Answered shown.work (option_map (answer shown) before.files) (LacksFile (Some shown)) before after old new s → Ends asked before after old new s
 answered_ends asked shown before after old new s is a =
-    subst (λ o. Ends o before after old new s) (sym is) (ends shown before after old new s a.result a.answers a.delivers)
+    subst (λ o. Ends o before after old new s) (sym is) (ends shown before after old new s a.result a.answers a.delivers a.read_to_end)
 
 -- ---- words that are no command
 
@@ -264,6 +283,7 @@ told_usage seen old new s d = record {
   complete = IfSome-each seen.files _ (λ f there reads writes. elim d.whole [ inl w ↦ absurd (writes (d.fault w)) | inr e ↦ inl e.0 ]);
   usage = λ is. refl;
   no_command = λ none. elim d.whole [ inl w ↦ inr w | inr e ↦ inl e ];
+  read_to_end = λ done parts. absurd parts;
   unread = λ none. refl;
   files = refl;
   faults = omega arith;

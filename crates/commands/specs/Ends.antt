@@ -1,12 +1,12 @@
 -- How a run ends, and why.
 use Rattle.std.specs.Prelude.{◌≡◌, ◌⊎◌, ℕ, ◌≤◌, List, [], take, Option, Some, None, IsNone, IfSome, IsSomeAnd, Result, IsOk, IsErrOf}
-use Rattle.std.specs.Io.KnownBytes.{Appends, Keeps}
+use Rattle.std.specs.Io.KnownBytes.{Appends, IsAtEnd, Keeps}
 use Rattle.doc_io.specs.Causes.{Files, InputsTold, Rose, SinkTold}
 use Rattle.edit_session.specs.Session.{SessionValue}
 use Rattle.commands.specs.Command.{Asked, Work, LaysOut, Edits, Checks, usage_line}
 use Rattle.commands.specs.Answer.{Output, Text, ◌>>=◌, content, metrics_in, tree_in, started, output, output_of}
 use Rattle.commands.specs.declared.status.Status.{Status}
-use Rattle.commands.specs.declared.status.Status.TheVariants.{Usage, Metrics, Tree, ReadFault, WriteFault, Memory}
+use Rattle.commands.specs.declared.status.Status.TheVariants.{Done, Usage, Metrics, Tree, ReadFault, WriteFault, Memory}
 use Rattle.commands.specs.declared.refusal.Refusal.{Refusal}
 use Rattle.commands.specs.declared.refusal.Refusal.TheVariants as refusal
 
@@ -113,6 +113,8 @@ pub record Answered (work : Work) (wanted : Option (Result Text Refusal))
   pub result : Result Text Refusal
   pub answers : Answers wanted lacks before after result
   pub delivers : IsDelivered work (output_of result) old new status
+  -- what was answered line by line was read to its end
+  pub read_to_end : status ≡ Done → IsInParts work → IsAtEnd after.rest
 
 -- ---- the ending of a run
 
@@ -147,6 +149,9 @@ pub record Ends (asked : Option Asked) (before after : InputsTold) (old new : Si
   pub complete : IfSome before.files (λ files.
       ¬ LacksFile asked files → ¬ Rose before.faults after.faults → ¬ Rose old.faults new.faults →
       (status ≡ (output asked files).status) ⊎ (status ≡ Memory))
+  -- a script whose lines were all answered was read to its end: of the file that was selected last,
+  -- no byte is left, where the inputs tell what is left
+  pub read_to_end : status ≡ Done → AsksParts asked → IsAtEnd after.rest
   -- words that are no command get the usage line, and no others get its status, whatever the
   -- inputs tell
   pub usage : status ≡ Usage → asked ≡ None

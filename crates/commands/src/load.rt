@@ -1,4 +1,5 @@
-ghost use Rattle.std.specs.Prelude.{◌≡◌, ◌≤◌, None, IfErr, length};
+ghost use Rattle.std.specs.Prelude.{◌≡◌, ◌≤◌, None, IfErr, OnOk, length};
+ghost use Rattle.std.specs.Io.KnownBytes.{IsAtEnd};
 ghost use Rattle.std.specs.Option.{option_map};
 ghost use Rattle.tree_edits.specs.Commands.{json_in};
 ghost use Rattle.commands.specs.Answer.{content, metrics_in, script_in, tree_in, tree_of_json, of_metrics_file, of_tree_file};
@@ -92,6 +93,7 @@ pub fn load_script<I: Inputs>(
         (λ files. files name.now ≡ None)
         (I.told inputs.old) (I.told inputs.new) result }
     ensures late { IfErr result (λ refusal. ¬ EndsBeforeTree (status_of refusal)) }
+    ensures end { OnOk result (IsAtEnd (I.told inputs.new).rest) }
 {
     match read_all(alloc, inputs, name, SCRIPT_LIMIT) {
         Ok(bytes) => Ok(bytes),

@@ -1,6 +1,6 @@
 -- What reading a whole file, and writing a whole piece, gives.
 use Rattle.std.specs.Prelude.{◌≡◌, ℕ, ◌<◌, ◌≤◌, ◌⊎◌, List, [], length, take, drop, Result, Option, Some, None, IfSome, IfOk, OnOk, OnErr, IsOk, IsSome, IsErr, IsErrOf}
-use Rattle.std.specs.Io.KnownBytes.{Appends, Consumes}
+use Rattle.std.specs.Io.KnownBytes.{Appends, Consumes, IsAtEnd}
 use Rattle.doc_io.specs.Causes.{InputsTold, SinkTold, Rose}
 use Rattle.doc_io.specs.declared.whole.ReadRefusal.{ReadRefusal}
 use Rattle.doc_io.specs.declared.whole.ReadRefusal.TheVariants.{ReadFault, TooLong}
@@ -13,6 +13,7 @@ pub record ReadsAll (before after : InputsTold) (name : List ℕ) (limit : ℕ)
   pub missing : before.missing ≤ after.missing
   pub whole : IfOk result (λ bytes. IfSome before.files (λ f. f name ≡ Some bytes))
   pub short : IfOk result (λ bytes. length bytes ≤ limit)
+  pub end : OnOk result (IsAtEnd after.rest)
   pub long : IsErrOf result TooLong →
       IfSome before.files (λ f. (bytes : List ℕ) × (f name ≡ Some bytes) × (limit < length bytes))
   pub only_short : IfSome before.files (λ f. (bytes : List ℕ) →
@@ -48,6 +49,7 @@ pub record ReadsRest (before after : InputsTold) (limit : ℕ)
   pub missing : after.missing ≡ before.missing
   pub whole : IfOk result (λ bytes. IfSome before.rest (λ left. left ≡ bytes))
   pub short : IfOk result (λ bytes. length bytes ≤ limit)
+  pub end : OnOk result (IsAtEnd after.rest)
   pub long : IsErrOf result TooLong → IfSome before.rest (λ left. limit < length left)
   pub fault : IsErrOf result ReadFault → Rose before.faults after.faults
 

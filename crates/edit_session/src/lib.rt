@@ -6,10 +6,10 @@
 //!
 //! - Models: the order of refusals is this project's own: first the reasons that the tree gives, then
 //!   sizes that are out of range.
-//! - Proved: a session holds a tree that can be laid out, whole (`specs/Session.antt`); an edit gives
-//!   the edited tree, or is refused for its cause and leaves the session as it was; `show` gives the
-//!   boxes and marks of exactly this tree. Contracts see the tree and the metrics alone, and not what
-//!   is kept of the layout.
+//! - Proved: a session holds a whole tree (`IsWhole`, by the type `Tree` of `math_tree`) that can be
+//!   laid out (`IsInRange` of `specs/Session.antt`); an edit gives the edited tree, or is refused for
+//!   its cause and leaves the session as it was; `show` gives the boxes and marks of exactly this
+//!   tree. Contracts see the tree and the metrics alone, and not what is kept of the layout.
 //! - Knows nothing of: scripts and their lines, how a tree is laid out, and what is written of it.
 //! - Change what an edit makes of a tree, or why it is refused: `tree_edits`. Change what is kept
 //!   between edits: `src/session.rt`; no contract has to change with it.

@@ -25,7 +25,8 @@ use Rattle.tree_edits.specs.declared.read.Op.TheVariants.{Showing, Texting, Mark
 
 -- ---- the value of each key
 
--- a number of an id, where larger ones than an id can be stand for 0, which no element has
+-- a number of an id, where larger ones than an id can be stand for 0, which no element of a tree
+-- that was read has
 abbrev pub as_id : ℕ → NodeId
 as_id n = record { 0 = if nat_lt n (2 ^ 32) then n else 0 }
 

@@ -21,7 +21,8 @@ pub fn id_in(value: &Value) -> Result<NodeId, CommandRefusal>
     }
 }
 
-/// A number as an id. One that is larger than any id stands for 0, which no element has.
+/// A number as an id. One that is larger than any id stands for 0, which no element of a tree that
+/// was read has.
 fn as_id(number: u64) -> NodeId
     ensures { result ≡ as_id number }
 {

@@ -16,7 +16,7 @@ returns-in-Layout-clause-answered g c =
     subst (λ (work : Work). Answered work (option_map (done work m t) told.files) (LacksScript work m t) told told
     (g.O.Sink.told c.args.out.now) (g.O.Sink.told c.lay_out.new.out) c.lay_out.result)
     (sym (ap work_of c.in-Layout.is))
-    (record { result = w.result; answers = laid_out_answers m t told w.result w.gives; delivers = inl w.delivers })
+    (record { result = w.result; answers = laid_out_answers m t told w.result w.gives; delivers = inl w.delivers; read_to_end = λ done parts. absurd parts })
 
 pub returns-in-Check-clause-answered : goal.returns-in-Check-clause-answered
 returns-in-Check-clause-answered g c =
@@ -27,4 +27,4 @@ returns-in-Check-clause-answered g c =
     subst (λ (work : Work). Answered work (option_map (done work m t) told.files) (LacksScript work m t) told told
     (g.O.Sink.told c.args.out.now) (g.O.Sink.told c.check-status.new.out) c.check-status.result)
     (sym (ap work_of c.in-Check.is))
-    (record { result = w.result; answers = checked_answers m t told w.result w.gives; delivers = inl w.delivers })
+    (record { result = w.result; answers = checked_answers m t told w.result w.gives; delivers = inl w.delivers; read_to_end = λ done parts. absurd parts })

@@ -1,5 +1,6 @@
 use Rattle.std.proofs.Common.{inl, Err}
 use Rattle.commands.proofs.Answering.{with_session, without_session}
+use Rattle.commands.proofs.Ending.{told_not_done}
 use Rattle.commands.proofs.program.edit.Goals as goal
 
 pub returns-in-Ok-clause-answered : goal.returns-in-Ok-clause-answered
@@ -9,6 +10,7 @@ returns-in-Ok-clause-answered g c =
       result = a.result;
       answers = with_session c.args.script.now c.args.metrics c.args.tree _ _ c.in-Ok.session a.result c.in-Ok.ensures.gives a.answers;
       delivers = a.delivers;
+      read_to_end = a.read_to_end;
     }
 
 pub returns-in-Err-clause-answered : goal.returns-in-Err-clause-answered
@@ -16,4 +18,5 @@ returns-in-Err-clause-answered g c = record {
   result = Err c.in-Err.refusal;
   answers = without_session c.args.script.now c.args.metrics c.args.tree _ c.in-Err.refusal c.in-Err.ensures.gives;
   delivers = inl c.tell.ensures;
+  read_to_end = λ done parts. absurd (told_not_done c.in-Err.refusal _ _ _ _ c.tell.ensures done);
 }
