@@ -137,7 +137,7 @@ module _ (m : MetricsValue) where
   of_parts : (head : Head) (nodes : List Node) (memos : List Memo) → Paired nodes memos → Paired (children_of (node_of head nodes)) memos
   of_parts head nodes memos h = subst (λ (l : Node-F Node). Paired l.children memos) (sym (out-roll-Node record { head = head; children = nodes })) h
 
-  paired_changed : (node : Node) (memos : List Memo) (change : Change) (other : MemoChange) → Fits change node → IsSame m change other → Paired (children_of node) memos
+  pub paired_changed : (node : Node) (memos : List Memo) (change : Change) (other : MemoChange) → Fits change node → IsSame m change other → Paired (children_of node) memos
       → Paired (children_of (changed change node)) (changed_below other memos)
   paired_changed node memos (SetText text) Stay f s h = of_parts (with_text text (head_of node)) (children_of node) memos h
   paired_changed node memos (SetValue name value room) Stay f s h = of_parts (with_attribute name value (head_of node)) (children_of node) memos h
@@ -193,7 +193,7 @@ module _ (m : MetricsValue) where
   abbrev after : Change → List ℕ → Node → Node
   after change path node = changed_at (changed change) path node
 
-  child_on : (change : Change) (place : ℕ) (path : List ℕ) (found : Option Node) (element : Node) → option_and_then (node_at path) found ≡ Some element → Fits change element
+  pub child_on : (change : Change) (place : ℕ) (path : List ℕ) (found : Option Node) (element : Node) → option_and_then (node_at path) found ≡ Some element → Fits change element
       → (child : Node) × (found ≡ Some child) × FitsAt change path child
   child_on change place path None element at fits = absurd (none-some element at)
   child_on change place path (Some child) element at fits = (child, refl, record { element = element; at = at; fits = fits })

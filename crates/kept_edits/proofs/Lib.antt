@@ -2,5 +2,6 @@ pub mod Backwards
 pub mod Changing
 pub mod Lists
 pub mod Needing
+pub mod OnTheWay
 pub mod Unlaid
 pub mod Ways

@@ -55,6 +55,16 @@ module _ {A : Type 0} where
   some_at (x ∷ xs) zero w = (x, refl)
   some_at (x ∷ xs) (suc i) w = some_at xs i (omega (arith, w))
 
+  -- functions that agree at each place of two lists
+  pub mapped_same : {B C : Type 0} (f : A → C) (g : B → C) (xs : List A) (ys : List B) → length xs ≡ length ys
+      → ((i : ℕ) (x : A) (y : B) → slice_get xs i ≡ Some x → slice_get ys i ≡ Some y → f x ≡ g y) → map f xs ≡ map g ys
+  mapped_same f g [] [] l h = refl
+  mapped_same f g [] (y ∷ ys) l h = absurd (omega (arith, l))
+  mapped_same f g (x ∷ xs) [] l h = absurd (omega (arith, l))
+  mapped_same {B} {C} f g (x ∷ xs) (y ∷ ys) l h =
+      ap (λ (z : C). z ∷ map f xs) (h 0 x y refl refl)
+      ∙ ap (λ (rest : List C). g y ∷ rest) (mapped_same f g xs ys (omega (arith, l)) (λ i a b p q. h (suc i) a b p q))
+
   pub same_all : (f : A → A) (xs : List A) → ((i : ℕ) (x : A) → slice_get xs i ≡ Some x → f x ≡ x) → map f xs ≡ xs
   same_all f [] h = refl
   same_all f (x ∷ xs) h = ap (λ y. y ∷ map f xs) (h 0 x refl) ∙ ap (λ l. x ∷ l) (same_all f xs (λ i y e. h (suc i) y e))

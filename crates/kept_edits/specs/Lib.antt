@@ -1,4 +1,5 @@
 pub mod Blank
 pub mod Changed
+pub mod Known
 pub mod Laws
 pub mod Need

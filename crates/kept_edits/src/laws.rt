@@ -1,6 +1,7 @@
 //! What holds of changed memos.
 //!
 //! A law is proved where it is a contract, so each function here has one and computes nothing.
+ghost use Rattle.kept_edits.specs.Known.{BesideLaw};
 ghost use Rattle.kept_edits.specs.Laws.{BackLaw, BlankLaw, ChangeLaw};
 ghost use Rattle.kept_edits.specs.Need.{CountedLaw, StaysLaw};
 
@@ -8,6 +9,11 @@ ghost use Rattle.kept_edits.specs.Need.{CountedLaw, StaysLaw};
 /// metrics are.
 pub fn changed_memos_agree()
     ensures { ChangeLaw }
+{}
+
+/// Memos that agree with a tree know of a changed tree what `known_on` needs.
+pub fn memos_know_what_is_needed()
+    ensures { BesideLaw }
 {}
 
 /// A change that is taken back leaves no trace.

@@ -1,0 +1,148 @@
+-- What the elements on the way to a changed one are.
+use Rattle.std.proofs.Common.{◌≡◌, ◌∙◌, refl, sym, ap, subst, ℕ, ◌+◌, ◌-◌, arith, List, [], ◌∷◌, ◌++◌, drop, get_or, length, length-append, map, set, take, Option, Some, slice_get}
+use Rattle.std.proofs.lemmas.List.{map-set, take_all}
+use Rattle.std.proofs.lemmas.Option.{get_or_from_slice_get, same_Some, slice_get_within}
+use Rattle.std.specs.Option.{option_map_or}
+use Rattle.font_metrics.specs.Metrics.{MetricsValue}
+use Rattle.math_tree.specs.Trees.{node as node_of}
+use Rattle.math_tree.specs.declared.node.Node.{Node}
+use Rattle.math_tree.specs.declared.node.Node.TheOpen.{Node-F}
+use Rattle.math_tree.specs.declared.node.Node.TheViews.{out-Node, out-roll-Node}
+use Rattle.tree_edits.specs.Edits.{head_of}
+use Rattle.tree_edits.specs.Paths.{Fits, FitsAt, changed, changed_at, children_of}
+use Rattle.tree_edits.specs.declared.change.Change.{Change}
+use Rattle.embellished.specs.Facts.{facts}
+use Rattle.embellished.specs.declared.facts.Facts.{Facts}
+use Rattle.kept_results.specs.Looking.{own_facts}
+use Rattle.kept_results.specs.declared.memo.Memo.{Memo}
+use Rattle.kept_results.specs.declared.memo.Memo.TheViews.{out-Memo}
+use Rattle.kept_results.proofs.Lists.{pushed, set_here, still_first}
+use Rattle.kept_results.proofs.Turns.{facts_known}
+use Rattle.kept_edits.specs.Changed.{changed_below}
+use Rattle.kept_edits.specs.Known.{BesideLaw, IsBeside, IsKnownOn}
+use Rattle.kept_edits.specs.Laws.{IsReadyFor, IsSame, KnownOn}
+use Rattle.kept_edits.specs.declared.change.MemoChange.{MemoChange}
+use Rattle.kept_edits.proofs.Changing.{Paired, child_on, paired, paired_changed}
+use Rattle.kept_edits.proofs.Lists.{mapped_same, some_at}
+
+-- ---- one element more is known
+
+still_on : (known more : List Facts) (path : List ℕ) (node : Node) → KnownOn known path node → KnownOn (known ++ more) path node
+still_on known more [] node h = still_first known more 0 (facts node) h
+still_on known more (place ∷ path) node h =
+    (still_first known more (length (place ∷ path)) (facts node) h.0, λ child at. still_on known more path child (h.1 child at))
+
+pub known_here : (node : Node) (known before : List Facts) (path : List ℕ) → length path ≡ 0 → before ≡ [] → known ≡ before ++ facts node ∷ [] → IsKnownOn path node known
+known_here node known before [] z b e =
+    let is : known ≡ facts node ∷ [] = e ∙ ap (λ (l : List Facts). l ++ facts node ∷ []) b in
+    record { on = ap (λ (l : List Facts). slice_get l 0) is; as_many = ap length is }
+known_here node known before (place ∷ path) z b e = absurd (omega (arith, z))
+
+further_on : (node child : Node) (known before : List Facts) (place : ℕ) (path : List ℕ) → slice_get (out-Node node).children place ≡ Some child
+    → IsKnownOn path child before → known ≡ before ++ facts node ∷ [] → IsKnownOn (place ∷ path) node known
+further_on node child known before place path at h e =
+    let n : length before ≡ length (place ∷ path) = omega (arith, h.as_many) in
+    record {
+      on = (
+        ap (λ (l : List Facts). slice_get l (length (place ∷ path))) e ∙ ap (slice_get (before ++ facts node ∷ [])) (sym n) ∙ pushed before (facts node),
+        λ other there. subst (λ (c : Node). KnownOn known path c) (same_Some child other (sym at ∙ there))
+            (subst (λ (l : List Facts). KnownOn l path child) (sym e) (still_on before (facts node ∷ []) path child h.on)),
+      );
+      as_many = let a = h.as_many in let b = ap length e in let c = length-append before (facts node ∷ []) in omega (arith, a, b, c);
+    }
+
+abbrev rest_of : List ℕ → List ℕ
+rest_of path = take (length path - 1) (drop 1 path)
+
+split : (path : List ℕ) → (length path ≡ 0 → ⊥) → path ≡ get_or path 0 0 ∷ take (length path - 1) (drop 1 path)
+split [] h = absurd (h refl)
+split (place ∷ path) h = ap (λ (l : List ℕ). place ∷ l) (sym (take_all (length (place ∷ path) - 1) path (omega arith)))
+
+pub known_further : (node child : Node) (known before : List Facts) (path : List ℕ) → (length path ≡ 0 → ⊥) → slice_get (out-Node node).children (get_or path 0 0) ≡ Some child
+    → IsKnownOn (take (length path - 1) (drop 1 path)) child before → known ≡ before ++ facts node ∷ [] → IsKnownOn path node known
+known_further node child known before path some at h e =
+    subst (λ (p : List ℕ). IsKnownOn p node known) (sym (split path some)) (further_on node child known before (get_or path 0 0) (rest_of path) at h e)
+
+-- the child on the way
+pub record IsBesideFurther (change : MemoChange) (path : List ℕ) (node : Node) (memo : Memo) : Type 0 where
+  pub child : Node
+  pub kept : Memo
+  pub at : slice_get (out-Node node).children (get_or path 0 0) ≡ Some child
+  pub memo_at : slice_get (out-Memo memo).below (get_or path 0 0) ≡ Some kept
+  pub kids : set (map own_facts (out-Memo memo).below) (get_or path 0 0) (facts child) ≡ map facts (out-Node node).children
+  pub beside : IsBeside change (take (length path - 1) (drop 1 path)) child kept
+
+pub beside_further : (change : MemoChange) (path : List ℕ) (node : Node) (memo : Memo) → (length path ≡ 0 → ⊥) → IsBeside change path node memo → IsBesideFurther change path node memo
+beside_further change path node memo some h =
+    let b = subst (λ (p : List ℕ). IsBeside change p node memo) (split path some) h in
+    record { child = b.0; kept = b.1; at = b.2; memo_at = b.3; kids = b.4; beside = b.5 }
+
+pub beside_here : (change : MemoChange) (path : List ℕ) (node : Node) (memo : Memo) → length path ≡ 0 → IsBeside change path node memo
+    → map own_facts (changed_below change (out-Memo memo).below) ≡ map facts (out-Node node).children
+beside_here change [] node memo z h = h
+beside_here change (place ∷ path) node memo z h = absurd (omega (arith, z))
+
+-- ---- what is known of the child on the way stands last
+
+own_last : (known : List Facts) (path : List ℕ) (node : Node) (d : Facts) → KnownOn known path node → get_or known (length path) d ≡ facts node
+own_last known [] node d h = get_or_from_slice_get known 0 (facts node) d h
+own_last known (place ∷ path) node d h = get_or_from_slice_get known (length (place ∷ path)) (facts node) d h.0
+
+pub last_known : (known : List Facts) (path : List ℕ) (child : Node) (d : Facts) → (length path ≡ 0 → ⊥) → IsKnownOn (take (length path - 1) (drop 1 path)) child known
+    → get_or known (length path - 1) d ≡ facts child
+last_known known path child d some h =
+    let n : length path ≡ length (rest_of path) + 1 = omega (arith, ap length (split path some)) in
+    let m : length path - 1 ≡ length (rest_of path) = omega (arith, n) in
+    ap (λ i. get_or known i d) m ∙ own_last known (rest_of path) child d h.on
+
+-- the children of an element on the way are known, when that on the way is
+pub kids_are : (kids list known : List Facts) (below : List Memo) (node child other : Node) (path : List ℕ) (d : Facts) → (length path ≡ 0 → ⊥)
+    → kids ≡ set (map own_facts below) (get_or path 0 0) (get_or list (length path - 1) d) → list ≡ known
+    → IsKnownOn (take (length path - 1) (drop 1 path)) other known → child ≡ other
+    → set (map own_facts below) (get_or path 0 0) (facts child) ≡ map facts (out-Node node).children → kids ≡ map facts (out-Node node).children
+kids_are kids list known below node child other path d some e l h same all =
+    e
+    ∙ ap (set (map own_facts below) (get_or path 0 0))
+    (ap (λ (k : List Facts). get_or k (length path - 1) d) l ∙ last_known known path other d some h ∙ ap facts (sym same))
+    ∙ all
+
+-- ---- memos that agree with the tree before
+
+module _ (m : MetricsValue) where
+  pairs_known : (nodes : List Node) (memos : List Memo) → Paired m nodes memos → map own_facts memos ≡ map facts nodes
+  pairs_known nodes memos h =
+      mapped_same own_facts facts memos nodes h.as_many
+      (λ i kept child a b. ((h.each i child kept b a).agrees.at [] child kept (refl, refl)).facts_are)
+
+  abbrev after : Change → List ℕ → Node → Node
+  after change path node = changed_at (changed change) path node
+
+  beside_at : (path : List ℕ) (node : Node) (memo : Memo) (change : Change) (other : MemoChange) → IsReadyFor m node memo → FitsAt change path node → IsSame m change other
+      → IsBeside other path (after change path node) memo
+  beside_at [] node memo change other h fits same =
+      let fits_here = subst (Fits change) (sym (same_Some node fits.element fits.at)) fits.fits in
+      pairs_known (children_of (changed change node)) (changed_below other (out-Memo memo).below)
+      (paired_changed m node (out-Memo memo).below change other fits_here same (paired m node memo h))
+  beside_at (place ∷ path) node memo change other h fits same =
+      let nodes : List Node = children_of node in
+      let below : List Memo = (out-Memo memo).below in
+      let pairs = paired m node memo h in
+      let c = child_on m change place path (slice_get nodes place) fits.element fits.at fits.fits in
+      let child : Node = c.0 in
+      let l = pairs.as_many in
+      let k = some_at below place (omega (arith, l, slice_get_within nodes place child c.1)) in
+      let child' : Node = after change path child in
+      let made : Node = node_of (head_of node) (set nodes place child') in
+      let node_is : after change (place ∷ path) node ≡ made =
+      ap (λ (o : Option Node). option_map_or (λ z. node_of (head_of node) (set nodes place (after change path z))) o node) c.1 in
+      let out : out-Node made ≡ record { head = head_of node; children = set nodes place child' } = out-roll-Node record { head = head_of node; children = set nodes place child' } in
+      let there : slice_get (out-Node made).children place ≡ Some child' =
+      ap (λ (z : Node-F Node). slice_get z.children place) out ∙ set_here nodes place child' child c.1 in
+      let kids : set (map own_facts below) place (facts child') ≡ map facts (out-Node made).children =
+      ap (λ (f : List Facts). set f place (facts child')) (facts_known m node memo h.agrees) ∙ sym (map-set facts nodes place child')
+      ∙ ap (λ (z : Node-F Node). map facts z.children) (sym out) in
+      let rest = beside_at path child k.0 change other (pairs.each place child k.0 c.1 k.1) c.2 same in
+      subst (λ (n : Node). IsBeside other (place ∷ path) n memo) (sym node_is) (child', k.0, there, k.1, kids, rest)
+
+pub beside_law : BesideLaw
+beside_law m node memo change other path h fits same = beside_at m path node memo change other h fits same

@@ -1,0 +1,66 @@
+use Rattle.std.proofs.Common.{◌∙◌, sym, subst, ◌-◌, ◌<◌, arith, length, length-drop, length-take, get_or, take, drop, List, Result, Ok, Err, IfOk}
+use Rattle.std.proofs.lemmas.Option.{same_Some, slice_get_within}
+use Rattle.math_tree.specs.declared.node.Node.{Node}
+use Rattle.math_tree.specs.declared.node.Node.TheViews.{out-Node}
+use Rattle.embellished.specs.declared.facts.Facts.{Facts}
+use Rattle.kept_results.specs.declared.memo.Memo.{Memo}
+use Rattle.kept_results.specs.declared.memo.Memo.TheViews.{out-Memo}
+use Rattle.kept_edits.specs.Changed.{FitsMemo}
+use Rattle.kept_edits.specs.Known.{IsBeside, IsKnownOn}
+use Rattle.kept_edits.proofs.OnTheWay.{beside_further, kids_are, known_further}
+use Rattle.kept_edits.proofs.Ways.{further}
+use Rattle.kept_edits.proofs.known.+known_on.Goals as goal
+
+pub child_at-child-requires : goal.child_at-child-requires
+child_at-child-requires t c =
+    let f = beside_further c.args.change.now c.args.path.now c.args.node.now c.args.memo.now c.if-path-eq0.false c.requires.beside in
+    slice_get_within (out-Node c.args.node.now).children (get_or c.args.path.now 0 0) f.child f.at
+
+pub memo_at-below-requires : goal.memo_at-below-requires
+memo_at-below-requires t c =
+    let f = beside_further c.args.change.now c.args.path.now c.args.node.now c.args.memo.now c.if-path-eq0.false c.requires.beside in
+    slice_get_within (out-Memo c.args.memo.now).below (get_or c.args.path.now 0 0) f.kept f.memo_at
+
+pub known_on-requires : goal.known_on-requires
+known_on-requires t c =
+    let path = c.args.path.now in
+    let change = c.args.change.now in
+    let f = beside_further change path c.args.node.now c.args.memo.now c.if-path-eq0.false c.requires.beside in
+    let m = further change path c.args.memo.now c.if-path-eq0.false c.requires.fits in
+    let child = same_Some f.child c.child_at-child.result.now (sym f.at ∙ c.child_at-child.ensures) in
+    let kept = same_Some f.kept c.memo_at-below.result.now (sym f.memo_at ∙ c.memo_at-below.ensures) in
+    let other = same_Some m.kept c.memo_at-below.result.now (sym m.at ∙ c.memo_at-below.ensures) in
+    let rest = take (length path - 1) (drop 1 path) in
+    let some = c.if-path-eq0.false in
+    let one = length-take (length path - 1) (drop 1 path) in
+    let two = length-drop 1 path in
+    let falls : length (take (length path - 1) (drop 1 path)) < length path = omega (arith, one, two) in (
+      omega arith,
+      (
+        subst (FitsMemo change rest) other m.fits,
+        subst (λ (z : Memo). IsBeside change rest c.child_at-child.result.now z) kept (subst (λ (n : Node). IsBeside change rest n f.kept) child f.beside),
+      ),
+    )
+
+pub kids_with-requires : goal.kids_with-requires
+kids_with-requires t c =
+    let f = beside_further c.args.change.now c.args.path.now c.args.node.now c.args.memo.now c.if-path-eq0.false c.requires.beside in
+    slice_get_within (out-Memo c.args.memo.now).below (get_or c.args.path.now 0 0) f.kept f.memo_at
+
+ok_then : {E : Type 0} (result : Result (List Facts) E) (P Q : List Facts → Type 0) → ((known : List Facts) → P known → Q known) → IfOk result P → IfOk result Q
+ok_then (Ok known) P Q f h = f known h
+ok_then (Err error) P Q f h = tt
+
+pub add_own-requires-else-path-eq0 : goal.add_own-requires-else-path-eq0
+add_own-requires-else-path-eq0 t c =
+    let path = c.args.path.now in
+    let f = beside_further c.args.change.now path c.args.node.now c.args.memo.now c.if-path-eq0.false c.requires.beside in
+    let child = same_Some f.child c.child_at-child.result.now (sym f.at ∙ c.child_at-child.ensures) in
+    kids_are c.in_ok-kids-2.kids c.as_slice.result.now c.in_ok-known.known (out-Memo c.args.memo.now).below c.args.node.now f.child c.child_at-child.result.now path _
+    c.if-path-eq0.false (c.in_ok-kids-2.ensures {u = tt}) c.as_slice.ensures (c.in_ok-known.ensures {u = tt}) child f.kids
+
+pub returns-in_ok-kids-2 : goal.returns-in_ok-kids-2
+returns-in_ok-kids-2 t c =
+    ok_then c.add_own-else-path-eq0.result _ (IsKnownOn c.args.path.now c.args.node.now)
+    (λ known e. known_further c.args.node.now c.child_at-child.result.now known c.in_ok-known.known c.args.path.now c.if-path-eq0.false c.child_at-child.ensures
+    (c.in_ok-known.ensures {u = tt}) e) c.add_own-else-path-eq0.ensures

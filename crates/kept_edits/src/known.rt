@@ -1,0 +1,128 @@
+//! What the elements on the way to an edit are after it.
+ghost use Rattle.std.specs.Prelude.{◌≡◌, ◌<◌, ◌++◌, ◌∷◌, [], length, map, slice_get, slice_set, IfOk, Some};
+ghost use Rattle.math_tree.specs.declared.node.Node.TheViews.{out-Node};
+ghost use Rattle.embellished.specs.Facts.{facts};
+ghost use Rattle.kept_results.specs.Looking.{own_facts};
+ghost use Rattle.kept_results.specs.declared.memo.Memo.TheViews.{out-Memo};
+ghost use Rattle.kept_edits.specs.Changed.{FitsBelow, FitsMemo, changed_below};
+ghost use Rattle.kept_edits.specs.Known.{IsBeside, IsKnownOn};
+
+use crate::change::MemoChange;
+use embellished::{Facts, facts_of};
+use fixed_units::{List, Memory};
+use kept_results::Memo;
+use math_tree::Node;
+use std::alloc::Global;
+
+/// What the elements on the way to a changed one are, that one first: of the changed tree, and the
+/// memos that are not changed yet. Of other elements only what is known of the children on the way is
+/// read.
+pub fn known_on(
+    alloc: Global,
+    node: &Node,
+    memo: &Memo,
+    path: &[usize],
+    change: &MemoChange,
+) -> Result<List<Facts>, Memory>
+    requires fits { FitsMemo change.now path.now memo.now }
+    requires beside { IsBeside change.now path.now node.now memo.now }
+    ensures { IfOk result (IsKnownOn path.now node.now) }
+{
+    if path.len() == 0 {
+        let kids = kids_after(alloc, &memo.below, change)?;
+        add_own(alloc, node, &kids, List::make(alloc))
+    } else {
+        let place = path[0];
+        let child = child_at(node, place);
+        let below = memo_at(memo, place);
+        let known = known_on(alloc, child, below, &path[1..], change)?;
+        let own = known.as_slice()[path.len() - 1];
+        let kids = kids_with(alloc, &memo.below, place, own)?;
+        add_own(alloc, node, &kids, known)
+    }
+}
+
+/// The child at a place.
+fn child_at(node: &Node, place: usize) -> &Node
+    requires { place < length (out-Node node.now).children }
+    ensures { slice_get (out-Node node.now).children place ≡ Some result.now }
+{
+    match node.children.as_slice().get(place) {
+        Some(child) => child,
+        None => unreachable!(),
+    }
+}
+
+/// The memo of the child at a place.
+fn memo_at(memo: &Memo, place: usize) -> &Memo
+    requires { place < length (out-Memo memo.now).below }
+    ensures { slice_get (out-Memo memo.now).below place ≡ Some result.now }
+{
+    match memo.below.as_slice().get(place) {
+        Some(below) => below,
+        None => unreachable!(),
+    }
+}
+
+/// Adds what an element is, over what its children are.
+fn add_own(
+    alloc: Global,
+    node: &Node,
+    kids: &List<Facts>,
+    mut known: List<Facts>,
+) -> Result<List<Facts>, Memory>
+    requires { kids.now ≡ map facts (out-Node node.now).children }
+    ensures { IfOk result (λ all. all ≡ known ++ facts node.now ∷ []) }
+{
+    known.push(facts_of(alloc, &node.head, kids)?)?;
+    Ok(known)
+}
+
+/// What the elements of some memos are, in order.
+fn kids_of(alloc: Global, below: &[Memo]) -> Result<List<Facts>, Memory>
+    ensures { IfOk result (λ kids. kids ≡ map own_facts below.now) }
+{
+    let mut kids = List::make(alloc);
+    for memo in below {
+        kids.push(memo.facts)?;
+    }
+    Ok(kids)
+}
+
+/// The same, where that at a place is something else.
+fn kids_with(
+    alloc: Global,
+    below: &List<Memo>,
+    place: usize,
+    own: Facts,
+) -> Result<List<Facts>, Memory>
+    requires { place < length below.now }
+    ensures { IfOk result (λ kids. kids ≡ slice_set (map own_facts below.now) place own) }
+{
+    let mut kids = kids_of(alloc, below.as_slice())?;
+    *kids.at_mut(place) = own;
+    Ok(kids)
+}
+
+/// The same after a change.
+fn kids_after(alloc: Global, below: &List<Memo>, change: &MemoChange) -> Result<List<Facts>, Memory>
+    requires { FitsBelow change.now below.now }
+    ensures { IfOk result (λ kids. kids ≡ map own_facts (changed_below change.now below.now)) }
+{
+    let all = below.as_slice();
+    match change {
+        MemoChange::Stay => kids_of(alloc, all),
+        MemoChange::PutMemo(index, memo, _) => {
+            let mut kids = kids_of(alloc, &all[..*index])?;
+            kids.push(memo.facts)?;
+            kids.push_all(kids_of(alloc, &all[*index..])?.as_slice())?;
+            Ok(kids)
+        }
+        MemoChange::TakeMemo(index) => {
+            let mut kids = kids_of(alloc, &all[..*index])?;
+            kids.push_all(kids_of(alloc, &all[*index + 1..])?.as_slice())?;
+            Ok(kids)
+        }
+        MemoChange::SwapMemo(index, memo) => kids_with(alloc, below, *index, memo.facts),
+    }
+}
