@@ -62,7 +62,7 @@ blank_at node = record {
   below = map blank (out-Node node).children;
 }
 
-out_blank : (node : Node) → out-Memo (blank node) ≡ blank_at node
+pub out_blank : (node : Node) → out-Memo (blank node) ≡ blank_at node
 out_blank node =
     let k = is_known node in
     ap out-Memo (blank_out (known_of node)) ∙ out-roll-Memo (blank_of (known_of node))

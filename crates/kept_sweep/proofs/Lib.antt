@@ -3,4 +3,5 @@ pub mod Clearing
 pub mod Flagging
 pub mod Listed
 pub mod Sweeping
+pub mod Totals
 pub mod Walking

@@ -30,7 +30,7 @@ all_first P [] = tt
 all_first P (y ∷ ys) = (y.1, all_first P ys)
 
 -- what holds of a memo where it holds of those below it holds of every memo
-by_below : (P : Memo → Type 0) → ((memo : Memo) → AllByRecursion P (out-Memo memo).below → P memo) → (memo : Memo) → P memo
+pub by_below : (P : Memo → Type 0) → ((memo : Memo) → AllByRecursion P (out-Memo memo).below → P memo) → (memo : Memo) → P memo
 by_below P step = ind-Memo P (λ x y is.
     let below : (out-Memo (roll-Memo x)).below ≡ map (λ e. e.0) y.below = ap (λ (l : Memo-F Memo). l.below) (out-roll-Memo x ∙ sym is) in
     step (roll-Memo x) (subst (AllByRecursion P) (sym below) (all_first P y.below)))

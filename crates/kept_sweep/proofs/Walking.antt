@@ -20,7 +20,7 @@ use Rattle.kept_sweep.specs.Places.{all_children, shown_before}
 
 module _ {X : Type 0} (test : X → Bool) where
   -- one that passes stands behind those before it that do
-  at_count : (xs : List X) (place : ℕ) (x : X) → slice_get xs place ≡ Some x → test x ≡ true → slice_get (filter test xs) (length (filter test (take place xs))) ≡ Some x
+  pub at_count : (xs : List X) (place : ℕ) (x : X) → slice_get xs place ≡ Some x → test x ≡ true → slice_get (filter test xs) (length (filter test (take place xs))) ≡ Some x
   at_count [] place x h t = absurd (none-some x h)
   at_count (y ∷ xs) zero x h t =
       ap (λ (b : Bool). slice_get (cond b (y ∷ filter test xs) (filter test xs)) 0) (ap test (same_Some y x h) ∙ t) ∙ h

@@ -1,5 +1,5 @@
-ghost use Rattle.std.specs.Prelude.{◌≡◌, true};
-ghost use Rattle.kept_results.specs.Ends.{stripped};
+ghost use Rattle.std.specs.Prelude.{◌≡◌, ◌≤◌, true};
+ghost use Rattle.kept_results.specs.Ends.{kept_count, stripped};
 ghost use Rattle.kept_results.specs.Kept.{Agrees, IsKept};
 ghost use Rattle.kept_results.specs.Laws.{is_unmarked};
 ghost use Rattle.kept_results.specs.declared.memo.Memo.TheViews.{out-Memo};
@@ -20,6 +20,7 @@ pub fn sweep_layouts(node: &Node, memo: &mut Memo, context: &Context, metrics: &
     requires kept { IsKept (out-Memo memo.old) context.now }
     ensures swept { KeepsNeeded metrics.now node.now context.now memo.new }
     ensures part { IsPartOf memo.new memo.old }
+    ensures fewer { kept_count memo.new ≤ kept_count memo.old }
 {
     mark_all(memo);
     flag_needed(node, memo, context, metrics);

@@ -1,10 +1,12 @@
-use Rattle.std.proofs.Common.{◌∙◌, sym, ap, subst}
+use Rattle.std.proofs.Common.{◌∙◌, sym, ap, subst, arith}
+use Rattle.kept_results.specs.Ends.{kept_count}
 use Rattle.kept_results.specs.Kept.{Agrees, IsKept}
 use Rattle.kept_results.specs.declared.memo.Memo.{Memo}
 use Rattle.kept_results.specs.declared.memo.Memo.TheViews.{out-Memo}
 use Rattle.kept_sweep.specs.Flagged.{IsFlagged, cleared}
 use Rattle.kept_sweep.specs.Swept.{IsPartOf, KeepsNeeded}
 use Rattle.kept_sweep.proofs.Sweeping.{agrees_marked, cleared_before, swept, swept_part}
+use Rattle.kept_sweep.proofs.Totals.{count_cleared, count_sealed}
 use Rattle.kept_sweep.proofs.sweep.sweep_layouts.Goals as goal
 
 pub flag_needed-requires-clause-agrees : goal.flag_needed-requires-clause-agrees
@@ -32,3 +34,9 @@ returns-clause-part c =
     let node = c.args.node.now in
     let flagged = subst (λ (memo : Memo). IsFlagged m node c.args.context.now memo c.flag_needed.new.memo) c.mark_all.ensures c.flag_needed.ensures in
     subst (λ (memo : Memo). IsPartOf memo c.args.memo.now) (sym c.seal.ensures) (swept_part m node c.args.context.now c.args.memo.now c.flag_needed.new.memo c.requires.plain flagged c.requires.unmarked)
+
+pub returns-clause-fewer : goal.returns-clause-fewer
+returns-clause-fewer c =
+    let flagged = c.flag_needed.new.memo in
+    let before = ap kept_count (c.flag_needed.ensures.same ∙ ap cleared c.mark_all.ensures ∙ cleared_before c.args.memo.now c.requires.plain c.requires.unmarked) in
+    omega (arith, ap kept_count c.seal.ensures, count_sealed flagged, count_cleared flagged, before)
