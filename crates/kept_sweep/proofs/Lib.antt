@@ -1,7 +1,7 @@
-pub mod Blanks
 pub mod Clearing
 pub mod Flagging
 pub mod Listed
+pub mod Starting
 pub mod Sweeping
 pub mod Totals
 pub mod Walking

@@ -16,14 +16,14 @@ use Rattle.kept_results.specs.declared.memo.Entry.{Entry}
 use Rattle.kept_results.specs.declared.memo.Memo.{Memo}
 use Rattle.kept_results.specs.declared.memo.Memo.TheFolds.{fold-Memo, fold_out-Memo}
 use Rattle.kept_results.specs.declared.memo.Memo.TheOpen.{Memo-F}
-use Rattle.kept_results.specs.declared.memo.Memo.TheViews.{out-Memo}
+use Rattle.kept_results.specs.declared.memo.Memo.TheViews.{out-Memo, out-roll-Memo}
 use Rattle.kept_results.proofs.Counts.{count_out}
 use Rattle.kept_results.proofs.Lists.{still_first}
 use Rattle.kept_results.proofs.Passing.{pair_at, under}
 use Rattle.kept_results.proofs.Sealing.{out_sealed}
-use Rattle.kept_sweep.specs.Blank.{blank}
+use Rattle.kept_edits.specs.Blank.{blank}
+use Rattle.kept_edits.proofs.Unlaid.{blank_out}
 use Rattle.kept_sweep.specs.Flagged.{cleared}
-use Rattle.kept_sweep.proofs.Blanks.{out_blank}
 use Rattle.kept_sweep.proofs.Clearing.{out_cleared}
 use Rattle.kept_sweep.proofs.Sweeping.{by_below}
 use Rattle.kept_sweep.proofs.Walking.{at_count}
@@ -219,4 +219,4 @@ none_below (x ∷ nodes) h = omega (arith, h.0, none_below nodes h.1, sum_first 
 
 pub count_blank : (node : Node) → kept_count (blank node) ≡ 0
 count_blank = by_children (λ node. kept_count (blank node) ≡ 0) (λ node h.
-    omega (arith, count_out (blank node) ∙ ap count_in (out_blank node), none_below (out-Node node).children h))
+    omega (arith, count_out (blank node) ∙ ap count_in (ap out-Memo (blank_out node) ∙ out-roll-Memo _), none_below (out-Node node).children h))

@@ -1,4 +1,3 @@
-pub mod Blank
 pub mod Flagged
 pub mod Places
 pub mod Swept

@@ -12,7 +12,6 @@
 //! - Change how what is needed is found: `src/flags.rt`.
 #![tactic(auto)]
 
-mod blank; // a memo that keeps nothing yet
 mod contexts; // the same context
 mod flags; // marks, and flags of what is needed
 pub mod laws; // what holds of swept layouts

@@ -6,10 +6,10 @@ ghost use Rattle.kept_results.specs.Contexts.{Suits};
 ghost use Rattle.kept_results.specs.Ends.{kept_count};
 ghost use Rattle.kept_sweep.specs.Swept.{CountsNeeded, KeepsNeeded};
 
-use crate::blank::blank;
 use crate::sweep::sweep_layouts;
 use fixed_units::{LayRefusal, Steps};
 use font_metrics::Metrics;
+use kept_edits::blank;
 use kept_results::{Memo, relay_element, seal};
 use layout_model::Context;
 use math_tree::Node;

@@ -7,13 +7,14 @@ use Rattle.kept_results.specs.declared.memo.Memo.{Memo}
 use Rattle.kept_results.specs.declared.memo.Memo.TheViews.{out-Memo}
 use Rattle.kept_results.proofs.Lists.{all_then}
 use Rattle.kept_results.proofs.Sealing.{seal_law}
-use Rattle.kept_sweep.proofs.Blanks.{blank_agrees, kept_sealed}
+use Rattle.kept_edits.proofs.Unlaid.{blank_law}
+use Rattle.kept_sweep.proofs.Starting.{kept_sealed}
 use Rattle.kept_sweep.proofs.Totals.{count_blank, count_sealed, kept_many}
 use Rattle.kept_sweep.proofs.start.start_layout.Goals as goal
 
 pub relay_element-requires-clause-agrees : goal.relay_element-requires-clause-agrees
 relay_element-requires-clause-agrees g c =
-    subst (Agrees c.args.metrics.now c.args.node.now) (sym (c.in_ok-memo.ensures {u = tt})) (blank_agrees c.args.metrics.now c.args.node.now)
+    subst (Agrees c.args.metrics.now c.args.node.now) (sym (c.in_ok-memo.ensures {u = tt})) (blank_law c.args.metrics.now c.args.node.now).0.agrees
 
 pub sweep_layouts-requires-clause-agrees : goal.sweep_layouts-requires-clause-agrees
 sweep_layouts-requires-clause-agrees g c =
