@@ -1,6 +1,7 @@
 //! What holds of changed memos.
 //!
 //! A law is proved where it is a contract, so each function here has one and computes nothing.
+ghost use Rattle.kept_edits.specs.Ids.{IdsLaw, OneWayLaw};
 ghost use Rattle.kept_edits.specs.Known.{BesideLaw};
 ghost use Rattle.kept_edits.specs.Laws.{BackLaw, BlankLaw, ChangeLaw};
 ghost use Rattle.kept_edits.specs.Need.{CountedLaw, StaysLaw};
@@ -35,4 +36,14 @@ pub fn what_an_edit_leaves_alone_stays_kept()
 /// one that wasn't needed before; none is taken twice.
 pub fn a_pass_takes_what_is_counted()
     ensures { CountedLaw }
+{}
+
+/// In a whole tree there is one way to an id.
+pub fn there_is_one_way_to_an_id()
+    ensures { OneWayLaw }
+{}
+
+/// Each layout that is needed is of an element of the tree, and two of one id in one context are one.
+pub fn needed_layouts_are_told_by_ids()
+    ensures { IdsLaw }
 {}
