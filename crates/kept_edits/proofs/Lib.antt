@@ -1,5 +1,6 @@
 pub mod Backwards
 pub mod Changing
+pub mod EditedTrees
 pub mod IdWays
 pub mod Lists
 pub mod Needing

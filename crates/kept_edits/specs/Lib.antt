@@ -1,5 +1,6 @@
 pub mod Blank
 pub mod Changed
+pub mod Edited
 pub mod Ids
 pub mod Known
 pub mod Laws

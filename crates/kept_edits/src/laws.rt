@@ -1,6 +1,7 @@
 //! What holds of changed memos.
 //!
 //! A law is proved where it is a contract, so each function here has one and computes nothing.
+ghost use Rattle.kept_edits.specs.Edited.{FollowLaw, OwnEditLaw, ParentEditLaw};
 ghost use Rattle.kept_edits.specs.Ids.{IdsLaw, OneWayLaw};
 ghost use Rattle.kept_edits.specs.Known.{BesideLaw};
 ghost use Rattle.kept_edits.specs.Laws.{BackLaw, BlankLaw, ChangeLaw};
@@ -46,4 +47,19 @@ pub fn there_is_one_way_to_an_id()
 /// Each layout that is needed is of an element of the tree, and two of one id in one context are one.
 pub fn needed_layouts_are_told_by_ids()
     ensures { IdsLaw }
+{}
+
+/// An edit that isn't refused is one change at the end of the way to the element that it names.
+pub fn an_edit_is_a_change()
+    ensures { OwnEditLaw }
+{}
+
+/// Where an edit takes or replaces an element, it is a change of the element over it.
+pub fn an_edit_is_a_change_of_a_parent()
+    ensures { ParentEditLaw }
+{}
+
+/// Memos that agree with a tree follow an edit of it.
+pub fn memos_follow_an_edit()
+    ensures { FollowLaw }
 {}
