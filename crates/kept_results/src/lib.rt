@@ -19,6 +19,7 @@ pub mod laws; // what holds of kept layouts
 mod memo; // Entry, Memo
 mod relay; // a pass over an element
 
+pub use contexts::is_same;
 pub use ends::{seal, undo_pass};
 pub use memo::{Entry, Memo};
 pub use relay::relay_element;
