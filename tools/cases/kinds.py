@@ -15,7 +15,8 @@ class Kinds:
 
 # The programs are crates. A module for another crate's calls adds its own, as **MODULE.KINDS.
 PROGRAMS = {
-    "cases": Kinds({**answers.KINDS, **fonts.KINDS, **numbers.KINDS}, runs.KINDS),
+    "cases": Kinds({**answers.KINDS, **fonts.KINDS, **numbers.KINDS}),
+    "run_cases": Kinds({}, runs.KINDS),
     "leaf_cases": Kinds({**styles.KINDS, **shapes.KINDS, **leaves.KINDS}),
     "row_cases": Kinds({**rows.KINDS, **tables.KINDS}),
     "equation_cases": Kinds(built.KINDS),

@@ -9,9 +9,9 @@ MODULES = (
     "units", "dictionary", "elements", "jsontext", "metrics", "tree", "stages", "program", "style", "shaping", "equations",
     "layout")
 
-# The second program does all that is planned, in stages. At this one it has the commands `layout` and `check`, reads
-# both files whole, and lays out every tree.
-SO_FAR = 9
+# The second program does all that is planned, in stages. At this one it has the commands `layout`, `edit` and `check`,
+# and reads each file whole before anything is written.
+SO_FAR = 10
 
 
 def load(folder):

@@ -17,30 +17,19 @@ mod word;
 
 use axis::OfAxis;
 use case_format::{Answer, Case, Fault, Kinds};
-use case_runs::{run_of, run_of_command};
 use category::OfCategory;
 use operators::by_lines;
 use properties::OfProperties;
 
-/// The kinds for the crates below layout, and for whole runs.
+/// The kinds for the crates below layout.
 pub struct Foundations;
 
 impl Kinds for Foundations {
     fn answer(&self, kind: &str, case: Case) -> Result<Answer, Fault> {
-        match kind {
-            "check" => Ok(Answer::Run(run_of_command("check", case)?)),
-            "layout" => Ok(Answer::Run(run_of_command("layout", case)?)),
-            "run" => Ok(Answer::Run(run_of(case)?)),
-            _ => one_answer(kind, case),
-        }
+        let mut words = String::new(case.alloc);
+        add_answer(kind, case, &mut words)?;
+        Ok(Answer::One(words))
     }
-}
-
-/// The one answer to a case.
-fn one_answer(kind: &str, case: Case) -> Result<Answer, Fault> {
-    let mut words = String::new(case.alloc);
-    add_answer(kind, case, &mut words)?;
-    Ok(Answer::One(words))
 }
 
 /// Adds the words of the one answer to a case.

@@ -1,5 +1,5 @@
-//! The program `cases`: it carries out cases for the crates below layout and for whole runs, which
-//! are lines of its standard input, and writes what came of each.
+//! The program `cases`: it carries out cases for the crates below layout, which are lines of its
+//! standard input, and writes what came of each.
 //!
 //! `stdin` has the cases, and `stdout` what must come of them, which was found out by a second
 //! program (docs/CASES.md has the format and says how). The gate runs this program and compares.
