@@ -16,7 +16,8 @@ class Kinds:
 # The programs are crates. A module for another crate's calls adds its own, as **MODULE.KINDS.
 PROGRAMS = {
     "cases": Kinds({**answers.KINDS, **fonts.KINDS, **numbers.KINDS}),
-    "run_cases": Kinds({}, runs.KINDS),
+    "run_cases": Kinds({}, {name: runs.RUNS[name] for name in ("check", "layout", "run")}),
+    "edit_cases": Kinds(runs.FAILING, {name: runs.RUNS[name] for name in ("edit", "run")}),
     "leaf_cases": Kinds({**styles.KINDS, **shapes.KINDS, **leaves.KINDS}),
     "row_cases": Kinds({**rows.KINDS, **tables.KINDS}),
     "equation_cases": Kinds(built.KINDS),

@@ -37,18 +37,55 @@ def command(name):
     def carried_out(reference, known, value):
         fields = Fields(value, "metrics", "tree", "sum")
         is_sum = fields.flag("sum", absent=False)
-        metrics, tree = known.content(fields.text("metrics")), fields.value("tree")
-        text = json.dumps(tree, ensure_ascii=False, separators=(",", ":"), sort_keys=True)
-        status, out, _ = so_far.run(reference, [name, "metrics", "tree"], {"metrics": metrics, "tree": text.encode()})
+        files = {"metrics": known.content(fields.text("metrics")), "tree": text_of(fields.value("tree"))}
+        status, out, _ = so_far.run(reference, [name, *files], files)
         return told(status, out, is_sum)
+
+    return carried_out
+
+
+def edit(reference, known, value):
+    """The command `edit` over known metrics, a tree file that holds a value's text and a script that holds values' texts."""
+    fields = Fields(value, "metrics", "tree", "script", "sum")
+    is_sum = fields.flag("sum", absent=False)
+    files = {
+        "metrics": known.content(fields.text("metrics")),
+        "tree": text_of(fields.value("tree")),
+        "script": b"".join(text_of(line) + b"\n" for line in fields.items("script", lambda _line: True)),
+    }
+    status, out, _ = so_far.run(reference, ["edit", *files], files)
+    return told(status, out, is_sum)
+
+
+def text_of(value):
+    """The compact text of a value."""
+    return json.dumps(value, ensure_ascii=False, separators=(",", ":"), sort_keys=True).encode()
+
+
+def failing_calls(of_sink):
+    """How the run ends where its first call fails, where its second does, and so on up to the first run that ends as
+    one without failing calls. All files are read before anything is written. So where a call of the inputs fails,
+    nothing is; where one of the sink fails, a front is, since what is written grows with each call."""
+
+    def carried_out(reference, known, value):
+        fields = Fields(value, "words", "files", "cut")
+        words = fields.items("words", is_text)
+        files = {name: known.content(name) for name in fields.items("files", is_text)}
+        fields.items("cut", is_count, absent=[])
+        status, text, looked_for = so_far.run(reference, words, files)
+        is_called = text != b"" if of_sink else looked_for != [] and status != READ_FAULT
+        fault = WRITE_FAULT if of_sink else READ_FAULT
+        front = f"{fault} {'whole' if text == b'' else 'front'}; " if is_called else ""
+        return f"{front}{status} whole"
 
     return carried_out
 
 
 def calls_made(reference, contents, cuts):
     """The least and the greatest number of calls in which these files are selected and read, one after the other; the
-    first is the metrics file."""
-    limits = (reference.program.METRICS_LIMIT, reference.program.TREE_LIMIT)
+    first is the metrics file, the second the tree file, the third the script."""
+    program = reference.program
+    limits = (program.METRICS_LIMIT, program.TREE_LIMIT, program.OLD_SCRIPT_LIMIT)
     least = most = 0
     for content, limit in zip(contents, limits):
         few, many = reads_made(len(content), limit, cuts)
@@ -104,4 +141,5 @@ def fnv1a(data):
     return found
 
 
-KINDS = {"run": run, "layout": command("layout"), "check": command("check")}
+RUNS = {"run": run, "layout": command("layout"), "check": command("check"), "edit": edit}
+FAILING = {"failing_reads": failing_calls(of_sink=False), "failing_writes": failing_calls(of_sink=True)}

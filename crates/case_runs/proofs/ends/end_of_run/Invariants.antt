@@ -1,4 +1,4 @@
-use Rattle.case_runs.proofs.runs.end_of_run.Given as goal
+use Rattle.case_runs.proofs.ends.end_of_run.Given as goal
 
 -- the ledger is the one that the blank opens
 abbrev pub ghosts-run_counted : goal.ghosts-run_counted
