@@ -6,8 +6,8 @@
 The expected values aren't the product's: they come from the modules of the folder REFERENCE, a second program of the
 same behaviour that was written on its own, and from a small model of inputs and sinks in memory (cases/runs.py).
 A program of cases sees the files of its own folder data/ alone. So fonts are written in crates/run_cases/data and copied
-from there into the data/ of each program that loads them, and the formulas of samples/ with their font are copied from
-there.
+from there into the data/ of each program that loads them, and the formulas of samples/ with their font and a script are
+copied from there.
 With --check nothing is written: the first line that differs from a stored file is told, and the status is 1.
 """
 
@@ -25,7 +25,7 @@ CRATES = Path(__file__).resolve().parent.parent / "crates"
 TOP = CRATES.parent
 OWNERS = {
     name + ".metrics": CRATES / "run_cases" / "data" for name in ("sample", "mix", "below", "most", "least", "bare")} | {
-    path.name: path.parent for path in (TOP / "samples").iterdir() if path.suffix in (".json", ".metrics")}
+    path.name: path.parent for path in (TOP / "samples").iterdir() if path.suffix in (".json", ".metrics", ".script")}
 
 
 class Parser(argparse.ArgumentParser):
