@@ -1,6 +1,7 @@
 pub mod Backwards
 pub mod Changing
 pub mod EditedTrees
+pub mod Ended
 pub mod IdWays
 pub mod Lists
 pub mod Needing

@@ -2,6 +2,7 @@
 //!
 //! A law is proved where it is a contract, so each function here has one and computes nothing.
 ghost use Rattle.kept_edits.specs.Edited.{FollowLaw, OwnEditLaw, ParentEditLaw};
+ghost use Rattle.kept_edits.specs.Endings.{AcceptedLaw, EntriesStayLaw, RefusedLaw};
 ghost use Rattle.kept_edits.specs.Ids.{IdsLaw, OneWayLaw};
 ghost use Rattle.kept_edits.specs.Known.{BesideLaw};
 ghost use Rattle.kept_edits.specs.Laws.{BackLaw, BlankLaw, ChangeLaw};
@@ -62,4 +63,19 @@ pub fn an_edit_is_a_change_of_a_parent()
 /// Memos that agree with a tree follow an edit of it.
 pub fn memos_follow_an_edit()
     ensures { FollowLaw }
+{}
+
+/// A pass that was done and is sealed leaves no edit under way, and all that the root needs is kept.
+pub fn an_accepted_edit_is_sealed()
+    ensures { AcceptedLaw }
+{}
+
+/// A pass that stopped anywhere, and the edit before it, can be taken back without a trace.
+pub fn a_refused_edit_leaves_no_trace()
+    ensures { RefusedLaw }
+{}
+
+/// What is kept of an element that an edit leaves alone is the same after the edit.
+pub fn entries_stay_through_an_edit()
+    ensures { EntriesStayLaw }
 {}
