@@ -7,12 +7,11 @@ ghost use Rattle.kept_results.specs.Looking.{own_facts};
 ghost use Rattle.kept_results.specs.declared.memo.Memo.TheViews.{out-Memo};
 ghost use Rattle.kept_sweep.specs.Flagged.{AreFlagged, BelowAgree, IsFlagged, StandsAt, all_marked, cleared};
 
-use crate::contexts::is_same;
 use crate::places::{Spot, place_from};
 use embellished::Facts;
 use fixed_units::List;
 use font_metrics::Metrics;
-use kept_results::{Entry, Memo};
+use kept_results::{Entry, Memo, is_same};
 use layout_model::{Context, Question};
 use math_tree::Node;
 
@@ -98,9 +97,17 @@ fn place_of(memo: &Memo, context: &Context) -> Option<usize>
     ensures none { IfNone result (IsMissing false context.now (out-Memo memo.now).entries) }
 {
     for at in 0..memo.entries.len() {
-        if is_same(&memo.entries.as_slice()[at].context, context) {
+        if is_in(&memo.entries.as_slice()[at], context) {
             return Some(at);
         }
     }
     None
+}
+
+/// Is an entry in a context?
+fn is_in(entry: &Entry, context: &Context) -> bool
+    ensures yes { result ≡ true → entry.now.context ≡ context.now }
+    ensures no { result ≡ false → entry.now.context ≡ context.now → ⊥ }
+{
+    is_same(&entry.context, context)
 }

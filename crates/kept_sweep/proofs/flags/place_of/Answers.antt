@@ -1,4 +1,4 @@
-use Rattle.std.proofs.Common.{◌≡◌, ◌∙◌, ◌<◌, length, get_or, false, true, sym, ap, arith}
+use Rattle.std.proofs.Common.{◌≡◌, ◌∙◌, ◌<◌, length, get_or, false, true, ap, arith}
 use Rattle.kept_results.specs.Kept.{is_live}
 use Rattle.kept_results.specs.declared.memo.Entry.{Entry}
 use Rattle.kept_results.specs.declared.memo.Memo.TheViews.{out-Memo}
@@ -11,4 +11,4 @@ loop-at-preserved c =
     let x = c.index-as_slice-at.result in
     all_more (λ (entry : Entry). is_live false entry ≡ true → entry.context ≡ c.args.context.now → ⊥)
     (out-Memo c.args.memo.now).entries c.loop-at.at x h (c.index-as_slice-at.is ∙ ap (λ l. get_or l c.loop-at.at x) c.as_slice.ensures) c.loop-at.invariant
-    (λ _ is. c.is_same.ensures.no c.if-is_same.false (ap (λ (e : Entry). e.context) (sym c.index-as_slice-at.is) ∙ is))
+    (λ _ is. c.is_in.ensures.no c.if-is_in.false is)
