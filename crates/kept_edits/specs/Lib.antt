@@ -6,3 +6,4 @@ pub mod Ids
 pub mod Known
 pub mod Laws
 pub mod Need
+pub mod Passed

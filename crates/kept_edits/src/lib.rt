@@ -15,7 +15,9 @@ mod blanks; // memos of elements that were never laid out
 mod change; // MemoChange, change_memo, undo_memo
 mod known; // known_on
 pub mod laws; // of the definitions
+mod passing; // a pass after an edit
 
 pub use blanks::blank;
 pub use change::{MemoChange, change_memo, undo_memo};
 pub use known::known_on;
+pub use passing::pass;
