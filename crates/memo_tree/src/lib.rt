@@ -6,12 +6,15 @@
 //!
 //! - Models: this project's own; MathML Core says nothing of it.
 //! - Proved: what is kept agrees with the tree and the metrics at any time, the layout of the root is
-//!   among it, and what is read is what a fresh layout gives.
+//!   among it, and what is read is what a fresh layout gives; `way_of` says where an edit that
+//!   isn't refused changes the tree.
 //! - Knows nothing of: how an element is laid out, and what is written of it.
 //! - Change what is kept: `kept_results`; what is dropped: `kept_sweep`.
 #![tactic(auto)]
 
 mod root; // the context of a tree's root
 mod tree; // MemoTree
+mod way; // where an edit changes a tree
 
 pub use tree::MemoTree;
+pub use way::{Place, Way, way_of};

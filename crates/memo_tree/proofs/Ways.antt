@@ -1,0 +1,95 @@
+-- The way to the element that an edit changes.
+use Rattle.std.proofs.Common.{◌≡◌, ◌∙◌, refl, sym, ap, subst, ℕ, List, [], ◌∷◌, ◌++◌, length, true, false, true≢false, arith, is_some, Option, None}
+use Rattle.std.specs.List.{list_any}
+use Rattle.math_tree.specs.Trees.{IsWhole, TreeValue, listed}
+use Rattle.math_tree.specs.declared.node.Node.{Node}
+use Rattle.tree_edits.specs.Edits.{at_target, has_id, is_fixed, named, refusal_of}
+use Rattle.tree_edits.specs.Laws.{IsOfParent, IsOwn, own_change, parent_change}
+use Rattle.tree_edits.specs.Paths.{LeadsTo, node_at}
+use Rattle.tree_edits.specs.Reasons.{shown}
+use Rattle.tree_edits.specs.declared.edit.Edit.{Edit}
+use Rattle.tree_edits.specs.declared.edit.Edit.TheVariants.{Text, Attr, Insert, Remove, Replace}
+use Rattle.math_tree.specs.declared.node.NodeId.{NodeId}
+use Rattle.tree_edits.proofs.Refusals.{accepted}
+use Rattle.tree_edits.proofs.Target.{found_at, found_nowhere}
+use Rattle.kept_edits.specs.Edited.{with_room}
+use Rattle.kept_edits.proofs.EditedTrees.{own_edit_law, parent_edit_law}
+use Rattle.memo_tree.proofs.Elements.{ends_at}
+use Rattle.memo_tree.specs.Ways.{IsAlike, IsWay}
+use Rattle.memo_tree.specs.declared.way.Place.{Place}
+use Rattle.memo_tree.specs.declared.way.Place.TheVariants.{Stay, Put, Take, Swap}
+
+pub own_way : (tree : TreeValue) (edit : Edit) (path : List ℕ) (place : Place) → IsWhole tree → refusal_of tree edit ≡ None → IsOwn edit
+    → (leads : LeadsTo (named edit) 1 tree.root path) → IsAlike (with_room (own_change edit tree.next_id) leads.element) place
+    → IsWay tree edit record { path = path; place = place }
+own_way tree edit path place whole free own leads alike = record {
+  change = with_room (own_change edit tree.next_id) leads.element;
+  is = own_edit_law tree edit path leads.element whole free own leads.at leads.has;
+  alike = alike;
+}
+
+pub parent_way : (tree : TreeValue) (edit : Edit) (path over : List ℕ) (at : ℕ) (place : Place) → IsWhole tree → IsOfParent edit
+    → LeadsTo (named edit) 1 tree.root path → path ≡ over ++ at ∷ [] → IsAlike (parent_change edit tree.next_id at) place
+    → IsWay tree edit record { path = over; place = place }
+parent_way tree edit path over at place whole parent leads same alike =
+    let e = ends_at over at tree.root leads.element (ap (λ (p : List ℕ). node_at p tree.root) (sym same) ∙ leads.at) in
+    record {
+      change = parent_change edit tree.next_id at;
+      is = parent_edit_law tree edit over e.parent at leads.element whole parent e.at e.there leads.has;
+      alike = alike;
+    }
+
+-- the root isn't taken out
+pub not_root : (tree : TreeValue) (edit : Edit) (path : List ℕ) → IsWhole tree → refusal_of tree edit ≡ None → LeadsTo (named edit) 1 tree.root path
+    → ((element : Node) → is_fixed edit (shown 1 element) ≡ true) → length path ≡ 0 → ⊥
+not_root tree edit [] whole free leads fixed none =
+    let found = found_at tree (named edit) [] leads.element whole leads.at leads.has in
+    true≢false (sym (ap (at_target (is_fixed edit)) found ∙ fixed leads.element) ∙ (accepted tree edit free).movable)
+not_root tree edit (place ∷ path) whole free leads fixed none = omega (arith, none)
+
+-- there is an element that the edit names
+pub not_unknown : (tree : TreeValue) (edit : Edit) → refusal_of tree edit ≡ None → list_any (λ e. has_id (named edit) e.head) (listed 1 tree.root) ≡ false → ⊥
+not_unknown tree edit free h =
+    true≢false (sym (accepted tree edit free).known ∙ ap is_some (found_nowhere (named edit) (listed 1 tree.root) h))
+
+-- ---- the kinds of edits
+
+abbrev Wanted : TreeValue → List ℕ → Place → Edit → Type 0
+Wanted tree path place edit = refusal_of tree edit ≡ None → LeadsTo (named edit) 1 tree.root path → IsWay tree edit record { path = path; place = place }
+
+pub text_way : (tree : TreeValue) (edit : Edit) (id : NodeId) (text path : List ℕ) → edit ≡ Text id text → IsWhole tree → Wanted tree path Stay edit
+text_way tree edit id text path is whole =
+    subst (Wanted tree path Stay) (sym is) (λ free leads. own_way tree (Text id text) path Stay whole free tt leads tt)
+
+pub attr_way : (tree : TreeValue) (edit : Edit) (id : NodeId) (name : List ℕ) (value : Option (List ℕ)) (path : List ℕ) → edit ≡ Attr id name value → IsWhole tree
+    → Wanted tree path Stay edit
+attr_way tree edit id name value path is whole =
+    subst (Wanted tree path Stay) (sym is) (λ free leads. own_way tree (Attr id name value) path Stay whole free tt leads tt)
+
+pub insert_way : (tree : TreeValue) (edit : Edit) (id : NodeId) (index : ℕ) (new : Node) (path : List ℕ) → edit ≡ Insert id index new → IsWhole tree
+    → Wanted tree path (Put index) edit
+insert_way tree edit id index new path is whole =
+    subst (Wanted tree path (Put index)) (sym is) (λ free leads. own_way tree (Insert id index new) path (Put index) whole free tt leads refl)
+
+abbrev Below : TreeValue → List ℕ → Edit → Type 0
+Below tree path edit = refusal_of tree edit ≡ None → LeadsTo (named edit) 1 tree.root path → length path ≡ 0 → ⊥
+
+pub removed_below : (tree : TreeValue) (edit : Edit) (id : NodeId) (path : List ℕ) → edit ≡ Remove id → IsWhole tree → Below tree path edit
+removed_below tree edit id path is whole =
+    subst (Below tree path) (sym is) (λ free leads. not_root tree (Remove id) path whole free leads (λ element. refl))
+
+pub replaced_below : (tree : TreeValue) (edit : Edit) (id : NodeId) (new : Node) (path : List ℕ) → edit ≡ Replace id new → IsWhole tree → Below tree path edit
+replaced_below tree edit id new path is whole =
+    subst (Below tree path) (sym is) (λ free leads. not_root tree (Replace id new) path whole free leads (λ element. refl))
+
+abbrev Over : TreeValue → List ℕ → List ℕ → ℕ → Place → Edit → Type 0
+Over tree path over at place edit = LeadsTo (named edit) 1 tree.root path → path ≡ over ++ at ∷ [] → IsWay tree edit record { path = over; place = place }
+
+pub remove_way : (tree : TreeValue) (edit : Edit) (id : NodeId) (path over : List ℕ) (at : ℕ) → edit ≡ Remove id → IsWhole tree → Over tree path over at (Take at) edit
+remove_way tree edit id path over at is whole =
+    subst (Over tree path over at (Take at)) (sym is) (λ leads same. parent_way tree (Remove id) path over at (Take at) whole tt leads same refl)
+
+pub replace_way : (tree : TreeValue) (edit : Edit) (id : NodeId) (new : Node) (path over : List ℕ) (at : ℕ) → edit ≡ Replace id new → IsWhole tree
+    → Over tree path over at (Swap at) edit
+replace_way tree edit id new path over at is whole =
+    subst (Over tree path over at (Swap at)) (sym is) (λ leads same. parent_way tree (Replace id new) path over at (Swap at) whole tt leads same refl)

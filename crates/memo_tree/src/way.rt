@@ -1,0 +1,88 @@
+//! Where an edit changes a tree, and what it does to the children of the element there.
+ghost use Rattle.std.specs.Prelude.{◌≡◌, None as NoReason};
+ghost use Rattle.math_tree.specs.Trees.{IsWhole, TreeValue};
+ghost use Rattle.tree_edits.specs.Edits.{named, refusal_of};
+ghost use Rattle.tree_edits.specs.Paths.{LeadsTo};
+ghost use Rattle.memo_tree.specs.Ways.{HasWay};
+
+use math_tree::{NodeId, Tree};
+use tree_edits::{Edit, Path, path_to};
+
+/// What becomes of the children of an element.
+#[derive(Debug, Drop)]
+pub enum Place {
+    /// They stay.
+    Stay,
+    /// There is one more at this place.
+    Put(usize),
+    /// The one at this place is gone.
+    Take(usize),
+    /// There is another one at this place.
+    Swap(usize),
+}
+
+/// The way to the element that an edit changes, and what becomes of its children.
+#[derive(Debug, Drop)]
+pub struct Way {
+    pub path: Path,
+    pub place: Place,
+}
+
+/// Where an edit changes a tree. There is an answer at least where the edit isn't refused.
+pub fn way_of(tree: &Tree, edit: &Edit) -> Option<Way>
+    ensures { refusal_of tree.now edit.now ≡ NoReason → HasWay tree.now edit.now result }
+{
+    match path_to(tree.root(), id_of(edit), 1) {
+        Some(path) => end_of(path, edit),
+        None => None,
+    }
+}
+
+/// The id of the element that an edit names.
+fn id_of(edit: &Edit) -> NodeId
+    ensures { result.0 ≡ named edit.now }
+{
+    match edit {
+        Edit::Text(id, _)
+        | Edit::Attr(id, _, _)
+        | Edit::Insert(id, _, _)
+        | Edit::Remove(id)
+        | Edit::Replace(id, _) => *id,
+    }
+}
+
+/// The same, where the path leads to the element that the edit names.
+fn end_of(path: Path, edit: &Edit) -> Option<Way>
+    ensures { (tree : TreeValue) → IsWhole tree → refusal_of tree edit.now ≡ NoReason → LeadsTo (named edit.now) 1 tree.root path → HasWay tree edit.now result }
+{
+    match edit {
+        Edit::Text(_, _) => {
+            let place = Place::Stay;
+            Some(Way { path, place })
+        }
+        Edit::Attr(_, _, _) => {
+            let place = Place::Stay;
+            Some(Way { path, place })
+        }
+        Edit::Insert(_, index, _) => {
+            let place = Place::Put(*index as usize);
+            Some(Way { path, place })
+        }
+        Edit::Remove(_) => {
+            if path.level() == 1 {
+                return None;
+            }
+            let (path, place) = path.split();
+            let place = Place::Take(place);
+            Some(Way { path, place })
+        }
+        Edit::Replace(_, _) => {
+            if path.level() == 1 {
+                return None;
+            }
+            let (path, place) = path.split();
+            let place = Place::Swap(place);
+            Some(Way { path, place })
+        }
+    }
+}
