@@ -1,3 +1,6 @@
 pub mod Elements
+pub mod Followed
+pub mod Rooms
 pub mod Roots
+pub mod Undone
 pub mod Ways
