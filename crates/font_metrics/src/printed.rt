@@ -65,8 +65,7 @@ impl PrintedLines {
         ensures { OnOk result (self.new ≡ self.old ++ line_text (line_words ascent descent)) }
     {
         self.add_text("line")?;
-        self.add_number(i64::from(ascent))?;
-        self.add_number(i64::from(descent))?;
+        self.add_numbers(i64::from(ascent), i64::from(descent))?;
         self.add_text("\n")
     }
 
@@ -110,10 +109,8 @@ impl PrintedLines {
     {
         self.add_text("glyph")?;
         self.add_word(name)?;
-        self.add_number(glyph.advance)?;
-        self.add_number(glyph.ink_ascent)?;
-        self.add_number(glyph.ink_descent)?;
-        self.add_number(glyph.italic)?;
+        self.add_numbers(glyph.advance, glyph.ink_ascent)?;
+        self.add_numbers(glyph.ink_descent, glyph.italic)?;
         self.add_accent(glyph.accent)?;
         self.add_text("\n")
     }
@@ -150,8 +147,7 @@ impl PrintedLines {
             ++ line_text (keyword.now ∷ base.now ∷ name.now ∷ signed_decimal variant.measure ∷ [])) }
     {
         self.add_text(keyword)?;
-        self.add_word(base)?;
-        self.add_word(name)?;
+        self.add_words(base, name)?;
         self.add_number(variant.measure)?;
         self.add_text("\n")
     }
@@ -169,12 +165,10 @@ impl PrintedLines {
             ∷ signed_decimal part.start ∷ signed_decimal part.end ∷ signed_decimal part.full ∷ [])) }
     {
         self.add_text(keyword)?;
-        self.add_word(base)?;
-        self.add_word(name)?;
+        self.add_words(base, name)?;
         self.add_word(extender_text(part.extender))?;
         self.add_number(part.start)?;
-        self.add_number(part.end)?;
-        self.add_number(part.full)?;
+        self.add_numbers(part.end, part.full)?;
         self.add_text("\n")
     }
 
@@ -185,8 +179,7 @@ impl PrintedLines {
     {
         self.add_text("operator ")?;
         self.add_operator_text(line.text)?;
-        self.add_word(form_text(line.form))?;
-        self.add_word(category_text(line.category))?;
+        self.add_words(form_text(line.form), category_text(line.category))?;
         self.add_word(axis_text(line.axis))?;
         self.add_text("\n")
     }
@@ -223,12 +216,28 @@ impl PrintedLines {
         self.add_text(word)
     }
 
+    /// Two words, each behind a space.
+    fn add_words(&mut self, first: &str, second: &str) -> Result<(), Memory>
+        ensures { OnOk result (self.new ≡ (self.old ++ 32 ∷ first.now) ++ 32 ∷ second.now) }
+    {
+        self.add_word(first)?;
+        self.add_word(second)
+    }
+
     /// A number behind a space.
     fn add_number(&mut self, number: i64) -> Result<(), Memory>
         ensures { OnOk result (self.new ≡ self.old ++ 32 ∷ signed_decimal number) }
     {
         write!(self.text, " {number}")?;
         Ok(())
+    }
+
+    /// Two numbers, each behind a space.
+    fn add_numbers(&mut self, first: i64, second: i64) -> Result<(), Memory>
+        ensures { OnOk result (self.new ≡ (self.old ++ 32 ∷ signed_decimal first) ++ 32 ∷ signed_decimal second) }
+    {
+        self.add_number(first)?;
+        self.add_number(second)
     }
 
     fn add_text(&mut self, text: &str) -> Result<(), Memory>

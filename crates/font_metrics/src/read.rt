@@ -1,6 +1,6 @@
 ghost use Rattle.std.specs.Prelude.{◌≤◌, length};
-ghost use Rattle.font_metrics.specs.Reads.{Reads};
-ghost use Rattle.font_metrics.specs.Reading.{metrics_of, most_file_bytes};
+ghost use Rattle.font_metrics.specs.Reads.{Reads, Begins};
+ghost use Rattle.font_metrics.specs.Reading.{lines_of, metrics_of, most_file_bytes};
 
 use crate::given::Given;
 use crate::metrics::Metrics;
@@ -20,10 +20,20 @@ pub fn read_metrics(alloc: Global, bytes: &[u8]) -> Result<Metrics, MetricsRefus
     ensures reads { Reads (metrics_of bytes.now) result }
 {
     let (first, _) = first_line(bytes);
-    let mut given = match Given::begun(alloc, first) {
-        Ok(given) => given,
-        Err(fault) => return Err(LineRefusal::Fault(fault).at(1)),
-    };
-    let needs = given.take_lines(alloc, bytes)?;
-    Ok(Metrics { needs, given })
+    match Given::begun(alloc, first) {
+        Ok(given) => read_rest(alloc, bytes, given),
+        Err(fault) => Err(LineRefusal::Fault(fault).at(1)),
+    }
+}
+
+/// Reads the lines behind the first, which gave this.
+fn read_rest(alloc: Global, bytes: &[u8], mut given: Given) -> Result<Metrics, MetricsRefusal>
+    requires few { length bytes.now ≤ most_file_bytes }
+    requires begun { Begins (lines_of bytes.now) given }
+    ensures reads { Reads (metrics_of bytes.now) result }
+{
+    match given.take_lines(alloc, bytes) {
+        Ok(needs) => Ok(Metrics { needs, given }),
+        Err(refusal) => Err(refusal),
+    }
 }

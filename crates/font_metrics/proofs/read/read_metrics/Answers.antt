@@ -17,6 +17,6 @@ returns-in-Err c =
           (sym c.in-Err.ensures));
     }
 
-pub take_lines-requires-clause-begun : goal.take_lines-requires-clause-begun
-take_lines-requires-clause-begun c =
+pub read_rest-requires-clause-begun : goal.read_rest-requires-clause-begun
+read_rest-requires-clause-begun c =
     subst (λ ls. Begins ls c.in-Ok.given) (sym c.first_line.ensures.line) (sym c.in-Ok.ensures)

@@ -1,4 +1,4 @@
-use Rattle.std.proofs.Common.{SFits, w64, to_z-of_z, rules}
+use Rattle.std.proofs.Common.{refl, SFits, w64, to_z-of_z, rules}
 use Rattle.std.proofs.lemmas.Result.{on_ok_weaker}
 use Rattle.font_metrics.proofs.Printing.{glyph-printed}
 use Rattle.font_metrics.proofs.printed.PrintedLines.add_glyph.Goals as goal
@@ -10,11 +10,9 @@ returns c =
     let ascent : SFits w64 g.ink_ascent = search rules in
     let descent : SFits w64 g.ink_descent = search rules in
     let italic : SFits w64 g.italic = search rules in
-    let second = simp to_z-of_z at c.in_ok-add_number.ensures in
-    let third = simp to_z-of_z at c.in_ok-add_number-2.ensures in
-    let fourth = simp to_z-of_z at c.in_ok-add_number-3.ensures in
-    let fifth = simp to_z-of_z at c.in_ok-add_number-4.ensures in
+    let third = simp to_z-of_z at c.in_ok-add_numbers.ensures in
+    let fifth = simp to_z-of_z at c.in_ok-add_numbers-2.ensures in
     on_ok_weaker c.add_text-2.result
     (glyph-printed c.args.self.now c.args.name.now g _ _ _ _ _ _ _ _ c.in_ok-add_text.ensures
-    c.in_ok-add_word.ensures second third fourth fifth c.in_ok-add_accent.ensures)
+    c.in_ok-add_word.ensures refl third refl fifth c.in_ok-add_accent.ensures)
     c.add_text-2.ensures
