@@ -6,7 +6,8 @@ use Rattle.std.proofs.lemmas.Option.{none-some, same_Some}
 use Rattle.std.specs.List.{list_all, slice_split, onto_first, position_or_len}
 use Rattle.std.specs.Str.Lines.{lines, lines_of_parts, strip_carriage_return}
 use Rattle.font_metrics.specs.declared.keyword.Keyword.{Keyword}
-use Rattle.font_metrics.specs.declared.keyword.Keyword.TheVariants.{Unknown}
+use Rattle.font_metrics.specs.declared.keyword.Keyword.TheVariants.{Table as TableOf, Unknown}
+use Rattle.font_metrics.specs.declared.table.Table.TheVariants.{Variants, Parts}
 use Rattle.font_metrics.specs.declared.given.Given.{Given}
 use Rattle.font_metrics.specs.Lines.{Words, Item, keyword_of, item_in}
 use Rattle.font_metrics.specs.Metrics.{NamedGlyph}
@@ -111,6 +112,8 @@ too_many_fields glyphs keyword (a ∷ b ∷ c ∷ d ∷ []) more = absurd (omega
 too_many_fields glyphs keyword (a ∷ b ∷ c ∷ d ∷ e ∷ []) more = absurd (omega arith)
 too_many_fields glyphs keyword (a ∷ b ∷ c ∷ d ∷ e ∷ f ∷ []) more = absurd (omega arith)
 too_many_fields glyphs Unknown (a ∷ b ∷ c ∷ d ∷ e ∷ f ∷ g ∷ fields) more = refl
+too_many_fields glyphs (TableOf (Variants axis)) (a ∷ b ∷ c ∷ d ∷ e ∷ f ∷ g ∷ fields) more = refl
+too_many_fields glyphs (TableOf (Parts axis)) (a ∷ b ∷ c ∷ d ∷ e ∷ f ∷ g ∷ fields) more = refl
 too_many_fields glyphs keyword (a ∷ b ∷ c ∷ d ∷ e ∷ f ∷ g ∷ fields) more = refl
 
 fields-take : (g : Given) (keyword : Keyword) (count : ℕ) (fields : Words) → most_fields < count

@@ -7,12 +7,14 @@ use Rattle.font_metrics.specs.declared.fault.LineFault.{LineFault}
 use Rattle.font_metrics.specs.declared.fault.LineFault.TheVariants.{ForeignByte, NoUpem, NoLine, NoXHeight, NoMissing}
 use Rattle.font_metrics.specs.declared.given.Given.{Given}
 use Rattle.font_metrics.specs.declared.given.Needed.{Needed}
+use Rattle.font_metrics.specs.declared.table.Table.{Table}
 use Rattle.font_metrics.specs.Constants.{place_of_constant}
 use Rattle.font_metrics.specs.Faults.{Step, ◌>>=◌, step_map, fault_if}
 use Rattle.font_metrics.specs.Laws.{upem_said, line_said, x_height_said, glyph_said, said, listed, allowed_behind, words_say, line_says, first_says, Say, SayAll, AreSaid, MetricsLaw, IsFirstFault, lacking, EndsWithout, FaultLaw, TakenLaw, ConstantLaw}
 use Rattle.font_metrics.specs.Lines.{Words, Item, keyword_of, item_in}
-use Rattle.font_metrics.specs.Metrics.{NamedGlyph, MetricsValue, place_of_name, variants_of, parts_of}
+use Rattle.font_metrics.specs.Metrics.{NamedGlyph, MetricsValue, place_of_name, items_of}
 use Rattle.font_metrics.specs.Reading.{Fault, fault_at, nothing, allowed, put, is_foreign, is_comment, first_in, words_of, after_words, after, after_first, needed_of, needed, metrics_with, finished, numbered, lines_of, metrics_of}
+use Rattle.font_metrics.specs.Tables.{entries, tables_of}
 use Rattle.font_metrics.specs.Taken.{IsTaken}
 use Rattle.font_metrics.specs.Whole.{IsGiven}
 use Rattle.font_metrics.proofs.Cuts.{is_feed, last_line, next_line}
@@ -132,9 +134,12 @@ ended : (number : ℕ) (s : Step MetricsValue) (m : MetricsValue) → numbered n
 ended number (Ok n) m h = ap (λ m. Ok m) (same_metrics n m h)
 ended number (Err fault) m h = no_metrics (fault_at number fault) m h
 
+tables-said : (n : Needed) (g : Given) (t : Table) (place : ℕ)
+    → items_of (entries t (tables_of (metrics_with n g))) place ≡ items_of (entries t g.tables) place
+tables-said n g t place = refl
+
 are_said : (items : List Item) (g : Given) (n : Needed) → IsSaid items g → needed g ≡ Ok n
     → AreSaid items (metrics_with n g)
-unfolding variants_of parts_of
 are_said items g n is e =
     let there = needs_are g n e in
     record {
@@ -145,8 +150,7 @@ are_said items g n is e =
       constants = is.constants;
       glyphs = is.glyphs;
       characters = is.characters;
-      variants = is.variants;
-      parts = is.parts;
+      tables = λ t place. tables-said n g t place ∙ is.tables t place;
       operators = is.operators;
     }
 

@@ -8,6 +8,8 @@ pub mod EachKind
 pub mod Finish
 pub mod SameNames
 pub mod Ordered
+pub mod Entries
+pub mod Slots
 pub mod Ranges
 pub mod Forward
 pub mod Values

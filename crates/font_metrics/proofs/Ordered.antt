@@ -16,12 +16,10 @@ use Rattle.std.specs.Option.{unwrap_or, IfSome}
 use Rattle.std.specs.Ordering.{nat_cmp, match_ordering}
 use Rattle.std.specs.Str.{bytes_eq}
 use Rattle.op_dictionary.specs.declared.extra.OperatorLine.{OperatorLine}
-use Rattle.op_dictionary.specs.declared.operator.Axis.{Axis}
-use Rattle.op_dictionary.specs.declared.operator.Axis.TheVariants.{Block, Inline}
 use Rattle.op_dictionary.specs.Dictionary.{is_named}
 use Rattle.op_dictionary.specs.Pairs.{same_text, same_form}
-use Rattle.font_metrics.specs.Metrics.{NamedGlyph, ByGlyph, ByAxis, along, items_of, with_item, with_item_along, is_full, place_of_name}
-use Rattle.font_metrics.specs.Taken.{IsEntry, IsTable, AreTables, IsGlyph, names_of, most_glyphs, IsOperatorText}
+use Rattle.font_metrics.specs.Metrics.{NamedGlyph, ByGlyph, items_of, with_item, is_full, place_of_name}
+use Rattle.font_metrics.specs.Taken.{IsEntry, IsTable, IsGlyph, names_of, most_glyphs, IsOperatorText}
 use Rattle.font_metrics.specs.Whole.{AreGlyphs, AreOperators}
 use Rattle.font_metrics.proofs.Listed.{below}
 use Rattle.op_dictionary.proofs.Same.{same_pairs}
@@ -148,24 +146,6 @@ module _ {X : Type 0} (Is : X → Type 0) where
         })
         table h.entries;
   }
-
--- the same along both axes
-module _ {X : Type 0} (Is : X → Type 0) where
-  pub tables-item : (axis : Axis) (count most : ℕ) (tables : ByAxis X) (place : ℕ) (item : X)
-      → AreTables count most Is tables → place < count → Is item
-      → is_full most (along axis tables) place ≡ false
-      → AreTables count most Is (with_item_along axis tables place item)
-  tables-item Block count most tables place item h within is room =
-      (table-item Is count most tables.0 place item h.0 within is room, h.1)
-  tables-item Inline count most tables place item h within is room =
-      (h.0, table-item Is count most tables.1 place item h.1 within is room)
-
-  pub tables-wider : (Was : X → Type 0) (count more most : ℕ) (tables : ByAxis X) → count ≤ more
-      → ((x : X) → Was x → Is x) → AreTables count most Was tables → AreTables more most Is tables
-  tables-wider Was count more most tables grows also h = (
-    table-wider Is Was count more most tables.0 grows also h.0,
-    table-wider Is Was count more most tables.1 grows also h.1,
-  )
 
 -- ---- lists without repeats
 

@@ -7,9 +7,10 @@ use Rattle.std.proofs.lemmas.List.{map_push}
 use Rattle.std.proofs.lemmas.List.Elements.{All-head, All-same}
 use Rattle.std.proofs.lemmas.List.Concat.{flat_map-append}
 use Rattle.op_dictionary.specs.declared.operator.Axis.TheVariants.{Block, Inline}
+use Rattle.font_metrics.specs.declared.table.Table.TheVariants.{Variants, Parts}
 use Rattle.font_metrics.specs.Lines.{Words}
 use Rattle.font_metrics.specs.Metrics.{MetricsValue}
-use Rattle.font_metrics.specs.Print.{constant_words, accent_words, accent_text, measures_words, glyph_words, character_words, variant_lines, part_lines, growth_lines, operator_words, header_lines, line_text, print_of}
+use Rattle.font_metrics.specs.Print.{constant_words, accent_words, accent_text, measures_words, glyph_words, character_words, table_lines, growth_lines, operator_words, header_lines, line_text, print_of}
 
 -- the bytes of lines
 abbrev texts : List Words → List ℕ
@@ -52,16 +53,16 @@ range-more from (suc count) =
 -- the places before are printed: one place more, by its four lists in turn
 pub growth-more : (m : MetricsValue) (place : ℕ) (old now one two three four : List ℕ)
     → now ≡ old ++ texts (flat_map (growth_lines m) (range_with_len 0 place))
-    → one ≡ now ++ texts (variant_lines m place Block)
-    → two ≡ one ++ texts (variant_lines m place Inline)
-    → three ≡ two ++ texts (part_lines m place Block)
-    → four ≡ three ++ texts (part_lines m place Inline)
+    → one ≡ now ++ texts (table_lines m place (Variants Block))
+    → two ≡ one ++ texts (table_lines m place (Variants Inline))
+    → three ≡ two ++ texts (table_lines m place (Parts Block))
+    → four ≡ three ++ texts (table_lines m place (Parts Inline))
     → four ≡ old ++ texts (flat_map (growth_lines m) (range_with_len 0 (place + 1)))
 growth-more m place old now one two three four h a b c d =
     let range : range_with_len 0 (place + 1) ≡ range_with_len 0 place ++ place ∷ [] =
     rw add-one (range-more 0 place ∙ ap (λ n. range_with_len 0 place ++ n ∷ []) (zero-add place)) in
     let joined : four ≡ now ++ texts (growth_lines m place) =
-    simp flat_map-append (rw (d, c, b, a) (simp append_assoc)) in
+    simp (flat_map-append, append-nil) (rw (d, c, b, a) (simp append_assoc)) in
     rw (range, flat_map-append, append-nil, flat_map-append)
     (joined ∙ ap (λ t. t ++ texts (growth_lines m place)) h
     ∙ append_assoc old (texts (flat_map (growth_lines m) (range_with_len 0 place))) (texts (growth_lines m place)))

@@ -7,15 +7,16 @@ use Rattle.op_dictionary.specs.declared.operator.Axis.TheVariants.{Block, Inline
 use Rattle.op_dictionary.specs.Dictionary.{is_named}
 use Rattle.font_metrics.specs.declared.constants.ConstName.{ConstName}
 use Rattle.font_metrics.specs.declared.fault.LineFault.TheVariants.{ForeignByte, Repeated, TooMany, NoUpem, NoLine, NoXHeight, NoMissing}
-use Rattle.font_metrics.specs.declared.growth.Variant.{Variant}
-use Rattle.font_metrics.specs.declared.growth.Part.{Part}
+use Rattle.font_metrics.specs.declared.table.Table.{Table}
+use Rattle.font_metrics.specs.declared.table.Table.TheVariants.{Variants, Parts}
 use Rattle.font_metrics.specs.Constants.{place_of_constant, place_of_text}
 use Rattle.font_metrics.specs.Faults.{Step, ◌>>=◌, fault_if}
-use Rattle.font_metrics.specs.Lines.{Words, Item, SaysUpem, SaysLine, SaysXHeight, SaysOverlap, SaysConstant, SaysGlyph, SaysCharacter, SaysVariant, SaysPart, SaysOperator, keyword_of, item_in}
-use Rattle.font_metrics.specs.Metrics.{NamedGlyph, MetricsValue, place_of_name, place_of_code, variants_of, parts_of}
+use Rattle.font_metrics.specs.Lines.{Words, Item, SaysUpem, SaysLine, SaysXHeight, SaysOverlap, SaysConstant, SaysGlyph, SaysCharacter, SaysEntry, SaysOperator, keyword_of, item_in}
+use Rattle.font_metrics.specs.Metrics.{NamedGlyph, MetricsValue, place_of_name, place_of_code, items_of}
 use Rattle.font_metrics.specs.Print.{constant_text}
 use Rattle.font_metrics.specs.Reading.{Fault, is_foreign, is_comment, first_in, words_of, lines_of, metrics_of}
-use Rattle.font_metrics.specs.Taken.{IsTaken, most_glyphs, most_variants, most_parts}
+use Rattle.font_metrics.specs.Tables.{slot, EntryOf, entries, tables_of}
+use Rattle.font_metrics.specs.Taken.{IsTaken, most_glyphs}
 
 -- ---- what items say of one matter, in file order
 
@@ -58,16 +59,16 @@ same_axis Block Block = true
 same_axis Inline Inline = true
 same_axis _ _ = false
 
--- the variants and the parts of the glyph at a place along an axis
-abbrev pub variant_said : Axis → ℕ → Item → List Variant
-variant_said axis place (SaysVariant other v) =
-    if same_axis axis other then one_if (nat_eq place v.0) v.1 else []
-variant_said axis place item = []
+-- entries of another table aren't this one's
+abbrev pub of_table : (t other : Table) → List (EntryOf other) → List (EntryOf t)
+of_table (Variants axis) (Variants other) xs = if same_axis axis other then xs else []
+of_table (Parts axis) (Parts other) xs = if same_axis axis other then xs else []
+of_table t other xs = []
 
-abbrev pub part_said : Axis → ℕ → Item → List Part
-part_said axis place (SaysPart other p) =
-    if same_axis axis other then one_if (nat_eq place p.0) p.1 else []
-part_said axis place item = []
+-- the entries of the glyph at a place in a table
+abbrev pub entry_said : (t : Table) → ℕ → Item → List (EntryOf t)
+entry_said t place (SaysEntry other x) = of_table t other (one_if (nat_eq place x.0) x.1)
+entry_said t place item = []
 
 abbrev pub operator_said : Item → List OperatorLine
 operator_said (SaysOperator line) = line ∷ []
@@ -94,10 +95,8 @@ allowed_behind before (SaysGlyph g) = do
   new ← fault_if (is_some (place_of_name (said glyph_said before) g.name)) Repeated
   fault_if (nat_le most_glyphs (length (said glyph_said before))) TooMany
 allowed_behind before (SaysCharacter c) = fault_if (is_said (said (character_said c.0) before)) Repeated
-allowed_behind before (SaysVariant axis v) =
-    fault_if (nat_le most_variants (length (said (variant_said axis v.0) before))) TooMany
-allowed_behind before (SaysPart axis p) =
-    fault_if (nat_le most_parts (length (said (part_said axis p.0) before))) TooMany
+allowed_behind before (SaysEntry t x) =
+    fault_if (nat_le (slot t).most (length (said (entry_said t x.0) before))) TooMany
 allowed_behind before (SaysOperator line) =
     fault_if (is_named (said operator_said before) line.text line.form) Repeated
 
@@ -146,8 +145,7 @@ pub record AreSaid (items : List Item) (m : MetricsValue) : Type 0 where
   pub constants : (place : ℕ) → listed (lookup (nat_eq place) m.constants) ≡ said (constant_said place) items
   pub glyphs : m.glyphs ≡ said glyph_said items
   pub characters : (code : ℕ) → listed (place_of_code m.characters code) ≡ said (character_said code) items
-  pub variants : (place : ℕ) (axis : Axis) → variants_of m place axis ≡ said (variant_said axis place) items
-  pub parts : (place : ℕ) (axis : Axis) → parts_of m place axis ≡ said (part_said axis place) items
+  pub tables : (t : Table) (place : ℕ) → items_of (entries t (tables_of m)) place ≡ said (entry_said t place) items
   pub operators : m.operators ≡ said operator_said items
 
 -- a file that gives metrics has no faulty line, and they are what its lines say

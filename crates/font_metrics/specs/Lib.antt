@@ -3,6 +3,9 @@ pub mod Words
 pub mod Constants
 pub mod Metrics
 pub mod Taken
+pub mod Fields
+pub mod Texts
+pub mod Tables
 pub mod Lines
 pub mod Reading
 pub mod Reads

@@ -1,32 +1,17 @@
 -- What a line of a metrics file says: by its first word, and then by its fields from left to right.
-use Rattle.std.specs.Prelude.{ℕ, ℤ, pos, negsuc, if◌then◌else◌, List, [], ◌∷◌, map, codes, Option, Some, None, unwrap_or, Ok, Err}
+use Rattle.std.specs.Prelude.{ℕ, ℤ, if◌then◌else◌, List, codes, Err}
 use Rattle.std.specs.Str.{bytes_eq}
-use Rattle.std.specs.Borrow.{Bor}
 use Rattle.op_dictionary.specs.declared.extra.OperatorLine.{OperatorLine}
-use Rattle.op_dictionary.specs.declared.operator.Axis.{Axis}
 use Rattle.op_dictionary.specs.declared.operator.Axis.TheVariants.{Block, Inline}
-use Rattle.font_metrics.specs.declared.fault.LineFault.TheVariants.{UnknownWord, FieldCount, NotNamed}
-use Rattle.font_metrics.specs.declared.growth.Variant.{Variant}
-use Rattle.font_metrics.specs.declared.growth.Part.{Part}
+use Rattle.font_metrics.specs.declared.fault.LineFault.TheVariants.{UnknownWord}
 use Rattle.font_metrics.specs.declared.keyword.Keyword.{Keyword}
-use Rattle.font_metrics.specs.declared.keyword.Keyword.TheVariants.{Upem, Line, XHeight, Overlap, Constant, Glyph, Char, Variant as VariantOf, Part as PartOf, Operator, Unknown}
-use Rattle.font_metrics.specs.Constants.{place_of_text, lowest_of, highest_of}
-use Rattle.font_metrics.specs.Faults.{Step, ◌>>=◌, step_map, or_fault}
-use Rattle.font_metrics.specs.Metrics.{NamedGlyph, place_of_name}
-use Rattle.font_metrics.specs.Words.{number_in, natural_in, letter_in, name_in, operator_text_in, extender_in, form_in, category_in, axis_in}
-
--- the words of a line
-abbrev pub Words : Type 0
-Words = List (List ℕ)
-
--- words that are lent out of a line
-abbrev pub lent : List (Bor (List ℕ)) → Words
-lent words = map (λ w. w.now) words
-
--- a word that may be absent
-abbrev pub lent_if : Option (Bor (List ℕ)) → Option (List ℕ)
-lent_if None = None
-lent_if (Some word) = Some word.now
+use Rattle.font_metrics.specs.declared.keyword.Keyword.TheVariants.{Upem, Line, XHeight, Overlap, Constant, Glyph, Char, Table as TableOf, Operator, Unknown}
+use Rattle.font_metrics.specs.declared.table.Table.{Table}
+use Rattle.font_metrics.specs.declared.table.Table.TheVariants.{Variants, Parts}
+use Rattle.font_metrics.specs.Faults.{Step, step_map}
+use Rattle.font_metrics.specs.Metrics.{NamedGlyph}
+use Rattle.font_metrics.specs.Tables.{EntryOf, slot}
+pub use Rattle.font_metrics.specs.Fields.{Words, lent, lent_if, length_in, reach_in, reach_if_given, named_in, upem_in, line_with, line_in, one_length_in, constant_with, constant_in, glyph_with, glyph_in, character_with, character_in, variant_with, variant_in, part_with, based_on, part_in, operator_with, operator_in}
 
 -- what the first word of a line says of the fields behind it; words are compared exactly
 unfoldable pub keyword_of : List ℕ → Keyword
@@ -38,168 +23,17 @@ keyword_of word =
     else if bytes_eq word (codes "const") then Constant
     else if bytes_eq word (codes "glyph") then Glyph
     else if bytes_eq word (codes "char") then Char
-    else if bytes_eq word (codes "vvariant") then VariantOf Block
-    else if bytes_eq word (codes "hvariant") then VariantOf Inline
-    else if bytes_eq word (codes "vassembly") then PartOf Block
-    else if bytes_eq word (codes "hassembly") then PartOf Inline
+    else if bytes_eq word (codes "vvariant") then TableOf (Variants Block)
+    else if bytes_eq word (codes "hvariant") then TableOf (Variants Inline)
+    else if bytes_eq word (codes "vassembly") then TableOf (Parts Block)
+    else if bytes_eq word (codes "hassembly") then TableOf (Parts Inline)
     else if bytes_eq word (codes "operator") then Operator
     else Unknown
 
--- ---- fields
-
--- design units that aren't negative, and those to either side
-abbrev pub length_in : List ℕ → Step ℕ
-length_in word = natural_in 0 65535 word
-
-abbrev pub reach_in : List ℕ → Step ℤ
-reach_in word = number_in (negsuc 32767) (pos 65535) word
-
--- a field that may be absent
-abbrev pub reach_if_given : Option (List ℕ) → Step (Option ℤ)
-reach_if_given None = Ok None
-reach_if_given (Some word) = do
-  reach ← reach_in word
-  Ok (Some reach)
-
--- the place of a glyph that a line before has named
-abbrev pub named_in : List NamedGlyph → List ℕ → Step ℕ
-named_in glyphs word = do
-  name ← name_in word
-  or_fault NotNamed (place_of_name glyphs name)
-
--- ---- the fields of each kind of line
-
--- the design units of an em
-abbrev pub upem_in : Words → Step ℕ
-upem_in (units ∷ []) = natural_in 16 16384 units
-upem_in fields = Err FieldCount
-
--- the ascent and the descent of a line of text
-abbrev pub line_with : List ℕ → List ℕ → Step (ℕ × ℕ)
-line_with ascent descent = do
-  up ← length_in ascent
-  down ← length_in descent
-  Ok (up, down)
-
-abbrev pub line_in : Words → Step (ℕ × ℕ)
-line_in (ascent ∷ descent ∷ []) = line_with ascent descent
-line_in fields = Err FieldCount
-
--- the height of an x, or the least connector overlap
-abbrev pub one_length_in : Words → Step ℕ
-one_length_in (height ∷ []) = length_in height
-one_length_in fields = Err FieldCount
-
--- the place of a constant and its value
-abbrev pub constant_with : List ℕ → List ℕ → Step (ℕ × ℤ)
-constant_with name value = do
-  place ← or_fault NotNamed (place_of_text name)
-  number ← number_in (lowest_of place) (highest_of place) value
-  Ok (place, number)
-
-abbrev pub constant_in : Words → Step (ℕ × ℤ)
-constant_in (name ∷ value ∷ []) = constant_with name value
-constant_in fields = Err FieldCount
-
--- a glyph: its name, its advance, how far its ink reaches above and below the baseline, and perhaps
--- its italics correction and its accent's place
-abbrev pub glyph_with : List ℕ → List ℕ → List ℕ → List ℕ → Option (List ℕ) → Option (List ℕ)
-    → Step NamedGlyph
-glyph_with name advance ink_ascent ink_descent italic accent = do
-  spelled ← name_in name
-  width ← length_in advance
-  up ← reach_in ink_ascent
-  down ← reach_in ink_descent
-  slant ← reach_if_given italic
-  attachment ← reach_if_given accent
-  Ok (record {
-    name = spelled;
-    glyph = record {
-      advance = pos width;
-      ink_ascent = up;
-      ink_descent = down;
-      italic = unwrap_or slant (pos 0);
-      accent = attachment;
-    };
-  })
-
-abbrev pub glyph_in : Words → Step NamedGlyph
-glyph_in (name ∷ advance ∷ ink_ascent ∷ ink_descent ∷ []) =
-    glyph_with name advance ink_ascent ink_descent None None
-glyph_in (name ∷ advance ∷ ink_ascent ∷ ink_descent ∷ italic ∷ []) =
-    glyph_with name advance ink_ascent ink_descent (Some italic) None
-glyph_in (name ∷ advance ∷ ink_ascent ∷ ink_descent ∷ italic ∷ accent ∷ []) =
-    glyph_with name advance ink_ascent ink_descent (Some italic) (Some accent)
-glyph_in fields = Err FieldCount
-
--- a character's code and the place of its glyph
-abbrev pub character_with : List NamedGlyph → List ℕ → List ℕ → Step (ℕ × ℕ)
-character_with glyphs code name = do
-  letter ← letter_in code
-  place ← named_in glyphs name
-  Ok (letter, place)
-
-abbrev pub character_in : List NamedGlyph → Words → Step (ℕ × ℕ)
-character_in glyphs (code ∷ name ∷ []) = character_with glyphs code name
-character_in glyphs fields = Err FieldCount
-
--- the place of a base glyph, and one of its variants with its measure
-abbrev pub variant_with : List NamedGlyph → List ℕ → List ℕ → List ℕ → Step (ℕ × Variant)
-variant_with glyphs base variant measure = do
-  place ← named_in glyphs base
-  glyph ← named_in glyphs variant
-  size ← length_in measure
-  Ok (place, record { glyph = record { 0 = glyph }; measure = pos size })
-
-abbrev pub variant_in : List NamedGlyph → Words → Step (ℕ × Variant)
-variant_in glyphs (base ∷ variant ∷ measure ∷ []) = variant_with glyphs base variant measure
-variant_in glyphs fields = Err FieldCount
-
--- a part: its glyph, its role, its connectors and its length
-abbrev pub part_with : List NamedGlyph → List ℕ → List ℕ → List ℕ → List ℕ → List ℕ → Step Part
-part_with glyphs name role start end full = do
-  glyph ← named_in glyphs name
-  extender ← extender_in role
-  before ← length_in start
-  after ← length_in end
-  whole ← length_in full
-  Ok (record {
-    glyph = record { 0 = glyph };
-    extender = extender;
-    start = pos before;
-    end = pos after;
-    full = pos whole;
-  })
-
--- the place of a base glyph, and one part of its assembly
-abbrev pub based_on : {X : Type 0} → List NamedGlyph → List ℕ → Step X → Step (ℕ × X)
-based_on glyphs base item = do
-  place ← named_in glyphs base
-  part ← item
-  Ok (place, part)
-
-abbrev pub part_in : List NamedGlyph → Words → Step (ℕ × Part)
-part_in glyphs (base ∷ part ∷ role ∷ start ∷ end ∷ full ∷ []) =
-    based_on glyphs base (part_with glyphs part role start end full)
-part_in glyphs fields = Err FieldCount
-
--- an operator's text and form, and what the dictionary is to say of them
-abbrev pub operator_with : List ℕ → List ℕ → List ℕ → List ℕ → Step OperatorLine
-operator_with text form category axis = do
-  spelled ← operator_text_in text
-  place ← form_in form
-  properties ← category_in category
-  direction ← axis_in axis
-  Ok (record { text = spelled; form = place; category = properties; axis = direction })
-
-abbrev pub operator_in : Words → Step OperatorLine
-operator_in (text ∷ form ∷ category ∷ axis ∷ []) = operator_with text form category axis
-operator_in fields = Err FieldCount
-
 -- ---- what a line says
 
--- a line behind the first, whose fields are read: a base glyph's place stands before its variant or
--- part, and a constant's place before its value
+-- a line behind the first, whose fields are read: a base glyph's place stands before its entry in
+-- a table, and a constant's place before its value
 pub data Item : Type 0 where
   SaysUpem : ℕ → Item
   SaysLine : ℕ × ℕ → Item
@@ -208,8 +42,7 @@ pub data Item : Type 0 where
   SaysConstant : ℕ × ℤ → Item
   SaysGlyph : NamedGlyph → Item
   SaysCharacter : ℕ × ℕ → Item
-  SaysVariant : Axis → ℕ × Variant → Item
-  SaysPart : Axis → ℕ × Part → Item
+  SaysEntry : (t : Table) → ℕ × EntryOf t → Item
   SaysOperator : OperatorLine → Item
 
 -- by the first word and the fields, where lines before have named these glyphs
@@ -221,7 +54,6 @@ item_in glyphs Overlap fields = step_map SaysOverlap (one_length_in fields)
 item_in glyphs Constant fields = step_map SaysConstant (constant_in fields)
 item_in glyphs Glyph fields = step_map SaysGlyph (glyph_in fields)
 item_in glyphs Char fields = step_map SaysCharacter (character_in glyphs fields)
-item_in glyphs (VariantOf axis) fields = step_map (SaysVariant axis) (variant_in glyphs fields)
-item_in glyphs (PartOf axis) fields = step_map (SaysPart axis) (part_in glyphs fields)
+item_in glyphs (TableOf t) fields = step_map (SaysEntry t) ((slot t).read glyphs fields)
 item_in glyphs Operator fields = step_map SaysOperator (operator_in fields)
 item_in glyphs Unknown fields = Err UnknownWord

@@ -1,70 +1,16 @@
 -- The canonical print of metrics: what a file says, in one form and one order.
-use Rattle.std.specs.Prelude.{◌≡◌, ℕ, ℤ, ◌-◌, Bool, true, false, List, [], ◌∷◌, ◌++◌, length, map, flat_map, replicate, codes, slice_index_or, Option, Some, None, Ok}
-use Rattle.std.specs.Fmt.{digits, decimal, signed_decimal}
+use Rattle.std.specs.Prelude.{◌≡◌, ℕ, ℤ, List, [], ◌∷◌, ◌++◌, length, map, flat_map, codes, Option, Some, None, Ok}
+use Rattle.std.specs.Fmt.{decimal, signed_decimal}
 use Rattle.std.specs.List.{join_with_byte, range_with_len}
 use Rattle.op_dictionary.specs.declared.extra.OperatorLine.{OperatorLine}
-use Rattle.op_dictionary.specs.declared.operator.Axis.{Axis}
-use Rattle.op_dictionary.specs.declared.operator.Axis.TheVariants.{Block, Inline}
-use Rattle.op_dictionary.specs.declared.operator.Category.{Category}
-use Rattle.op_dictionary.specs.declared.operator.Category.TheVariants.{Default, A, B, C, D, E, F, G, H, I, J, K, L, M}
-use Rattle.op_dictionary.specs.declared.operator.Form.{Form}
-use Rattle.op_dictionary.specs.declared.operator.Form.TheVariants.{Prefix, Infix, Postfix}
-use Rattle.op_dictionary.specs.declared.text.OpText.{OpText}
-use Rattle.op_dictionary.specs.declared.text.OpText.TheVariants.{Empty, One, Two, Other}
 use Rattle.font_metrics.specs.declared.glyph.Glyph.{Glyph}
-use Rattle.font_metrics.specs.declared.growth.Variant.{Variant}
-use Rattle.font_metrics.specs.declared.growth.Part.{Part}
-use Rattle.font_metrics.specs.Constants.{constant_texts}
+use Rattle.font_metrics.specs.declared.table.Table.{Table}
 use Rattle.font_metrics.specs.Lines.{Words}
-use Rattle.font_metrics.specs.Metrics.{NamedGlyph, MetricsValue, name_in_list, along, items_of}
+use Rattle.font_metrics.specs.Metrics.{NamedGlyph, MetricsValue, name_in_list, items_of}
 use Rattle.font_metrics.specs.Reading.{metrics_of}
+use Rattle.font_metrics.specs.Tables.{EntryOf, slot, entries, tables_of, all_tables}
 use Rattle.font_metrics.specs.Taken.{IsTaken}
-use Rattle.font_metrics.specs.Words.{plus}
-
--- ---- words
-
--- upper case hexadecimal digits, and zeros before them where they are fewer than 4
-abbrev pub code_text : ℕ → List ℕ
-code_text code = let numeral = digits 16 true code in replicate (4 - length numeral) 48 ++ numeral
-
--- the code of an operator's character, or its two codes, which a plus joins
-abbrev pub operator_text : OpText → List ℕ
-operator_text Empty = []
-operator_text (One letter) = code_text letter
-operator_text (Two first second) = code_text first ++ plus ∷ code_text second
-operator_text Other = []
-
-abbrev pub constant_text : ℕ → List ℕ
-constant_text place = slice_index_or constant_texts place []
-
-abbrev pub extender_text : Bool → List ℕ
-extender_text false = codes "FIX"
-extender_text true = codes "EXT"
-
-abbrev pub form_text : Form → List ℕ
-form_text Prefix = codes "prefix"
-form_text Infix = codes "infix"
-form_text Postfix = codes "postfix"
-
-abbrev pub category_text : Category → List ℕ
-category_text Default = codes "Default"
-category_text A = codes "A"
-category_text B = codes "B"
-category_text C = codes "C"
-category_text D = codes "D"
-category_text E = codes "E"
-category_text F = codes "F"
-category_text G = codes "G"
-category_text H = codes "H"
-category_text I = codes "I"
-category_text J = codes "J"
-category_text K = codes "K"
-category_text L = codes "L"
-category_text M = codes "M"
-
-abbrev pub axis_text : Axis → List ℕ
-axis_text Block = codes "block"
-axis_text Inline = codes "inline"
+pub use Rattle.font_metrics.specs.Texts.{code_text, operator_text, constant_text, extender_text, form_text, category_text, axis_text, variant_keyword, part_keyword}
 
 -- ---- the words of each kind of line
 
@@ -113,42 +59,18 @@ abbrev pub character_words : List NamedGlyph → ℕ × ℕ → Words
 character_words glyphs character =
     codes "char" ∷ code_text character.0 ∷ name_in_list glyphs character.1 ∷ []
 
--- a variant of the glyph at a place, behind the keyword of its axis
-abbrev pub variant_words : List ℕ → List NamedGlyph → ℕ → Variant → Words
-variant_words keyword glyphs place v =
-    keyword ∷ name_in_list glyphs place ∷ name_in_list glyphs v.glyph.0
-    ∷ signed_decimal v.measure ∷ []
+-- an entry of the glyph at a place in a table
+abbrev pub entry_words : (t : Table) → List NamedGlyph → ℕ → EntryOf t → Words
+entry_words t glyphs place x = (slot t).keyword ∷ name_in_list glyphs place ∷ (slot t).fields glyphs x
 
--- a part of the glyph at a place, behind the keyword of its axis
-abbrev pub part_words : List ℕ → List NamedGlyph → ℕ → Part → Words
-part_words keyword glyphs place p =
-    keyword ∷ name_in_list glyphs place ∷ name_in_list glyphs p.glyph.0
-    ∷ extender_text p.extender ∷ signed_decimal p.start ∷ signed_decimal p.end
-    ∷ signed_decimal p.full ∷ []
-
--- the keywords of the variants and of the parts along an axis
-abbrev pub variant_keyword : Axis → List ℕ
-variant_keyword Block = codes "vvariant"
-variant_keyword Inline = codes "hvariant"
-
-abbrev pub part_keyword : Axis → List ℕ
-part_keyword Block = codes "vassembly"
-part_keyword Inline = codes "hassembly"
-
--- the lines of the variants and of the parts of the glyph at a place along an axis, in file order
-abbrev pub variant_lines : MetricsValue → ℕ → Axis → List Words
-variant_lines m place axis =
-    map (variant_words (variant_keyword axis) m.glyphs place) (items_of (along axis m.variants) place)
-
-abbrev pub part_lines : MetricsValue → ℕ → Axis → List Words
-part_lines m place axis =
-    map (part_words (part_keyword axis) m.glyphs place) (items_of (along axis m.parts) place)
+-- the lines of what the glyph at a place has in a table, in file order
+abbrev pub table_lines : MetricsValue → ℕ → Table → List Words
+table_lines m place t =
+    map (entry_words t m.glyphs place) (items_of (entries t (tables_of m)) place)
 
 -- the lines of what the glyph at a place grows by
 abbrev pub growth_lines : MetricsValue → ℕ → List Words
-growth_lines m place =
-    variant_lines m place Block ++ variant_lines m place Inline
-    ++ part_lines m place Block ++ part_lines m place Inline
+growth_lines m place = flat_map (table_lines m place) all_tables
 
 abbrev pub operator_words : OperatorLine → Words
 operator_words line =

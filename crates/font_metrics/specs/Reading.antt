@@ -13,9 +13,10 @@ use Rattle.font_metrics.specs.declared.given.Given.{Given}
 use Rattle.font_metrics.specs.declared.given.Needed.{Needed}
 use Rattle.font_metrics.specs.declared.keyword.Keyword.{Keyword}
 use Rattle.font_metrics.specs.Faults.{Step, ◌>>=◌, step_map, or_fault, fault_if}
-use Rattle.font_metrics.specs.Lines.{Words, Item, SaysUpem, SaysLine, SaysXHeight, SaysOverlap, SaysConstant, SaysGlyph, SaysCharacter, SaysVariant, SaysPart, SaysOperator, keyword_of, item_in}
-use Rattle.font_metrics.specs.Metrics.{MetricsValue, along, with_item_along, is_full, place_of_name}
-use Rattle.font_metrics.specs.Taken.{most_glyphs, most_variants, most_parts}
+use Rattle.font_metrics.specs.Lines.{Words, Item, SaysUpem, SaysLine, SaysXHeight, SaysOverlap, SaysConstant, SaysGlyph, SaysCharacter, SaysEntry, SaysOperator, keyword_of, item_in}
+use Rattle.font_metrics.specs.Metrics.{MetricsValue, is_full, place_of_name}
+use Rattle.font_metrics.specs.Tables.{slot, entries, with_entry, no_tables}
+use Rattle.font_metrics.specs.Taken.{most_glyphs}
 
 -- the most bytes that a file may have: 8 MiB
 abbrev pub most_file_bytes : ℕ
@@ -69,8 +70,7 @@ nothing = record {
   constants = [];
   glyphs = [];
   characters = [];
-  variants = ([], []);
-  parts = ([], []);
+  tables = no_tables;
   operators = [];
 }
 
@@ -85,8 +85,7 @@ allowed given (SaysGlyph g) = do
   new ← fault_if (is_some (place_of_name given.glyphs g.name)) Repeated
   fault_if (nat_le most_glyphs (length given.glyphs)) TooMany
 allowed given (SaysCharacter c) = fault_if (is_some (lookup (nat_eq c.0) given.characters)) Repeated
-allowed given (SaysVariant axis v) = fault_if (is_full most_variants (along axis given.variants) v.0) TooMany
-allowed given (SaysPart axis p) = fault_if (is_full most_parts (along axis given.parts) p.0) TooMany
+allowed given (SaysEntry t x) = fault_if (is_full (slot t).most (entries t given.tables) x.0) TooMany
 allowed given (SaysOperator line) = fault_if (is_named given.operators line.text line.form) Repeated
 
 -- what is given with one item more
@@ -100,9 +99,7 @@ put given (SaysConstant c) =
 put given (SaysGlyph g) = record given { glyphs = given.glyphs ++ g ∷ [] }
 put given (SaysCharacter c) =
     record given { characters = insert_entry nat_cmp given.characters c.0 c.1 }
-put given (SaysVariant axis v) =
-    record given { variants = with_item_along axis given.variants v.0 v.1 }
-put given (SaysPart axis p) = record given { parts = with_item_along axis given.parts p.0 p.1 }
+put given (SaysEntry t x) = record given { tables = with_entry t given.tables x.0 x.1 }
 put given (SaysOperator line) = record given { operators = given.operators ++ line ∷ [] }
 
 -- what is given after the fields of a line: what they say, whether it may follow, and then with it
@@ -209,8 +206,8 @@ metrics_with needs given = record {
   constants = given.constants;
   glyphs = given.glyphs;
   characters = given.characters;
-  variants = given.variants;
-  parts = given.parts;
+  variants = given.tables.variants;
+  parts = given.tables.parts;
   operators = given.operators;
 }
 

@@ -11,7 +11,8 @@ use Rattle.font_metrics.specs.declared.given.Given.{Given}
 use Rattle.font_metrics.specs.declared.metrics.Metrics.TheInside.{Inside}
 use Rattle.font_metrics.specs.Metrics.{NamedGlyph, MetricsValue}
 use Rattle.font_metrics.specs.Reading.{needed, metrics_with}
-use Rattle.font_metrics.specs.Taken.{IsGlyph, IsConstant, IsCharacter, AreTables, IsVariant, IsPart, IsOperatorText, names_of, most_glyphs, most_variants, most_parts}
+use Rattle.font_metrics.specs.Tables.{AreFilled}
+use Rattle.font_metrics.specs.Taken.{IsGlyph, IsConstant, IsCharacter, IsOperatorText, names_of, most_glyphs}
 
 -- ---- what holds of all that lines have given: `IsTaken`, where they have given it
 
@@ -46,8 +47,7 @@ pub record IsGiven (given : Given) : Type 0 where
   pub constants : AreConstants given.constants
   pub glyphs : AreGlyphs given.glyphs
   pub characters : AreCharacters (length given.glyphs) given.characters
-  pub variants : AreTables (length given.glyphs) most_variants (IsVariant (length given.glyphs)) given.variants
-  pub parts : AreTables (length given.glyphs) most_parts (IsPart (length given.glyphs)) given.parts
+  pub tables : AreFilled (length given.glyphs) given.tables
   pub operators : AreOperators given.operators
 
 -- ---- the metrics that are kept: what lines have given, and what of it had to be there

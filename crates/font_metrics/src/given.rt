@@ -1,8 +1,7 @@
-use crate::by_axis::ByAxis;
 use crate::characters::CharacterMap;
 use crate::constant_table::ConstantTable;
 use crate::glyphs::GlyphTable;
-use crate::growth::{Part, Variant};
+use crate::table::Tables;
 use op_dictionary::Extra;
 
 /// What the lines of a file have given so far.
@@ -15,8 +14,7 @@ pub struct Given {
     pub constants: ConstantTable,
     pub glyphs: GlyphTable,
     pub characters: CharacterMap,
-    pub variants: ByAxis<Variant>,
-    pub parts: ByAxis<Part>,
+    pub tables: Tables,
     pub operators: Extra,
 }
 

@@ -1,6 +1,7 @@
 ghost use Rattle.std.specs.Prelude.{◌≡◌};
 ghost use Rattle.font_metrics.specs.Lines.{keyword_of};
 
+use crate::table::Table;
 use crate::texts::is_text;
 use op_dictionary::Axis;
 
@@ -21,10 +22,8 @@ pub enum Keyword {
     Glyph,
     /// `char`
     Char,
-    /// `vvariant`, or `hvariant`
-    Variant(Axis),
-    /// `vassembly`, or `hassembly`
-    Part(Axis),
+    /// `vvariant`, `hvariant`, `vassembly`, or `hassembly`
+    Table(Table),
     /// `operator`
     Operator,
     /// Any other word.
@@ -51,13 +50,13 @@ pub fn keyword_of(word: &[u8]) -> Keyword
     } else if is_text(word, "char") {
         Keyword::Char
     } else if is_text(word, "vvariant") {
-        Keyword::Variant(Axis::Block)
+        Keyword::Table(Table::Variants(Axis::Block))
     } else if is_text(word, "hvariant") {
-        Keyword::Variant(Axis::Inline)
+        Keyword::Table(Table::Variants(Axis::Inline))
     } else if is_text(word, "vassembly") {
-        Keyword::Part(Axis::Block)
+        Keyword::Table(Table::Parts(Axis::Block))
     } else if is_text(word, "hassembly") {
-        Keyword::Part(Axis::Inline)
+        Keyword::Table(Table::Parts(Axis::Inline))
     } else if is_text(word, "operator") {
         Keyword::Operator
     } else {

@@ -13,8 +13,9 @@
 //! - Knows nothing of: trees, styles, layout.
 //! - Laws (`specs/Laws.antt`): metrics are what the lines say, each behind those before it; the first
 //!   fault is told; whatever is given is in its range. Bounds for crates above: `proofs/Bounds.antt`.
-//! - Change a line of the format: `specs/Lines.antt`, `specs/Reading.antt` and `specs/Print.antt`,
+//! - Change a line of the format: `specs/Fields.antt`, `specs/Reading.antt` and `specs/Print.antt`,
 //!   then `src/lines.rt`, `src/said.rt`, `src/taking.rt` and the mirror `src/printed.rt`.
+//! - Add a table by glyph: a `Slot` of `specs/Tables.antt`; what is proved of tables is proved of each.
 #![tactic(auto)]
 
 mod by_axis; // ByAxis: such lists for each axis
@@ -41,6 +42,7 @@ mod read; // read_metrics
 mod reader; // line after line
 mod refusal; // MetricsFault, MetricsRefusal
 mod said; // Said: what a line says
+mod table; // Table, Tables
 mod taking; // what may be said, and is kept
 mod texts; // the texts of a choice
 mod words; // numbers, codes and names

@@ -167,7 +167,7 @@ impl Metrics {
         ensures items { All (IsVariant (length self.now.glyphs)) result.now }
         ensures few { length result.now ≤ 64 }
     {
-        self.given.variants.items(axis, glyph.0)
+        self.given.tables.variants.items(axis, glyph.0)
     }
 
     /// The parts of a glyph's assembly along an axis, in file order; at most 16.
@@ -177,7 +177,7 @@ impl Metrics {
         ensures items { All (IsPart (length self.now.glyphs)) result.now }
         ensures few { length result.now ≤ 16 }
     {
-        self.given.parts.items(axis, glyph.0)
+        self.given.tables.parts.items(axis, glyph.0)
     }
 
     /// A constant as the file gives it.

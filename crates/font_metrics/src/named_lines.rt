@@ -1,7 +1,9 @@
 ghost use Rattle.std.specs.Prelude.{◌≡◌, ◌≤◌, length};
 ghost use Rattle.font_metrics.specs.Faults.{step_map};
-ghost use Rattle.font_metrics.specs.Lines.{lent, named_in, character_with, character_in, variant_with, variant_in, based_on, part_with, part_in, SaysCharacter, SaysVariant, SaysPart};
+ghost use Rattle.font_metrics.specs.Lines.{lent, named_in, character_with, character_in, variant_with, variant_in, based_on, part_with, part_in, SaysCharacter, SaysEntry};
 ghost use Rattle.font_metrics.specs.Said.{item_of};
+ghost use Rattle.font_metrics.specs.Tables.{slot};
+ghost use Rattle.font_metrics.specs.declared.table.Table.TheVariants.{Variants, Parts};
 
 use crate::choices::extender;
 use crate::fault::LineFault;
@@ -10,6 +12,7 @@ use crate::glyphs::GlyphTable;
 use crate::growth::{Part, Variant};
 use crate::lines::length;
 use crate::said::Said;
+use crate::table::Table;
 use crate::words::{glyph_name, letter};
 use op_dictionary::Axis;
 
@@ -37,14 +40,29 @@ fn character_with<'a>(
     Ok(Said::Character((letter, place)))
 }
 
+/// A base, and the fields of an entry of the table.
+pub fn entry_line<'a>(
+    glyphs: &GlyphTable,
+    table: Table,
+    fields: &[&'a [u8]],
+) -> Result<Said<'a>, LineFault>
+    requires { length glyphs.now ≤ 65535 }
+    ensures { step_map item_of result ≡ step_map (SaysEntry table) ((slot table).read glyphs.now (lent fields.now)) }
+{
+    match table {
+        Table::Variants(axis) => variant_line(glyphs, axis, fields),
+        Table::Parts(axis) => part_line(glyphs, axis, fields),
+    }
+}
+
 /// `BASE VARIANT MEASURE`: the base's place, and its variant along the axis.
-pub fn variant_line<'a>(
+fn variant_line<'a>(
     glyphs: &GlyphTable,
     axis: Axis,
     fields: &[&'a [u8]],
 ) -> Result<Said<'a>, LineFault>
     requires { length glyphs.now ≤ 65535 }
-    ensures { step_map item_of result ≡ step_map (SaysVariant axis) (variant_in glyphs.now (lent fields.now)) }
+    ensures { step_map item_of result ≡ step_map (SaysEntry (Variants axis)) (variant_in glyphs.now (lent fields.now)) }
 {
     match fields {
         [base, variant, measure] => variant_with(glyphs, axis, base, variant, measure),
@@ -60,7 +78,7 @@ fn variant_with<'a>(
     measure: &'a [u8],
 ) -> Result<Said<'a>, LineFault>
     requires { length glyphs.now ≤ 65535 }
-    ensures { step_map item_of result ≡ step_map (SaysVariant axis)
+    ensures { step_map item_of result ≡ step_map (SaysEntry (Variants axis))
         (variant_with glyphs.now base.now variant.now measure.now) }
 {
     let place = named(glyphs, base)?;
@@ -70,13 +88,13 @@ fn variant_with<'a>(
 }
 
 /// `BASE PART FIX|EXT START END FULL`: the base's place, and a part of its assembly along the axis.
-pub fn part_line<'a>(
+fn part_line<'a>(
     glyphs: &GlyphTable,
     axis: Axis,
     fields: &[&'a [u8]],
 ) -> Result<Said<'a>, LineFault>
     requires { length glyphs.now ≤ 65535 }
-    ensures { step_map item_of result ≡ step_map (SaysPart axis) (part_in glyphs.now (lent fields.now)) }
+    ensures { step_map item_of result ≡ step_map (SaysEntry (Parts axis)) (part_in glyphs.now (lent fields.now)) }
 {
     match fields {
         [base, part, role, start, end, full] => {
@@ -95,7 +113,7 @@ fn based_on<'a>(
     part: Result<Part, LineFault>,
 ) -> Result<Said<'a>, LineFault>
     requires { length glyphs.now ≤ 65535 }
-    ensures { step_map item_of result ≡ step_map (SaysPart axis) (based_on glyphs.now base.now part) }
+    ensures { step_map item_of result ≡ step_map (SaysEntry (Parts axis)) (based_on glyphs.now base.now part) }
 {
     let place = named(glyphs, base)?;
     let part = part?;

@@ -2,8 +2,9 @@ ghost use Rattle.std.specs.Prelude.{◌≡◌, ◌<◌, [], ◌++◌, All, lengt
 ghost use Rattle.std.specs.List.{range_with_len};
 ghost use Rattle.op_dictionary.specs.Pairs.{IsLineText};
 ghost use Rattle.font_metrics.specs.Metrics.{variants_of, parts_of};
-ghost use Rattle.font_metrics.specs.Print.{constant_words, glyph_words, character_words, variant_keyword, variant_words, part_keyword, part_words, growth_lines, operator_words, header_lines, line_text, print_of};
+ghost use Rattle.font_metrics.specs.Print.{constant_words, glyph_words, character_words, entry_words, growth_lines, operator_words, header_lines, line_text, print_of};
 ghost use Rattle.font_metrics.specs.Reading.{metrics_of};
+ghost use Rattle.font_metrics.specs.declared.table.Table.TheVariants.{Variants, Parts};
 
 use crate::constant_table::ConstantTable;
 use crate::glyph::GlyphId;
@@ -84,7 +85,7 @@ impl Metrics {
     ) -> Result<(), Memory>
         requires { base.0 < length self.now.glyphs }
         ensures { OnOk result (lines.new ≡ lines.old ++ flat_map line_text
-            (map (variant_words (variant_keyword axis) self.now.glyphs base.0) (variants_of self.now base.0 axis))) }
+            (map (entry_words (Variants axis) self.now.glyphs base.0) (variants_of self.now base.0 axis))) }
     {
         let keyword = variant_keyword(axis);
         let name = self.name(base);
@@ -97,7 +98,7 @@ impl Metrics {
     fn print_parts(&self, base: GlyphId, axis: Axis, lines: &mut PrintedLines) -> Result<(), Memory>
         requires { base.0 < length self.now.glyphs }
         ensures { OnOk result (lines.new ≡ lines.old ++ flat_map line_text
-            (map (part_words (part_keyword axis) self.now.glyphs base.0) (parts_of self.now base.0 axis))) }
+            (map (entry_words (Parts axis) self.now.glyphs base.0) (parts_of self.now base.0 axis))) }
     {
         let keyword = part_keyword(axis);
         let name = self.name(base);

@@ -11,7 +11,7 @@ use crate::keyword::Keyword;
 use crate::lines::{
     constant_line, extent_line, glyph_line, operator_line, overlap_line, upem_line, x_height_line,
 };
-use crate::named_lines::{character_line, part_line, variant_line};
+use crate::named_lines::{character_line, entry_line};
 use op_dictionary::{Axis, OperatorLine};
 
 /// What a line behind the first says. A glyph is given by its place.
@@ -54,8 +54,7 @@ pub fn line_says<'a>(
         Keyword::Constant => constant_line(fields),
         Keyword::Glyph => glyph_line(fields),
         Keyword::Char => character_line(glyphs, fields),
-        Keyword::Variant(axis) => variant_line(glyphs, axis, fields),
-        Keyword::Part(axis) => part_line(glyphs, axis, fields),
+        Keyword::Table(table) => entry_line(glyphs, table, fields),
         Keyword::Operator => operator_line(fields),
         Keyword::Unknown => Err(LineFault::UnknownWord),
     }

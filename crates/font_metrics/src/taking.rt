@@ -4,13 +4,13 @@ ghost use Rattle.op_dictionary.specs.Pairs.{IsLineText};
 ghost use Rattle.font_metrics.specs.Reading.{nothing, allowed, put};
 ghost use Rattle.font_metrics.specs.Said.{item_of, HasLineText};
 
-use crate::by_axis::ByAxis;
 use crate::characters::CharacterMap;
 use crate::constant_table::ConstantTable;
 use crate::fault::{LineFault, fault_if};
 use crate::given::Given;
 use crate::glyphs::GlyphTable;
 use crate::said::Said;
+use crate::table::Tables;
 use fixed_units::Memory;
 use op_dictionary::{Extra, OperatorLine};
 use std::alloc::Global;
@@ -35,8 +35,7 @@ impl Given {
             constants: ConstantTable::new(alloc),
             glyphs: GlyphTable::new(alloc),
             characters: CharacterMap::new(alloc),
-            variants: ByAxis::new(alloc),
-            parts: ByAxis::new(alloc),
+            tables: Tables::new(alloc),
             operators: Extra::make(alloc),
         }
     }
@@ -61,11 +60,11 @@ impl Given {
                 fault_if(self.characters.place(letter).is_some(), LineFault::Repeated)
             },
             Said::Variant(axis, (place, _)) => {
-                let count = self.variants.items(axis, place).len();
+                let count = self.tables.variants.items(axis, place).len();
                 fault_if(count >= MOST_VARIANTS, LineFault::TooMany)
             }
             Said::Part(axis, (place, _)) => {
-                let count = self.parts.items(axis, place).len();
+                let count = self.tables.parts.items(axis, place).len();
                 fault_if(count >= MOST_PARTS, LineFault::TooMany)
             }
             Said::Operator(line) => {
@@ -104,9 +103,9 @@ impl Given {
             Said::Glyph((name, measures)) => self.glyphs.add(alloc, name, measures),
             Said::Character((letter, place)) => self.characters.add(letter, place),
             Said::Variant(axis, (place, variant)) => {
-                self.variants.add(alloc, axis, place, variant)
+                self.tables.variants.add(alloc, axis, place, variant)
             }
-            Said::Part(axis, (place, part)) => self.parts.add(alloc, axis, place, part),
+            Said::Part(axis, (place, part)) => self.tables.parts.add(alloc, axis, place, part),
             Said::Operator(line) => add_operator(&mut self.operators, line),
         }
     }

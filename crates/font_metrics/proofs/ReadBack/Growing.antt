@@ -1,20 +1,22 @@
 -- The printed variants and parts, glyph by glyph.
-use Rattle.std.proofs.Common.{◌≡◌, ap, sym, ℕ, ◌≤◌, ◌<◌, ◌+◌, zero, suc, List, [], ◌∷◌, length, map, flat_map, All, codes, nat_eq, arith, inl, inr, add-zero}
+use Rattle.std.proofs.Common.{◌≡◌, ap, sym, refl, subst, ℕ, ◌≤◌, ◌<◌, ◌+◌, zero, suc, List, [], ◌∷◌, length, map, flat_map, All, nat_eq, arith, inl, inr, add-zero}
 use Rattle.std.specs.List.{AllByRecursion, range_with_len}
 use Rattle.std.proofs.lemmas.Bool.{cases_Bool}
 use Rattle.std.proofs.lemmas.List.Elements.{recursion_from_All, All-nil}
-use Rattle.op_dictionary.specs.declared.operator.Axis.{Axis}
 use Rattle.op_dictionary.specs.declared.operator.Axis.TheVariants.{Block, Inline}
-use Rattle.font_metrics.specs.declared.growth.Variant.{Variant}
-use Rattle.font_metrics.specs.declared.growth.Part.{Part}
-use Rattle.font_metrics.specs.Metrics.{MetricsValue, ByGlyph, ByAxis, along, with_along, items_of, with_item}
-use Rattle.font_metrics.specs.Print.{variant_words, part_words, variant_lines, part_lines, growth_lines}
+use Rattle.font_metrics.specs.declared.table.Table.{Table}
+use Rattle.font_metrics.specs.declared.table.Table.TheVariants.{Variants, Parts}
+use Rattle.font_metrics.specs.declared.table.Tables.{Tables}
+use Rattle.font_metrics.specs.Metrics.{MetricsValue, ByGlyph, items_of, with_item}
+use Rattle.font_metrics.specs.Print.{entry_words, table_lines, growth_lines}
 use Rattle.font_metrics.specs.declared.given.Given.{Given}
-use Rattle.font_metrics.specs.Taken.{IsVariant, IsPart, IsEntry, IsTable, AreTables, most_variants, most_parts}
+use Rattle.font_metrics.specs.Tables.{EntryOf, slot, entries, tables_of, AreFilled}
+use Rattle.font_metrics.specs.Taken.{IsEntry, IsTable}
 use Rattle.font_metrics.proofs.ReadBack.Fields.{AreNamed}
 use Rattle.font_metrics.proofs.ReadBack.Following.{Follows, follows-append, follows-to, items-follow}
 use Rattle.font_metrics.proofs.ReadBack.Tables.{AreBelow, with_items, below, below-keys, below-more, below-all}
-use Rattle.font_metrics.proofs.ReadBack.Taking.{Takes, variant-taken, part-taken}
+use Rattle.font_metrics.proofs.ReadBack.Taking.{Takes, takes-to, entry-taken}
+use Rattle.font_metrics.proofs.Slots.{at-put, entry-at-put}
 
 -- ---- what a table has at a place
 
@@ -68,79 +70,61 @@ at-place put words count most Is table place h adds =
     (items-follow put words most Is (below place table) place (items_of table place) (below-keys place table) adds
     entries.0 entries.1)
 
--- ---- the tables along both axes
-
-pub record AreGrown (m : MetricsValue) : Type 0 where
-  pub variants : AreTables (length m.glyphs) most_variants (IsVariant (length m.glyphs)) m.variants
-  pub parts : AreTables (length m.glyphs) most_parts (IsPart (length m.glyphs)) m.parts
+-- ---- all tables
 
 -- what is given with the glyphs of the metrics and these tables
-abbrev pub grown : Given → MetricsValue → ByAxis Variant → ByAxis Part → Given
-grown given m variants parts = record given { glyphs = m.glyphs; variants = variants; parts = parts }
+abbrev pub grown : Given → MetricsValue → Tables → Given
+grown given m tables = record given { glyphs = m.glyphs; tables = tables }
 
--- what is given once the glyphs below a place have their lines
-abbrev pub both-below : {X : Type 0} → ℕ → ByAxis X → ByAxis X
-both-below place tables = (below place tables.0, below place tables.1)
+-- what the tables have at the places below a place
+abbrev pub tables-below : ℕ → Tables → Tables
+tables-below place tables = record {
+  variants = (below place tables.variants.0, below place tables.variants.1);
+  parts = (below place tables.parts.0, below place tables.parts.1);
+}
 
 abbrev pub grown_to : Given → MetricsValue → ℕ → Given
-grown_to given m place = grown given m (both-below place m.variants) (both-below place m.parts)
+grown_to given m place = grown given m (tables-below place (tables_of m))
 
--- the lines of a place take the table along an axis to the next place
-variants-grow : (given : Given) (m : MetricsValue) (axis : Axis) (place : ℕ) (tables : ByAxis Variant)
-    (parts : ByAxis Part) → AreNamed m.glyphs → AreGrown m → place < length m.glyphs
-    → Follows (grown given m (with_along axis tables (below place (along axis m.variants))) parts)
-    (variant_lines m place axis)
-    (grown given m (with_along axis tables (below (place + 1) (along axis m.variants))) parts)
-variants-grow given m Block place tables parts n h low =
+-- the lines of a place in a table take it to the next place, and leave the others
+table-grows : (given : Given) (m : MetricsValue) (t : Table) (place : ℕ) (tables : Tables) → AreNamed m.glyphs
+    → AreFilled (length m.glyphs) (tables_of m) → place < length m.glyphs
+    → Follows (grown given m ((slot t).put tables (below place (entries t (tables_of m)))))
+    (table_lines m place t)
+    (grown given m ((slot t).put tables (below (place + 1) (entries t (tables_of m)))))
+table-grows given m t place tables n h low =
     let count = length m.glyphs in
-    at-place (λ t. grown given m (t, tables.1) parts) (variant_words (codes "vvariant") m.glyphs place) count
-    most_variants (IsVariant count) m.variants.0 place h.variants.0
-    (λ had v is room. variant-taken (grown given m (had, tables.1) parts) Block place v n low is room)
-variants-grow given m Inline place tables parts n h low =
-    let count = length m.glyphs in
-    at-place (λ t. grown given m (tables.0, t) parts) (variant_words (codes "hvariant") m.glyphs place) count
-    most_variants (IsVariant count) m.variants.1 place h.variants.1
-    (λ had v is room. variant-taken (grown given m (tables.0, had) parts) Inline place v n low is room)
+    at-place (λ table. grown given m ((slot t).put tables table)) (entry_words t m.glyphs place) count (slot t).most
+    ((slot t).Is count) (entries t (tables_of m)) place (h t)
+    (λ had x is room.
+    let given' = grown given m ((slot t).put tables had) in
+    takes-to given' (entry_words t m.glyphs place x) _ _ (ap (grown given m) (entry-at-put t tables had place x))
+    (entry-taken given' t place x n low is
+    (subst (λ (table : ByGlyph (EntryOf t)). length (items_of table place) < (slot t).most) (sym (at-put t tables had)) room)))
 
-parts-grow : (given : Given) (m : MetricsValue) (axis : Axis) (place : ℕ) (variants : ByAxis Variant)
-    (tables : ByAxis Part) → AreNamed m.glyphs → AreGrown m → place < length m.glyphs
-    → Follows (grown given m variants (with_along axis tables (below place (along axis m.parts))))
-    (part_lines m place axis)
-    (grown given m variants (with_along axis tables (below (place + 1) (along axis m.parts))))
-parts-grow given m Block place variants tables n h low =
-    let count = length m.glyphs in
-    at-place (λ t. grown given m variants (t, tables.1)) (part_words (codes "vassembly") m.glyphs place) count
-    most_parts (IsPart count) m.parts.0 place h.parts.0
-    (λ had p is room. part-taken (grown given m variants (had, tables.1)) Block place p n low is room)
-parts-grow given m Inline place variants tables n h low =
-    let count = length m.glyphs in
-    at-place (λ t. grown given m variants (tables.0, t)) (part_words (codes "hassembly") m.glyphs place) count
-    most_parts (IsPart count) m.parts.1 place h.parts.1
-    (λ had p is room. part-taken (grown given m variants (tables.0, had)) Inline place p n low is room)
-
--- the four lists of a place in turn take the tables to the next place
-grows-at : (given : Given) (m : MetricsValue) (place : ℕ) → AreNamed m.glyphs → AreGrown m
-    → place < length m.glyphs
+-- the lists of a place in turn take all tables to the next place
+grows-at : (given : Given) (m : MetricsValue) (place : ℕ) → AreNamed m.glyphs
+    → AreFilled (length m.glyphs) (tables_of m) → place < length m.glyphs
     → Follows (grown_to given m place) (growth_lines m place) (grown_to given m (place + 1))
 grows-at given m place n h low =
-    let v = both-below place m.variants in
-    let v' = both-below (place + 1) m.variants in
-    let p = both-below place m.parts in
-    let p' = both-below (place + 1) m.parts in
-    let none = grown given m v p in
-    let one = grown given m (v'.0, v.1) p in
-    let two = grown given m v' p in
-    let three = grown given m v' (p'.0, p.1) in
-    let four = grown given m v' p' in
-    follows-append none three four _ _
-    (follows-append none two three _ _
-    (follows-append none one two _ _ (variants-grow given m Block place v p n h low)
-    (variants-grow given m Inline place (v'.0, v.1) p n h low))
-    (parts-grow given m Block place v' p n h low))
-    (parts-grow given m Inline place v' (p'.0, p.1) n h low)
+    let all = tables_of m in
+    let none = tables-below place all in
+    let next = λ (t : Table). below (place + 1) (entries t all) in
+    let one = (slot (Variants Block)).put none (next (Variants Block)) in
+    let two = (slot (Variants Inline)).put one (next (Variants Inline)) in
+    let three = (slot (Parts Block)).put two (next (Parts Block)) in
+    let four = (slot (Parts Inline)).put three (next (Parts Inline)) in
+    follows-append (grown given m none) (grown given m one) (grown given m four) (table_lines m place (Variants Block)) _
+    (table-grows given m (Variants Block) place none n h low)
+    (follows-append (grown given m one) (grown given m two) (grown given m four) (table_lines m place (Variants Inline)) _
+    (table-grows given m (Variants Inline) place one n h low)
+    (follows-append (grown given m two) (grown given m three) (grown given m four) (table_lines m place (Parts Block)) _
+    (table-grows given m (Parts Block) place two n h low)
+    (follows-append (grown given m three) (grown given m four) (grown given m four) (table_lines m place (Parts Inline)) []
+    (table-grows given m (Parts Inline) place three n h low) refl)))
 
-pub grows-from : (given : Given) (m : MetricsValue) (from count : ℕ) → AreNamed m.glyphs → AreGrown m
-    → from + count ≤ length m.glyphs
+pub grows-from : (given : Given) (m : MetricsValue) (from count : ℕ) → AreNamed m.glyphs
+    → AreFilled (length m.glyphs) (tables_of m) → from + count ≤ length m.glyphs
     → Follows (grown_to given m from) (flat_map (growth_lines m) (range_with_len from count))
     (grown_to given m (from + count))
 grows-from given m from zero n h few = ap (grown_to given m) (sym (add-zero from))

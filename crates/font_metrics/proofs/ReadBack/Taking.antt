@@ -4,22 +4,24 @@ use Rattle.std.specs.BTreeMap.{insert_entry}
 use Rattle.std.specs.Fmt.{signed_decimal}
 use Rattle.std.specs.List.{list_all, join_with_byte}
 use Rattle.std.specs.Map.{lookup}
-use Rattle.std.proofs.lemmas.Bool.{lt-leb}
+use Rattle.std.proofs.lemmas.Bool.{lt-leb, and_from}
 use Rattle.std.proofs.lemmas.Int.{ints}
 use Rattle.op_dictionary.specs.declared.extra.OperatorLine.{OperatorLine}
-use Rattle.op_dictionary.specs.declared.operator.Axis.{Axis}
 use Rattle.op_dictionary.specs.declared.operator.Axis.TheVariants.{Block, Inline}
 use Rattle.op_dictionary.specs.Dictionary.{is_named}
-use Rattle.font_metrics.specs.declared.growth.Variant.{Variant}
-use Rattle.font_metrics.specs.declared.growth.Part.{Part}
 use Rattle.font_metrics.specs.declared.given.Given.{Given}
 use Rattle.font_metrics.specs.declared.keyword.Keyword.{Keyword}
-use Rattle.font_metrics.specs.Faults.{◌>>=◌}
-use Rattle.font_metrics.specs.Lines.{Words, Item, SaysUpem, SaysLine, SaysXHeight, SaysOverlap, SaysConstant, SaysGlyph, SaysCharacter, SaysVariant, SaysPart, SaysOperator, keyword_of, item_in}
-use Rattle.font_metrics.specs.Metrics.{NamedGlyph, along, with_item_along, name_in_list, items_of, place_of_name}
-use Rattle.font_metrics.specs.Print.{upem_words, line_words, x_height_words, constant_text, constant_words, accent_words, glyph_words, code_text, character_words, variant_keyword, variant_words, extender_text, part_keyword, part_words, operator_text, form_text, category_text, axis_text, operator_words}
+use Rattle.font_metrics.specs.declared.keyword.Keyword.TheVariants.{Table as TableOf}
+use Rattle.font_metrics.specs.declared.fault.LineFault.TheVariants.{TooMany}
+use Rattle.font_metrics.specs.declared.table.Table.{Table}
+use Rattle.font_metrics.specs.declared.table.Table.TheVariants.{Variants, Parts}
+use Rattle.font_metrics.specs.Faults.{◌>>=◌, step_map, fault_if}
+use Rattle.font_metrics.specs.Lines.{Words, Item, SaysUpem, SaysLine, SaysXHeight, SaysOverlap, SaysConstant, SaysGlyph, SaysCharacter, SaysEntry, SaysOperator, keyword_of, item_in}
+use Rattle.font_metrics.specs.Metrics.{NamedGlyph, name_in_list, items_of, place_of_name}
+use Rattle.font_metrics.specs.Print.{upem_words, line_words, x_height_words, constant_text, constant_words, accent_words, glyph_words, code_text, character_words, entry_words, operator_text, form_text, category_text, axis_text, operator_words}
 use Rattle.font_metrics.specs.Reading.{is_comment, allowed, put, after_fields, after}
-use Rattle.font_metrics.specs.Taken.{IsGlyph, IsConstant, IsCharacter, IsVariant, IsPart, IsReach, IsLength, IsOperatorText, most_glyphs, most_variants, most_parts}
+use Rattle.font_metrics.specs.Tables.{EntryOf, slot, entries, with_entry}
+use Rattle.font_metrics.specs.Taken.{IsGlyph, IsConstant, IsCharacter, IsReach, IsLength, IsOperatorText, most_glyphs}
 use Rattle.font_metrics.proofs.ReadBack.Choices.{constant-word}
 use Rattle.font_metrics.proofs.ReadBack.Decimal.{natural_in-decimal}
 use Rattle.font_metrics.proofs.ReadBack.Fields.{AreNamed, bounds, constant_in-printed, glyph_in-printed, character_in-printed, variant_in-printed, part_in-printed, operator_in-printed}
@@ -156,43 +158,15 @@ character-taken given c n h new =
     (SaysCharacter c) (character-words given.glyphs c n h) refl
     (rw (character_in-printed given.glyphs c n h.0 h.1) refl) (rw new refl)
 
--- ---- variants and parts
+-- ---- entries of tables
 
-variant-fields : (glyphs : List NamedGlyph) (place : ℕ) (v : Variant) → AreNamed glyphs
-    → place < length glyphs → IsVariant (length glyphs) v
-    → list_all is_word (name_in_list glyphs place ∷ name_in_list glyphs v.glyph.0 ∷ signed_decimal v.measure ∷ [])
-    ≡ true
-variant-fields glyphs place v n low h =
-    rw (place-word glyphs place n low, place-word glyphs v.glyph.0 n h.glyph, length-word v.measure h.measure)
-    refl
-
-pub variant-taken : (given : Given) (axis : Axis) (place : ℕ) (v : Variant) → AreNamed given.glyphs
-    → place < length given.glyphs → IsVariant (length given.glyphs) v
-    → length (items_of (along axis given.variants) place) < most_variants
-    → Takes given (variant_words (variant_keyword axis) given.glyphs place v)
-    (record given { variants = with_item_along axis given.variants place v })
-unfolding keyword_of
-variant-taken given Block place v n low h room =
-    takes given (codes "vvariant")
-    (name_in_list given.glyphs place ∷ name_in_list given.glyphs v.glyph.0 ∷ signed_decimal v.measure ∷ [])
-    (SaysVariant Block (place, v)) (variant-fields given.glyphs place v n low h) refl
-    (rw (variant_in-printed given.glyphs place v n low h) refl)
-    (rw (lt-leb most_variants (length (items_of given.variants.0 place)) room) refl)
-variant-taken given Inline place v n low h room =
-    takes given (codes "hvariant")
-    (name_in_list given.glyphs place ∷ name_in_list given.glyphs v.glyph.0 ∷ signed_decimal v.measure ∷ [])
-    (SaysVariant Inline (place, v)) (variant-fields given.glyphs place v n low h) refl
-    (rw (variant_in-printed given.glyphs place v n low h) refl)
-    (rw (lt-leb most_variants (length (items_of given.variants.1 place)) room) refl)
-
-part-fields : (glyphs : List NamedGlyph) (place : ℕ) (p : Part) → AreNamed glyphs
-    → place < length glyphs → IsPart (length glyphs) p
-    → list_all is_word (name_in_list glyphs place ∷ name_in_list glyphs p.glyph.0 ∷ extender_text p.extender
-    ∷ signed_decimal p.start ∷ signed_decimal p.end ∷ signed_decimal p.full ∷ [])
-    ≡ true
-part-fields glyphs place p n low h =
+-- the fields behind a base glyph are words
+entry-fields : (t : Table) (glyphs : List NamedGlyph) (x : EntryOf t) → AreNamed glyphs → (slot t).Is (length glyphs) x
+    → list_all is_word ((slot t).fields glyphs x) ≡ true
+entry-fields (Variants axis) glyphs v n h =
+    rw (place-word glyphs v.glyph.0 n h.glyph, length-word v.measure h.measure) refl
+entry-fields (Parts axis) glyphs p n h =
     rw (
-      place-word glyphs place n low,
       place-word glyphs p.glyph.0 n h.glyph,
       extender-word p.extender,
       length-word p.start h.start,
@@ -200,26 +174,40 @@ part-fields glyphs place p n low h =
       length-word p.full h.full,
     ) refl
 
-pub part-taken : (given : Given) (axis : Axis) (place : ℕ) (p : Part) → AreNamed given.glyphs
-    → place < length given.glyphs → IsPart (length given.glyphs) p
-    → length (items_of (along axis given.parts) place) < most_parts
-    → Takes given (part_words (part_keyword axis) given.glyphs place p)
-    (record given { parts = with_item_along axis given.parts place p })
+-- and give the entry
+entry_in-printed : (t : Table) (glyphs : List NamedGlyph) (place : ℕ) (x : EntryOf t) → AreNamed glyphs
+    → place < length glyphs → (slot t).Is (length glyphs) x
+    → (slot t).read glyphs (name_in_list glyphs place ∷ (slot t).fields glyphs x) ≡ Ok (place, x)
+entry_in-printed (Variants axis) glyphs place v n low h = variant_in-printed glyphs place v n low h
+entry_in-printed (Parts axis) glyphs place p n low h = part_in-printed glyphs place p n low h
+
+-- a keyword is a word that names its table, and begins no comment
+record IsKeyword (t : Table) : Type 0 where
+  word : is_word (slot t).keyword ≡ true
+  names : keyword_of (slot t).keyword ≡ TableOf t
+  other : (word : List ℕ) (words : Words) → is_comment (join_with_byte 32 ((slot t).keyword ∷ word ∷ words)) ≡ false
+
+keyword : (t : Table) → IsKeyword t
 unfolding keyword_of
-part-taken given Block place p n low h room =
-    takes given (codes "vassembly")
-    (name_in_list given.glyphs place ∷ name_in_list given.glyphs p.glyph.0 ∷ extender_text p.extender
-    ∷ signed_decimal p.start ∷ signed_decimal p.end ∷ signed_decimal p.full ∷ [])
-    (SaysPart Block (place, p)) (part-fields given.glyphs place p n low h) refl
-    (rw (part_in-printed given.glyphs place p n low h) refl)
-    (rw (lt-leb most_parts (length (items_of given.parts.0 place)) room) refl)
-part-taken given Inline place p n low h room =
-    takes given (codes "hassembly")
-    (name_in_list given.glyphs place ∷ name_in_list given.glyphs p.glyph.0 ∷ extender_text p.extender
-    ∷ signed_decimal p.start ∷ signed_decimal p.end ∷ signed_decimal p.full ∷ [])
-    (SaysPart Inline (place, p)) (part-fields given.glyphs place p n low h) refl
-    (rw (part_in-printed given.glyphs place p n low h) refl)
-    (rw (lt-leb most_parts (length (items_of given.parts.1 place)) room) refl)
+keyword (Variants Block) = record { word = refl; names = refl; other = λ word words. refl }
+keyword (Variants Inline) = record { word = refl; names = refl; other = λ word words. refl }
+keyword (Parts Block) = record { word = refl; names = refl; other = λ word words. refl }
+keyword (Parts Inline) = record { word = refl; names = refl; other = λ word words. refl }
+
+pub entry-taken : (given : Given) (t : Table) (place : ℕ) (x : EntryOf t) → AreNamed given.glyphs
+    → place < length given.glyphs → (slot t).Is (length given.glyphs) x
+    → length (items_of (entries t given.tables) place) < (slot t).most
+    → Takes given (entry_words t given.glyphs place x)
+    (record given { tables = with_entry t given.tables place x })
+entry-taken given t place x n low h room =
+    let k = keyword t in
+    let fields = name_in_list given.glyphs place ∷ (slot t).fields given.glyphs x in
+    takes given (slot t).keyword fields (SaysEntry t (place, x))
+    (and_from _ _ k.word (and_from _ _ (place-word given.glyphs place n low) (entry-fields t given.glyphs x n h)))
+    (k.other (name_in_list given.glyphs place) ((slot t).fields given.glyphs x))
+    (ap (λ (key : Keyword). item_in given.glyphs key fields) k.names
+    ∙ ap (step_map (SaysEntry t)) (entry_in-printed t given.glyphs place x n low h))
+    (ap (λ b. fault_if b TooMany) (lt-leb (slot t).most (length (items_of (entries t given.tables) place)) room))
 
 -- ---- operators
 

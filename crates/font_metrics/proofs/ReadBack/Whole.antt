@@ -1,18 +1,21 @@
 -- Reading the print of metrics gives the same metrics.
 use Rattle.std.proofs.Common.{◌≡◌, ◌∙◌, ap, refl, ℕ, ◌≤◌, ◌+◌, true, List, [], ◌∷◌, ◌++◌, length, map, flat_map, codes, Option, Some, None, IfSome, IsSome, Ok, arith, zero-add}
 use Rattle.std.specs.List.{join_with_byte, range_with_len}
+use Rattle.op_dictionary.specs.declared.operator.Axis.TheVariants.{Block, Inline}
 use Rattle.font_metrics.specs.declared.given.Given.{Given}
+use Rattle.font_metrics.specs.declared.table.Table.TheVariants.{Variants, Parts}
 use Rattle.font_metrics.specs.Faults.{step_map}
 use Rattle.font_metrics.specs.Lines.{Words}
 use Rattle.font_metrics.specs.Metrics.{MetricsValue, place_of_name}
 use Rattle.font_metrics.specs.Print.{version_words, upem_words, line_words, x_height_words, overlap_lines, constant_words, glyph_words, character_words, growth_lines, operator_words, line_text, print_of, PrintReadsBack}
 use Rattle.font_metrics.specs.Reading.{lines_of, nothing, is_foreign, words_of, after, after_first, kept, given_from, given_by, fault_or, first_fault_behind, needed_of, metrics_with, finished, numbered, metrics_or, metrics_of}
+use Rattle.font_metrics.specs.Tables.{no_tables, tables_of, AreFilled}
 use Rattle.font_metrics.specs.Taken.{IsTaken, IsVariant, IsPart, most_variants, most_parts}
 use Rattle.font_metrics.proofs.Forward.{given_from-push}
 use Rattle.font_metrics.proofs.ReadBack.Feeds.{are_words, lines-printed}
 use Rattle.font_metrics.proofs.ReadBack.Fields.{AreNamed}
 use Rattle.font_metrics.proofs.ReadBack.Following.{Follows, follows-append, follows-to, follows-words, constants-follow, glyphs-follow, characters-follow, operators-follow}
-use Rattle.font_metrics.proofs.ReadBack.Growing.{AreGrown, grown, grown_to, grows-from, table-all}
+use Rattle.font_metrics.proofs.ReadBack.Growing.{grown, grown_to, grows-from, table-all}
 use Rattle.font_metrics.proofs.ReadBack.Tables.{below-zero}
 use Rattle.font_metrics.proofs.ReadBack.Taking.{upem-taken, line-taken, x_height-taken, overlap-taken}
 
@@ -67,8 +70,7 @@ given_for m = record {
   constants = m.constants;
   glyphs = m.glyphs;
   characters = m.characters;
-  variants = m.variants;
-  parts = m.parts;
+  tables = tables_of m;
   operators = m.operators;
 }
 
@@ -100,15 +102,18 @@ overlap-follows given (Some least) h =
 are-named : (m : MetricsValue) → IsTaken m → AreNamed m.glyphs
 are-named m h = record { distinct = h.names; names = λ place low. (h.glyphs place _ low).name }
 
-are-grown : (m : MetricsValue) → IsTaken m → AreGrown m
-are-grown m h = record { variants = h.variants; parts = h.parts }
+are-filled : (m : MetricsValue) → IsTaken m → AreFilled (length m.glyphs) (tables_of m)
+are-filled m h (Variants Block) = h.variants.0
+are-filled m h (Variants Inline) = h.variants.1
+are-filled m h (Parts Block) = h.parts.0
+are-filled m h (Parts Inline) = h.parts.1
 
-growth-none : (given : Given) (m : MetricsValue) → grown given m ([], []) ([], []) ≡ grown_to given m 0
+growth-none : (given : Given) (m : MetricsValue) → grown given m no_tables ≡ grown_to given m 0
 growth-none given m =
     rw (below-zero m.variants.0, below-zero m.variants.1, below-zero m.parts.0, below-zero m.parts.1) refl
 
 growth-all : (given : Given) (m : MetricsValue) → IsTaken m
-    → grown_to given m (length m.glyphs) ≡ grown given m m.variants m.parts
+    → grown_to given m (length m.glyphs) ≡ grown given m (tables_of m)
 growth-all given m h =
     let count = length m.glyphs in
     rw (
@@ -119,12 +124,12 @@ growth-all given m h =
     ) refl
 
 growth-follows : (given : Given) (m : MetricsValue) → IsTaken m
-    → Follows (grown given m ([], []) ([], []))
+    → Follows (grown given m no_tables)
     (flat_map (growth_lines m) (range_with_len 0 (length m.glyphs)))
-    (grown given m m.variants m.parts)
+    (grown given m (tables_of m))
 growth-follows given m h =
     let count = length m.glyphs in
-    let grows = grows-from given m 0 count (are-named m h) (are-grown m h) (omega arith) in
+    let grows = grows-from given m 0 count (are-named m h) (are-filled m h) (omega arith) in
     rw (growth-none given m)
     (follows-to (grown_to given m 0) (grown_to given m (0 + count)) _ _
     (ap (grown_to given m) (zero-add count) ∙ growth-all given m h) grows)
@@ -151,7 +156,7 @@ printed-follows m h =
     let constants = record overlap { constants = m.constants } in
     let glyphs = record constants { glyphs = m.glyphs } in
     let characters = record glyphs { characters = m.characters } in
-    let growth = grown characters m m.variants m.parts in
+    let growth = grown characters m (tables_of m) in
     let glyph_by_glyph = flat_map (growth_lines m) (range_with_len 0 (length m.glyphs)) in
     let first = upem_words m.upem ∷ line_words m.line_ascent m.line_descent ∷ x_height_words m.x_height ∷ [] in
     let front = first ++ overlap_lines m.overlap in

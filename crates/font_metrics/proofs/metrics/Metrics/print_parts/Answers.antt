@@ -1,13 +1,14 @@
 use Rattle.std.proofs.lemmas.Option.{slice_get-get_or}
 use Rattle.font_metrics.specs.Metrics.{name_at}
-use Rattle.font_metrics.specs.Print.{part_keyword, part_words}
+use Rattle.font_metrics.specs.declared.table.Table.TheVariants.{Parts}
+use Rattle.font_metrics.specs.Print.{entry_words}
 use Rattle.font_metrics.proofs.Printing.{front-more}
 use Rattle.font_metrics.proofs.metrics.Metrics.print_parts.Goals as goal
 
 pub loop-part-preserved : goal.loop-part-preserved
 unfolding name_at
 loop-part-preserved c =
-    front-more (part_words (part_keyword c.args.axis) c.args.self.now.glyphs c.args.base.0)
+    front-more (entry_words (Parts c.args.axis) c.args.self.now.glyphs c.args.base.0)
     c.assembly-part-items.result.now c.loop-part.part-index _ _ _ _
     (slice_get-get_or c.assembly-part-items.result.now c.loop-part.part-index _ c.loop-part-test.true)
     c.loop-part.invariant (rw (c.name-name.ensures, c.name.ensures, c.part_keyword-keyword.ensures) at c.in_ok-add_part.ensures)

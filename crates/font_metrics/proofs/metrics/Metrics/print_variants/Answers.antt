@@ -1,13 +1,14 @@
 use Rattle.std.proofs.lemmas.Option.{slice_get-get_or}
 use Rattle.font_metrics.specs.Metrics.{name_at}
-use Rattle.font_metrics.specs.Print.{variant_keyword, variant_words}
+use Rattle.font_metrics.specs.declared.table.Table.TheVariants.{Variants}
+use Rattle.font_metrics.specs.Print.{entry_words}
 use Rattle.font_metrics.proofs.Printing.{front-more}
 use Rattle.font_metrics.proofs.metrics.Metrics.print_variants.Goals as goal
 
 pub loop-variant-preserved : goal.loop-variant-preserved
 unfolding name_at
 loop-variant-preserved c =
-    front-more (variant_words (variant_keyword c.args.axis) c.args.self.now.glyphs c.args.base.0)
+    front-more (entry_words (Variants c.args.axis) c.args.self.now.glyphs c.args.base.0)
     c.variants-variant-items.result.now c.loop-variant.variant-index _ _ _ _
     (slice_get-get_or c.variants-variant-items.result.now c.loop-variant.variant-index _ c.loop-variant-test.true)
     c.loop-variant.invariant (rw (c.name-name.ensures, c.name.ensures, c.variant_keyword-keyword.ensures) at c.in_ok-add_variant.ensures)
