@@ -7,9 +7,8 @@ use Rattle.std.specs.List.{list_all, slice_split, onto_first, position_or_len}
 use Rattle.std.specs.Str.Lines.{lines, lines_of_parts, strip_carriage_return}
 use Rattle.font_metrics.specs.declared.keyword.Keyword.{Keyword}
 use Rattle.font_metrics.specs.declared.keyword.Keyword.TheVariants.{Table as TableOf, Unknown}
-use Rattle.font_metrics.specs.declared.table.Table.TheVariants.{Variants, Parts}
 use Rattle.font_metrics.specs.declared.given.Given.{Given}
-use Rattle.font_metrics.specs.Lines.{Words, Item, keyword_of, item_in}
+use Rattle.font_metrics.specs.Lines.{Words, Item, SaysEntry, keyword_of, item_in}
 use Rattle.font_metrics.specs.Metrics.{NamedGlyph}
 use Rattle.font_metrics.specs.Reading.{lines_of, words_of, is_foreign, is_comment, allowed, put, after, after_fields, after_words, is_version, most_words}
 use Rattle.std.specs.Char.{is_digit}
@@ -17,8 +16,9 @@ use Rattle.std.specs.Str.Parse.{digits_value}
 use Rattle.std.proofs.lemmas.List.{take_all, length-take-le}
 use Rattle.op_dictionary.specs.declared.text.OpText.TheVariants.{Two}
 use Rattle.font_metrics.specs.declared.fault.LineFault.TheVariants.{ForeignByte, UnknownWord, FieldCount, NotANumber}
-use Rattle.font_metrics.specs.Faults.{Step, ◌>>=◌, or_fault, fault_if}
+use Rattle.font_metrics.specs.Faults.{Step, ◌>>=◌, or_fault, fault_if, step_map}
 use Rattle.font_metrics.specs.Words.{plus, value_of_digits, numeral_of, code_of, in_pair, pair_in, text_of_codes}
+use Rattle.font_metrics.proofs.TableKinds.Each.{kind}
 use Rattle.font_metrics.proofs.Steps.{free}
 
 -- ---- the first part
@@ -112,8 +112,8 @@ too_many_fields glyphs keyword (a ∷ b ∷ c ∷ d ∷ []) more = absurd (omega
 too_many_fields glyphs keyword (a ∷ b ∷ c ∷ d ∷ e ∷ []) more = absurd (omega arith)
 too_many_fields glyphs keyword (a ∷ b ∷ c ∷ d ∷ e ∷ f ∷ []) more = absurd (omega arith)
 too_many_fields glyphs Unknown (a ∷ b ∷ c ∷ d ∷ e ∷ f ∷ g ∷ fields) more = refl
-too_many_fields glyphs (TableOf (Variants axis)) (a ∷ b ∷ c ∷ d ∷ e ∷ f ∷ g ∷ fields) more = refl
-too_many_fields glyphs (TableOf (Parts axis)) (a ∷ b ∷ c ∷ d ∷ e ∷ f ∷ g ∷ fields) more = refl
+too_many_fields glyphs (TableOf t) (a ∷ b ∷ c ∷ d ∷ e ∷ f ∷ g ∷ fields) more =
+    ap (step_map (SaysEntry t)) ((kind t).many glyphs (a ∷ b ∷ c ∷ d ∷ e ∷ f ∷ g ∷ fields) more)
 too_many_fields glyphs keyword (a ∷ b ∷ c ∷ d ∷ e ∷ f ∷ g ∷ fields) more = refl
 
 fields-take : (g : Given) (keyword : Keyword) (count : ℕ) (fields : Words) → most_fields < count

@@ -11,15 +11,13 @@ use Rattle.op_dictionary.specs.declared.extra.OperatorLine.{OperatorLine}
 use Rattle.op_dictionary.specs.declared.text.OpText.{OpText}
 use Rattle.op_dictionary.specs.declared.text.OpText.TheVariants.{One, Two}
 use Rattle.font_metrics.specs.declared.fault.LineFault.TheVariants.{FieldCount, NotANumber, OutOfRange, WrongWord, NotNamed}
-use Rattle.font_metrics.specs.declared.growth.Variant.{Variant}
-use Rattle.font_metrics.specs.declared.growth.Part.{Part}
 use Rattle.font_metrics.specs.Constants.{constant_texts, place_of_text, lowest_of, highest_of}
 use Rattle.font_metrics.specs.Faults.{or_fault, fault_if}
-use Rattle.font_metrics.specs.Lines.{Words, upem_in, line_in, one_length_in, length_in, reach_in, reach_if_given, named_in, constant_in, glyph_with, glyph_in, character_in, variant_in, part_with, part_in, operator_in}
+use Rattle.font_metrics.specs.Lines.{Words, upem_in, line_in, one_length_in, length_in, reach_in, reach_if_given, named_in, constant_in, glyph_with, glyph_in, character_in, operator_in}
 use Rattle.font_metrics.specs.Metrics.{NamedGlyph, place_of_name}
-use Rattle.font_metrics.specs.Taken.{IsLength, IsReach, IsGlyph, IsConstant, IsCharacter, IsVariant, IsPart, IsOperatorText}
+use Rattle.font_metrics.specs.Taken.{IsLength, IsReach, IsGlyph, IsConstant, IsCharacter, IsOperatorText}
 use Rattle.font_metrics.specs.Whole.{IsUpem, IsLine}
-use Rattle.font_metrics.specs.Words.{number_of, is_between, number_in, natural_in, code_of, is_scalar, is_in_pair, in_pair, letter_in, text_of_codes, operator_text_in, is_name, name_in, extender_in, form_in, category_in, axis_in, plus}
+use Rattle.font_metrics.specs.Words.{number_of, is_between, number_in, natural_in, code_of, is_scalar, is_in_pair, in_pair, letter_in, text_of_codes, operator_text_in, is_name, name_in, form_in, category_in, axis_in, plus}
 use Rattle.font_metrics.proofs.Steps.{same_Ok, no_value, had, found, holds}
 use Rattle.font_metrics.proofs.Tables.{place_within}
 
@@ -63,7 +61,7 @@ natural_range low high word n h =
 pub length_range : (word : List ℕ) (n : ℕ) → length_in word ≡ Ok n → n ≤ 65535
 length_range word n h = (natural_range 0 65535 word n h).1
 
-is_length : (n : ℕ) → n ≤ 65535 → IsLength (pos n)
+pub is_length : (n : ℕ) → n ≤ 65535 → IsLength (pos n)
 is_length n h = (omega (arith, signed), omega (arith, signed))
 
 reach_range : (word : List ℕ) (z : ℤ) → reach_in word ≡ Ok z → IsReach z
@@ -87,7 +85,7 @@ name_is word name h =
     let w = had (fault_if (not (is_name word)) WrongWord) _ name h in
     subst (λ n. is_name n ≡ true) (same_Ok word name w.2) (holds (is_name word) WrongWord w.0 w.1)
 
-named_range : (glyphs : List NamedGlyph) (word : List ℕ) (place : ℕ) → named_in glyphs word ≡ Ok place
+pub named_range : (glyphs : List NamedGlyph) (word : List ℕ) (place : ℕ) → named_in glyphs word ≡ Ok place
     → place < length glyphs
 named_range glyphs word place h =
     let name = had (name_in word) _ place h in
@@ -176,54 +174,6 @@ character_range glyphs (a ∷ b ∷ []) c h =
     subst (IsCharacter (length glyphs)) (same_Ok (letter.0, place.0) c place.2)
     (letter_is a letter.0 letter.1, named_range glyphs b place.0 place.1)
 character_range glyphs (a ∷ b ∷ d ∷ more) c h = no_value FieldCount c h
-
-pub variant_range : (glyphs : List NamedGlyph) (fields : Words) (v : ℕ × Variant) → variant_in glyphs fields ≡ Ok v
-    → (v.0 < length glyphs) × IsVariant (length glyphs) v.1
-variant_range glyphs [] v h = no_value FieldCount v h
-variant_range glyphs (a ∷ []) v h = no_value FieldCount v h
-variant_range glyphs (a ∷ b ∷ []) v h = no_value FieldCount v h
-variant_range glyphs (a ∷ b ∷ c ∷ []) v h =
-    let place = had (named_in glyphs a) _ v h in
-    let glyph = had (named_in glyphs b) _ v place.2 in
-    let size = had (length_in c) _ v glyph.2 in
-    subst (λ w. (w.0 < length glyphs) × IsVariant (length glyphs) w.1) (same_Ok _ v size.2) (
-      named_range glyphs a place.0 place.1,
-      record {
-        glyph = named_range glyphs b glyph.0 glyph.1;
-        measure = is_length size.0 (length_range c size.0 size.1);
-      },
-    )
-variant_range glyphs (a ∷ b ∷ c ∷ d ∷ more) v h = no_value FieldCount v h
-
-part_is : (glyphs : List NamedGlyph) (a b c d e : List ℕ) (p : Part) → part_with glyphs a b c d e ≡ Ok p
-    → IsPart (length glyphs) p
-part_is glyphs a b c d e p h =
-    let glyph = had (named_in glyphs a) _ p h in
-    let role = had (extender_in b) _ p glyph.2 in
-    let start = had (length_in c) _ p role.2 in
-    let end = had (length_in d) _ p start.2 in
-    let full = had (length_in e) _ p end.2 in
-    subst (IsPart (length glyphs)) (same_Ok _ p full.2) (record {
-      glyph = named_range glyphs a glyph.0 glyph.1;
-      start = is_length start.0 (length_range c start.0 start.1);
-      end = is_length end.0 (length_range d end.0 end.1);
-      full = is_length full.0 (length_range e full.0 full.1);
-    })
-
-pub part_range : (glyphs : List NamedGlyph) (fields : Words) (p : ℕ × Part) → part_in glyphs fields ≡ Ok p
-    → (p.0 < length glyphs) × IsPart (length glyphs) p.1
-part_range glyphs [] p h = no_value FieldCount p h
-part_range glyphs (a ∷ []) p h = no_value FieldCount p h
-part_range glyphs (a ∷ b ∷ []) p h = no_value FieldCount p h
-part_range glyphs (a ∷ b ∷ c ∷ []) p h = no_value FieldCount p h
-part_range glyphs (a ∷ b ∷ c ∷ d ∷ []) p h = no_value FieldCount p h
-part_range glyphs (a ∷ b ∷ c ∷ d ∷ e ∷ []) p h = no_value FieldCount p h
-part_range glyphs (a ∷ b ∷ c ∷ d ∷ e ∷ f ∷ []) p h =
-    let place = had (named_in glyphs a) _ p h in
-    let part = had (part_with glyphs b c d e f) _ p place.2 in
-    subst (λ q. (q.0 < length glyphs) × IsPart (length glyphs) q.1) (same_Ok (place.0, part.0) p part.2)
-    (named_range glyphs a place.0 place.1, part_is glyphs b c d e f part.0 part.1)
-part_range glyphs (a ∷ b ∷ c ∷ d ∷ e ∷ f ∷ x ∷ more) p h = no_value FieldCount p h
 
 in_pair_is : (number code : ℕ) → in_pair number ≡ Ok code → is_in_pair code ≡ true
 in_pair_is number code h =

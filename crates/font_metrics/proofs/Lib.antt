@@ -9,6 +9,7 @@ pub mod Finish
 pub mod SameNames
 pub mod Ordered
 pub mod Entries
+pub mod TableKinds
 pub mod Slots
 pub mod Ranges
 pub mod Forward

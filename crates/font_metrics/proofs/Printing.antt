@@ -63,7 +63,7 @@ growth-more m place old now one two three four h a b c d =
     rw add-one (range-more 0 place ∙ ap (λ n. range_with_len 0 place ++ n ∷ []) (zero-add place)) in
     let joined : four ≡ now ++ texts (growth_lines m place) =
     simp (flat_map-append, append-nil) (rw (d, c, b, a) (simp append_assoc)) in
-    rw (range, flat_map-append, append-nil, flat_map-append)
+    rw (range, flat_map-append, append-nil (growth_lines m place), flat_map-append)
     (joined ∙ ap (λ t. t ++ texts (growth_lines m place)) h
     ∙ append_assoc old (texts (flat_map (growth_lines m) (range_with_len 0 place))) (texts (growth_lines m place)))
 

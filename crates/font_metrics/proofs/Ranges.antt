@@ -1,28 +1,24 @@
 -- What lines give lies in its ranges.
-use Rattle.std.proofs.Common.{◌≡◌, subst, ℕ, ◌+◌, ◌<◌, ◌≤◌, Bool, true, false, if◌then◌else◌, List, [], ◌∷◌, ◌++◌, length, is_some, IfSome, Ok, arith}
+use Rattle.std.proofs.Common.{◌≡◌, sym, subst, ℕ, ◌+◌, ◌<◌, ◌≤◌, Bool, true, false, if◌then◌else◌, List, [], ◌∷◌, ◌++◌, length, is_some, IfSome, Ok, arith}
 use Rattle.std.proofs.lemmas.List.{length_push}
 use Rattle.std.proofs.lemmas.List.Elements.{All-nil, All-weaker}
 use Rattle.std.specs.List.{IsDistinct}
 use Rattle.std.specs.List.Sorted.{IsStrictlySortedBy}
 use Rattle.font_metrics.specs.declared.fault.LineFault.TheVariants.{ForeignByte, UnknownWord, Repeated, TooMany}
-use Rattle.op_dictionary.specs.declared.operator.Axis.TheVariants.{Block, Inline}
 use Rattle.font_metrics.specs.declared.given.Given.{Given}
-use Rattle.font_metrics.specs.declared.table.Table.{Table}
-use Rattle.font_metrics.specs.declared.table.Table.TheVariants.{Variants, Parts}
-use Rattle.font_metrics.specs.declared.growth.Variant.{Variant}
-use Rattle.font_metrics.specs.declared.growth.Part.{Part}
 use Rattle.font_metrics.specs.declared.keyword.Keyword.{Keyword}
 use Rattle.font_metrics.specs.declared.keyword.Keyword.TheVariants.{Upem, Line, XHeight, Overlap, Constant, Glyph, Char, Table as TableOf, Operator, Unknown}
 use Rattle.font_metrics.specs.Faults.{fault_if}
 use Rattle.font_metrics.specs.Lines.{Words, Item, SaysUpem, SaysLine, SaysXHeight, SaysOverlap, SaysConstant, SaysGlyph, SaysCharacter, SaysEntry, SaysOperator, keyword_of, upem_in, line_in, one_length_in, constant_in, glyph_in, character_in, operator_in, item_in}
 use Rattle.font_metrics.specs.Metrics.{NamedGlyph, with_item, is_full, place_of_name}
 use Rattle.font_metrics.specs.Reading.{nothing, is_foreign, is_comment, first_in, words_of, allowed, put, after_fields, after_words, after, after_first}
-use Rattle.font_metrics.specs.Tables.{EntryOf, slot, entries, no_tables, AreFilled}
-use Rattle.font_metrics.specs.Taken.{IsGlyph, IsConstant, IsCharacter, IsVariant, IsPart, IsOperatorText}
+use Rattle.font_metrics.specs.Tables.{slot, entries, AreFilled}
+use Rattle.font_metrics.specs.Taken.{IsGlyph, IsConstant, IsCharacter, IsTable, IsOperatorText}
 use Rattle.font_metrics.specs.Whole.{IsUpem, IsLine, IsGiven, AreConstants, AreGlyphs, AreCharacters, AreOperators}
-use Rattle.font_metrics.proofs.Slots.{put-filled}
+use Rattle.font_metrics.proofs.TableKinds.Each.{kind}
+use Rattle.font_metrics.proofs.Slots.{stands, put-filled}
 use Rattle.font_metrics.proofs.Steps.{same_Ok, no_value, had, free, mapped}
-use Rattle.font_metrics.proofs.EachKind.{upem_range, line_range, one_length_range, constant_range, glyph_range, character_range, variant_range, part_range, operator_range}
+use Rattle.font_metrics.proofs.EachKind.{upem_range, line_range, one_length_range, constant_range, glyph_range, character_range, operator_range}
 use Rattle.font_metrics.proofs.Ordered.{ordered-insert, all-insert, table-item, table-wider, glyphs-push, operators-push}
 
 -- ---- what a line says
@@ -38,11 +34,6 @@ IsItem count (SaysGlyph g) = IsGlyph g
 IsItem count (SaysCharacter c) = IsCharacter count c
 IsItem count (SaysEntry t x) = (x.0 < count) × (slot t).Is count x.1
 IsItem count (SaysOperator line) = IsOperatorText line.text
-
-entry_range : (t : Table) (glyphs : List NamedGlyph) (fields : Words) (x : ℕ × EntryOf t)
-    → (slot t).read glyphs fields ≡ Ok x → (x.0 < length glyphs) × (slot t).Is (length glyphs) x.1
-entry_range (Variants axis) glyphs fields x h = variant_range glyphs fields x h
-entry_range (Parts axis) glyphs fields x h = part_range glyphs fields x h
 
 pub item_range : (glyphs : List NamedGlyph) (k : Keyword) (fields : Words) (item : Item)
     → item_in glyphs k fields ≡ Ok item → IsItem (length glyphs) item
@@ -69,7 +60,7 @@ item_range glyphs Char fields item h =
     subst (IsItem (length glyphs)) c.2 (character_range glyphs fields c.0 c.1)
 item_range glyphs (TableOf t) fields item h =
     let x = mapped (SaysEntry t) ((slot t).read glyphs fields) item h in
-    subst (IsItem (length glyphs)) x.2 (entry_range t glyphs fields x.0 x.1)
+    subst (IsItem (length glyphs)) x.2 ((kind t).range glyphs fields x.0 x.1)
 item_range glyphs Operator fields item h =
     let l = mapped SaysOperator (operator_in fields) item h in
     subst (IsItem (length glyphs)) l.2 (operator_range fields l.0 l.1)
@@ -129,29 +120,13 @@ characters_put g (SaysCharacter c) h k = record {
 }
 characters_put g item h k = h.characters
 
-wider_variant : (old new : ℕ) → old ≤ new → (v : Variant) → IsVariant old v → IsVariant new v
-wider_variant old new more v is = record { glyph = let at = is.glyph in omega (arith, at, more); measure = is.measure }
-
-wider_part : (old new : ℕ) → old ≤ new → (p : Part) → IsPart old p → IsPart new p
-wider_part old new more p is = record {
-  glyph = let at = is.glyph in omega (arith, at, more);
-  start = is.start;
-  end = is.end;
-  full = is.full;
-}
-
--- what is taken where there are fewer glyphs is where there are more
-wider : (t : Table) (old new : ℕ) → old ≤ new → (x : EntryOf t) → (slot t).Is old x → (slot t).Is new x
-wider (Variants axis) old new more v is = wider_variant old new more v is
-wider (Parts axis) old new more p is = wider_part old new more p is
-
 tables_put : (g : Given) (item : Item) (u : Unit {0}) → IsGiven g → IsItem (length g.glyphs) item
     → allowed g item ≡ Ok u → AreFilled (length (put g item).glyphs) (put g item).tables
 tables_put g (SaysGlyph n) u h k e = λ t.
     let old = length g.glyphs in
     let new = length (g.glyphs ++ n ∷ []) in
     table-wider ((slot t).Is new) ((slot t).Is old) old new (slot t).most (entries t g.tables) (grows g n)
-    (wider t old new (grows g n)) (h.tables t)
+    ((kind t).wider old new (grows g n)) (h.tables t)
 tables_put g (SaysEntry t x) u h k e =
     let count = length g.glyphs in
     put-filled count t g.tables (with_item (entries t g.tables) x.0 x.1)
@@ -210,13 +185,6 @@ after_keeps g line next h e =
     by true k = subst IsGiven (same_Ok g next k) h
     by false k = words_keep g (words_of line) next h k
 
-none-filled : AreFilled 0 no_tables
-unfolding IsStrictlySortedBy
-none-filled (Variants Block) = record { ordered = tt; entries = All-nil _ }
-none-filled (Variants Inline) = record { ordered = tt; entries = All-nil _ }
-none-filled (Parts Block) = record { ordered = tt; entries = All-nil _ }
-none-filled (Parts Inline) = record { ordered = tt; entries = All-nil _ }
-
 pub nothing_given : IsGiven nothing
 unfolding IsDistinct IsStrictlySortedBy
 nothing_given = record {
@@ -227,7 +195,7 @@ nothing_given = record {
   constants = record { ranges = All-nil IsConstant; ordered = tt };
   glyphs = record { count = omega arith; ranges = All-nil IsGlyph; names = tt };
   characters = record { ranges = All-nil (IsCharacter 0); ordered = tt };
-  tables = none-filled;
+  tables = λ t. subst (IsTable 0 (slot t).most ((slot t).Is 0)) (sym (stands t).none) (record { ordered = tt; entries = All-nil _ });
   operators = record { texts = All-nil _; distinct = tt };
 }
 

@@ -2,11 +2,12 @@
 mod Decimal
 mod Codes
 pub mod Choices
-mod Joined
+pub mod Joined
 mod Feeds
-mod Names
-mod Printed
-mod Fields
+pub mod Names
+pub mod Printed
+pub mod Fields
+pub mod FieldWords
 mod Taking
 mod Tables
 mod Following

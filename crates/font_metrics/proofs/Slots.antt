@@ -1,5 +1,5 @@
 -- How the tables stand beside one another: each holds what was put there, and the others stay.
-use Rattle.std.proofs.Common.{◌≡◌, refl, sym, ℕ, [], ◌++◌, nat_eq, append-nil}
+use Rattle.std.proofs.Common.{◌≡◌, ap, refl, sym, ℕ, [], ◌++◌, nat_eq, append-nil}
 use Rattle.op_dictionary.specs.declared.operator.Axis.TheVariants.{Block, Inline}
 use Rattle.font_metrics.specs.declared.table.Table.{Table}
 use Rattle.font_metrics.specs.declared.table.Table.TheVariants.{Variants, Parts}
@@ -10,20 +10,18 @@ use Rattle.font_metrics.specs.Tables.{EntryOf, slot, entries, with_entry, no_tab
 use Rattle.font_metrics.specs.Taken.{IsTable}
 use Rattle.font_metrics.proofs.Entries.{item-put}
 
--- a table that is put is there
-pub at-put : (t : Table) (tables : Tables) (table : ByGlyph (EntryOf t)) → entries t ((slot t).put tables table) ≡ table
-at-put (Variants Block) tables table = refl
-at-put (Variants Inline) tables table = refl
-at-put (Parts Block) tables table = refl
-at-put (Parts Inline) tables table = refl
+-- a table that is put is there, so that one more entry is put with it; and none has an entry before any line
+pub record Stands (t : Table) : Type 0 where
+  pub at-put : (tables : Tables) (table : ByGlyph (EntryOf t)) → entries t ((slot t).put tables table) ≡ table
+  pub entry-at-put : (tables : Tables) (table : ByGlyph (EntryOf t)) (place : ℕ) (x : EntryOf t)
+      → with_entry t ((slot t).put tables table) place x ≡ (slot t).put tables (with_item table place x)
+  pub none : entries t no_tables ≡ []
 
--- one more entry of a table that is put
-pub entry-at-put : (t : Table) (tables : Tables) (table : ByGlyph (EntryOf t)) (place : ℕ) (x : EntryOf t)
-    → with_entry t ((slot t).put tables table) place x ≡ (slot t).put tables (with_item table place x)
-entry-at-put (Variants Block) tables table place x = refl
-entry-at-put (Variants Inline) tables table place x = refl
-entry-at-put (Parts Block) tables table place x = refl
-entry-at-put (Parts Inline) tables table place x = refl
+pub stands : (t : Table) → Stands t
+stands (Variants Block) = record { at-put = λ tables table. refl; entry-at-put = λ tables table place x. refl; none = refl }
+stands (Variants Inline) = record { at-put = λ tables table. refl; entry-at-put = λ tables table place x. refl; none = refl }
+stands (Parts Block) = record { at-put = λ tables table. refl; entry-at-put = λ tables table place x. refl; none = refl }
+stands (Parts Inline) = record { at-put = λ tables table. refl; entry-at-put = λ tables table place x. refl; none = refl }
 
 -- what holds of a table that is put and of all others holds of all
 pub put-filled : (count : ℕ) (t : Table) (tables : Tables) (table : ByGlyph (EntryOf t))
@@ -46,7 +44,4 @@ entry-more (Parts Inline) (Parts Inline) q place x tables = item-put q place x t
 entry-more t other q place x tables = sym (append-nil (items_of (entries t tables) q))
 
 pub no-entry : (t : Table) (place : ℕ) → items_of (entries t no_tables) place ≡ []
-no-entry (Variants Block) place = refl
-no-entry (Variants Inline) place = refl
-no-entry (Parts Block) place = refl
-no-entry (Parts Inline) place = refl
+no-entry t place = ap (λ (table : ByGlyph (EntryOf t)). items_of table place) (stands t).none

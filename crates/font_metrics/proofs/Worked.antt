@@ -4,7 +4,24 @@ use Rattle.font_metrics.specs.declared.fault.LineFault.TheVariants.{ForeignByte,
 use Rattle.font_metrics.specs.Words.{value_of_digits, numeral_of, number_of, number_in, natural_in, code_of, letter_in, is_name, name_in, operator_text_in, extender_in}
 use Rattle.font_metrics.specs.Constants.{place_of_text}
 use Rattle.font_metrics.specs.Lines.{keyword_of}
+use Rattle.font_metrics.specs.Metrics.{MetricsValue}
 use Rattle.font_metrics.specs.Reading.{fault_at, words_of, is_foreign, after, after_first, finished, metrics_of}
+
+-- metrics that say little: each file here says more
+abbrev pub bare : MetricsValue
+bare = record {
+  upem = 1024;
+  line_ascent = 900;
+  line_descent = 300;
+  x_height = 512;
+  overlap = None;
+  constants = [];
+  glyphs = [];
+  characters = [];
+  variants = ([], []);
+  parts = ([], []);
+  operators = [];
+}
 
 -- lines with their line feeds
 abbrev feed : List ℕ
@@ -20,18 +37,8 @@ an-empty-file : metrics_of [] ≡ Err (fault_at 1 WrongFirstLine)
 unfolding metrics_of after_first is_foreign words_of
 an-empty-file = refl
 
-a-small-file : metrics_of (header ++ missing_line) ≡ Ok (record {
-  upem = 1024;
-  line_ascent = 900;
-  line_descent = 300;
-  x_height = 512;
-  overlap = None;
-  constants = [];
+a-small-file : metrics_of (header ++ missing_line) ≡ Ok (record bare {
   glyphs = record { name = codes "missing"; glyph = record { advance = pos 512; ink_ascent = pos 600; ink_descent = pos 0; italic = pos 0; accent = None } } ∷ [];
-  characters = [];
-  variants = ([], []);
-  parts = ([], []);
-  operators = [];
 })
 unfolding metrics_of after_first after finished is_foreign words_of keyword_of value_of_digits numeral_of number_of number_in natural_in is_name name_in
 a-small-file = refl

@@ -5,6 +5,7 @@ use Rattle.font_metrics.specs.Metrics.{MetricsValue, NamedGlyph, missing_place, 
 use Rattle.font_metrics.specs.declared.constants.ConstName.TheVariants.{ScriptPercentScaleDown, ScriptScriptPercentScaleDown, RadicalDegreeBottomRaisePercent, MathLeading, AxisHeight, RadicalKernAfterDegree}
 use Rattle.font_metrics.specs.declared.growth.Variant.{Variant}
 use Rattle.op_dictionary.specs.declared.operator.Axis.TheVariants.{Block, Inline}
+use Rattle.font_metrics.proofs.Worked.{bare}
 
 abbrev named : List ℕ → ℤ → NamedGlyph
 named name advance = record {
@@ -17,18 +18,11 @@ measured glyph measure = record { glyph = record { 0 = glyph }; measure = measur
 
 -- two glyphs, of which the second shows `1` and has two larger ones; the first percent is 0
 abbrev small : MetricsValue
-small = record {
-  upem = 1024;
-  line_ascent = 900;
-  line_descent = 300;
-  x_height = 512;
-  overlap = None;
+small = record bare {
   constants = (0, pos 0) ∷ (5, pos 256) ∷ (54, negsuc 599) ∷ [];
   glyphs = named (codes "missing") (pos 500) ∷ named (codes "one") (pos 512) ∷ [];
   characters = (0x31, 1) ∷ [];
   variants = ((1, measured 0 (pos 9) ∷ measured 1 (pos 3) ∷ []) ∷ [], []);
-  parts = ([], []);
-  operators = [];
 }
 
 -- ---- lengths

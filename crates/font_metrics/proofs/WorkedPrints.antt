@@ -7,6 +7,7 @@ use Rattle.op_dictionary.specs.declared.operator.Form.TheVariants.{Infix, Postfi
 use Rattle.op_dictionary.specs.declared.text.OpText.TheVariants.{One, Two}
 use Rattle.font_metrics.specs.declared.glyph.Glyph.{Glyph}
 use Rattle.font_metrics.specs.Metrics.{MetricsValue}
+use Rattle.font_metrics.proofs.Worked.{bare}
 use Rattle.font_metrics.specs.Print.{print_of, line_text, printed_lines}
 
 abbrev feed : List ℕ
@@ -14,18 +15,8 @@ feed = 10 ∷ []
 
 -- a small file in its canonical print
 small : MetricsValue
-small = record {
-  upem = 1024;
-  line_ascent = 900;
-  line_descent = 300;
-  x_height = 512;
-  overlap = None;
-  constants = [];
+small = record bare {
   glyphs = record { name = codes "missing"; glyph = record { advance = pos 512; ink_ascent = pos 600; ink_descent = pos 0; italic = pos 0; accent = None } } ∷ [];
-  characters = [];
-  variants = ([], []);
-  parts = ([], []);
-  operators = [];
 }
 
 its-print : print_of small ≡ codes "mathlay-metrics 1" ++ feed ++ codes "upem 1024" ++ feed ++ codes "line 900 300" ++ feed ++ codes "xheight 512" ++ feed ++ codes "glyph missing 512 600 0 0" ++ feed

@@ -4,15 +4,13 @@ use Rattle.std.specs.Fmt.{signed_decimal}
 use Rattle.std.specs.List.{IsDistinct}
 use Rattle.std.proofs.lemmas.Int.{ints}
 use Rattle.op_dictionary.specs.declared.extra.OperatorLine.{OperatorLine}
-use Rattle.font_metrics.specs.declared.growth.Variant.{Variant}
-use Rattle.font_metrics.specs.declared.growth.Part.{Part}
 use Rattle.font_metrics.specs.Constants.{is_scale_down, lowest_of, highest_of}
-use Rattle.font_metrics.specs.Lines.{length_in, reach_in, reach_if_given, named_in, constant_in, glyph_in, character_in, variant_in, part_in, operator_in}
+use Rattle.font_metrics.specs.Lines.{length_in, reach_in, reach_if_given, named_in, constant_in, glyph_in, character_in, operator_in}
 use Rattle.font_metrics.specs.Metrics.{NamedGlyph, name_in_list}
-use Rattle.font_metrics.specs.Print.{code_text, operator_text, constant_text, extender_text, form_text, category_text, axis_text, accent_words}
-use Rattle.font_metrics.specs.Taken.{IsLength, IsReach, IsGlyph, IsConstant, IsVariant, IsPart, IsOperatorText, names_of}
+use Rattle.font_metrics.specs.Print.{code_text, operator_text, constant_text, form_text, category_text, axis_text, accent_words}
+use Rattle.font_metrics.specs.Taken.{IsLength, IsReach, IsGlyph, IsConstant, IsOperatorText, names_of}
 use Rattle.font_metrics.specs.Words.{natural_in, is_name, is_scalar}
-use Rattle.font_metrics.proofs.ReadBack.Choices.{place_of_text-constant, extender_in-text, form_in-text, category_in-text, axis_in-text}
+use Rattle.font_metrics.proofs.ReadBack.Choices.{place_of_text-constant, form_in-text, category_in-text, axis_in-text}
 use Rattle.font_metrics.proofs.ReadBack.Codes.{letter_in-text, operator_text_in-text}
 use Rattle.font_metrics.proofs.ReadBack.Decimal.{number_in-signed}
 use Rattle.font_metrics.proofs.ReadBack.Names.{name_in-name, named_in-place}
@@ -40,7 +38,7 @@ length-itself (negsuc n) h = absurd (omega (arith, ints, h.0))
 pub reach_if_given-signed : (z : ℤ) → IsReach z → reach_if_given (Some (signed_decimal z)) ≡ Ok (Some z)
 reach_if_given-signed z h = rw (reach_in-signed z h) refl
 
-named : (glyphs : List NamedGlyph) (place : ℕ) → AreNamed glyphs → place < length glyphs
+pub named : (glyphs : List NamedGlyph) (place : ℕ) → AreNamed glyphs → place < length glyphs
     → named_in glyphs (name_in_list glyphs place) ≡ Ok place
 named glyphs place n low = named_in-place glyphs place n.distinct (n.names place low) low
 
@@ -109,36 +107,6 @@ pub character_in-printed : (glyphs : List NamedGlyph) (c : ℕ × ℕ) → AreNa
     → character_in glyphs (code_text c.0 ∷ name_in_list glyphs c.1 ∷ []) ≡ Ok c
 character_in-printed glyphs c n scalar low =
     rw (letter_in-text c.0 scalar, named glyphs c.1 n low) refl
-
-pub variant_in-printed : (glyphs : List NamedGlyph) (place : ℕ) (v : Variant) → AreNamed glyphs
-    → place < length glyphs → IsVariant (length glyphs) v
-    → variant_in glyphs (name_in_list glyphs place ∷ name_in_list glyphs v.glyph.0 ∷ signed_decimal v.measure ∷ [])
-    ≡ Ok (place, v)
-variant_in-printed glyphs place v n low h =
-    rw (
-      named glyphs place n low,
-      named glyphs v.glyph.0 n h.glyph,
-      length_in-signed v.measure h.measure,
-      length-itself v.measure h.measure,
-    ) refl
-
-pub part_in-printed : (glyphs : List NamedGlyph) (place : ℕ) (p : Part) → AreNamed glyphs
-    → place < length glyphs → IsPart (length glyphs) p
-    → part_in glyphs (name_in_list glyphs place ∷ name_in_list glyphs p.glyph.0 ∷ extender_text p.extender
-    ∷ signed_decimal p.start ∷ signed_decimal p.end ∷ signed_decimal p.full ∷ [])
-    ≡ Ok (place, p)
-part_in-printed glyphs place p n low h =
-    rw (
-      named glyphs place n low,
-      named glyphs p.glyph.0 n h.glyph,
-      extender_in-text p.extender,
-      length_in-signed p.start h.start,
-      length_in-signed p.end h.end,
-      length_in-signed p.full h.full,
-      length-itself p.start h.start,
-      length-itself p.end h.end,
-      length-itself p.full h.full,
-    ) refl
 
 pub operator_in-printed : (line : OperatorLine) → IsOperatorText line.text
     → operator_in (operator_text line.text ∷ form_text line.form ∷ category_text line.category

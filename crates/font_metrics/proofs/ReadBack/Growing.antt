@@ -1,5 +1,5 @@
 -- The printed variants and parts, glyph by glyph.
-use Rattle.std.proofs.Common.{◌≡◌, ap, sym, refl, subst, ℕ, ◌≤◌, ◌<◌, ◌+◌, zero, suc, List, [], ◌∷◌, length, map, flat_map, All, nat_eq, arith, inl, inr, add-zero}
+use Rattle.std.proofs.Common.{◌≡◌, ◌∙◌, ap, sym, refl, subst, ℕ, ◌≤◌, ◌<◌, ◌+◌, zero, suc, List, [], ◌∷◌, length, map, flat_map, All, nat_eq, arith, inl, inr, add-zero}
 use Rattle.std.specs.List.{AllByRecursion, range_with_len}
 use Rattle.std.proofs.lemmas.Bool.{cases_Bool}
 use Rattle.std.proofs.lemmas.List.Elements.{recursion_from_All, All-nil}
@@ -10,13 +10,13 @@ use Rattle.font_metrics.specs.declared.table.Tables.{Tables}
 use Rattle.font_metrics.specs.Metrics.{MetricsValue, ByGlyph, items_of, with_item}
 use Rattle.font_metrics.specs.Print.{entry_words, table_lines, growth_lines}
 use Rattle.font_metrics.specs.declared.given.Given.{Given}
-use Rattle.font_metrics.specs.Tables.{EntryOf, slot, entries, tables_of, AreFilled}
+use Rattle.font_metrics.specs.Tables.{EntryOf, slot, entries, no_tables, all_tables, tables_of, AreFilled}
 use Rattle.font_metrics.specs.Taken.{IsEntry, IsTable}
 use Rattle.font_metrics.proofs.ReadBack.Fields.{AreNamed}
 use Rattle.font_metrics.proofs.ReadBack.Following.{Follows, follows-append, follows-to, items-follow}
-use Rattle.font_metrics.proofs.ReadBack.Tables.{AreBelow, with_items, below, below-keys, below-more, below-all}
+use Rattle.font_metrics.proofs.ReadBack.Tables.{AreBelow, with_items, below, below-keys, below-more, below-all, below-zero}
 use Rattle.font_metrics.proofs.ReadBack.Taking.{Takes, takes-to, entry-taken}
-use Rattle.font_metrics.proofs.Slots.{at-put, entry-at-put}
+use Rattle.font_metrics.proofs.Slots.{stands}
 
 -- ---- what a table has at a place
 
@@ -48,7 +48,7 @@ table-more count most Is table place h =
     sym (below-more place table h.ordered
     (entries-some count most Is table (recursion_from_All (IsEntry count most Is) table h.entries)))
 
-pub table-all : {X : Type 0} (count most : ℕ) (Is : X → Type 0) (table : ByGlyph X) → IsTable count most Is table
+table-all : {X : Type 0} (count most : ℕ) (Is : X → Type 0) (table : ByGlyph X) → IsTable count most Is table
     → below count table ≡ table
 table-all count most Is table h =
     below-all count table
@@ -76,12 +76,30 @@ at-place put words count most Is table place h adds =
 abbrev pub grown : Given → MetricsValue → Tables → Given
 grown given m tables = record given { glyphs = m.glyphs; tables = tables }
 
+-- the tables in which these tables are put in turn
+abbrev put_each : List Table → ((t : Table) → ByGlyph (EntryOf t)) → Tables → Tables
+put_each [] new tables = tables
+put_each (t ∷ ts) new tables = put_each ts new ((slot t).put tables (new t))
+
+put_each-same : (ts : List Table) (new other : (t : Table) → ByGlyph (EntryOf t)) (tables : Tables)
+    → ((t : Table) → new t ≡ other t) → put_each ts new tables ≡ put_each ts other tables
+put_each-same [] new other tables h = refl
+put_each-same (t ∷ ts) new other tables h =
+    ap (λ (table : ByGlyph (EntryOf t)). put_each ts new ((slot t).put tables table)) (h t)
+    ∙ put_each-same ts new other ((slot t).put tables (other t)) h
+
 -- what the tables have at the places below a place
 abbrev pub tables-below : ℕ → Tables → Tables
-tables-below place tables = record {
-  variants = (below place tables.variants.0, below place tables.variants.1);
-  parts = (below place tables.parts.0, below place tables.parts.1);
-}
+tables-below place tables = put_each all_tables (λ t. below place (entries t tables)) no_tables
+
+pub tables-below-zero : (tables : Tables) → tables-below 0 tables ≡ no_tables
+tables-below-zero tables =
+    put_each-same all_tables (λ t. below 0 (entries t tables)) (λ t. []) no_tables (λ t. below-zero (entries t tables))
+
+pub tables-below-all : (count : ℕ) (tables : Tables) → AreFilled count tables → tables-below count tables ≡ tables
+tables-below-all count tables h =
+    put_each-same all_tables (λ t. below count (entries t tables)) (λ t. entries t tables) no_tables
+    (λ t. table-all count (slot t).most ((slot t).Is count) (entries t tables) (h t))
 
 abbrev pub grown_to : Given → MetricsValue → ℕ → Given
 grown_to given m place = grown given m (tables-below place (tables_of m))
@@ -98,9 +116,9 @@ table-grows given m t place tables n h low =
     ((slot t).Is count) (entries t (tables_of m)) place (h t)
     (λ had x is room.
     let given' = grown given m ((slot t).put tables had) in
-    takes-to given' (entry_words t m.glyphs place x) _ _ (ap (grown given m) (entry-at-put t tables had place x))
+    takes-to given' (entry_words t m.glyphs place x) _ _ (ap (grown given m) ((stands t).entry-at-put tables had place x))
     (entry-taken given' t place x n low is
-    (subst (λ (table : ByGlyph (EntryOf t)). length (items_of table place) < (slot t).most) (sym (at-put t tables had)) room)))
+    (subst (λ (table : ByGlyph (EntryOf t)). length (items_of table place) < (slot t).most) (sym ((stands t).at-put tables had)) room)))
 
 -- the lists of a place in turn take all tables to the next place
 grows-at : (given : Given) (m : MetricsValue) (place : ℕ) → AreNamed m.glyphs

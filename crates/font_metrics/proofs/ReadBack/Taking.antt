@@ -5,29 +5,27 @@ use Rattle.std.specs.Fmt.{signed_decimal}
 use Rattle.std.specs.List.{list_all, join_with_byte}
 use Rattle.std.specs.Map.{lookup}
 use Rattle.std.proofs.lemmas.Bool.{lt-leb, and_from}
-use Rattle.std.proofs.lemmas.Int.{ints}
 use Rattle.op_dictionary.specs.declared.extra.OperatorLine.{OperatorLine}
-use Rattle.op_dictionary.specs.declared.operator.Axis.TheVariants.{Block, Inline}
 use Rattle.op_dictionary.specs.Dictionary.{is_named}
 use Rattle.font_metrics.specs.declared.given.Given.{Given}
 use Rattle.font_metrics.specs.declared.keyword.Keyword.{Keyword}
-use Rattle.font_metrics.specs.declared.keyword.Keyword.TheVariants.{Table as TableOf}
 use Rattle.font_metrics.specs.declared.fault.LineFault.TheVariants.{TooMany}
 use Rattle.font_metrics.specs.declared.table.Table.{Table}
-use Rattle.font_metrics.specs.declared.table.Table.TheVariants.{Variants, Parts}
 use Rattle.font_metrics.specs.Faults.{◌>>=◌, step_map, fault_if}
 use Rattle.font_metrics.specs.Lines.{Words, Item, SaysUpem, SaysLine, SaysXHeight, SaysOverlap, SaysConstant, SaysGlyph, SaysCharacter, SaysEntry, SaysOperator, keyword_of, item_in}
 use Rattle.font_metrics.specs.Metrics.{NamedGlyph, name_in_list, items_of, place_of_name}
 use Rattle.font_metrics.specs.Print.{upem_words, line_words, x_height_words, constant_text, constant_words, accent_words, glyph_words, code_text, character_words, entry_words, operator_text, form_text, category_text, axis_text, operator_words}
 use Rattle.font_metrics.specs.Reading.{is_comment, allowed, put, after_fields, after}
 use Rattle.font_metrics.specs.Tables.{EntryOf, slot, entries, with_entry}
-use Rattle.font_metrics.specs.Taken.{IsGlyph, IsConstant, IsCharacter, IsReach, IsLength, IsOperatorText, most_glyphs}
+use Rattle.font_metrics.specs.Taken.{IsGlyph, IsConstant, IsCharacter, IsReach, IsOperatorText, most_glyphs}
 use Rattle.font_metrics.proofs.ReadBack.Choices.{constant-word}
 use Rattle.font_metrics.proofs.ReadBack.Decimal.{natural_in-decimal}
-use Rattle.font_metrics.proofs.ReadBack.Fields.{AreNamed, bounds, constant_in-printed, glyph_in-printed, character_in-printed, variant_in-printed, part_in-printed, operator_in-printed}
+use Rattle.font_metrics.proofs.ReadBack.Fields.{AreNamed, bounds, constant_in-printed, glyph_in-printed, character_in-printed, operator_in-printed}
+use Rattle.font_metrics.proofs.ReadBack.FieldWords.{reach-word, length-word, place-word}
+use Rattle.font_metrics.proofs.TableKinds.Each.{kind}
 use Rattle.font_metrics.proofs.ReadBack.Joined.{is_word, after-joined}
 use Rattle.font_metrics.proofs.ReadBack.Names.{name-word}
-use Rattle.font_metrics.proofs.ReadBack.Printed.{decimal-word, signed-word, letter-word, operator_text-word, extender-word, form-word, category-word, axis-word}
+use Rattle.font_metrics.proofs.ReadBack.Printed.{decimal-word, signed-word, letter-word, operator_text-word, form-word, category-word, axis-word}
 
 -- these words make a line that takes what was given to this
 abbrev pub Takes : Given → Words → Given → Type 0
@@ -111,12 +109,6 @@ accent-words : (accent : Option ℤ) → IfSome accent IsReach → list_all is_w
 accent-words None h = refl
 accent-words (Some z) h = rw (signed-word z h.0 h.1) refl
 
-reach-word : (z : ℤ) → IsReach z → is_word (signed_decimal z) ≡ true
-reach-word z h = signed-word z h.0 h.1
-
-length-word : (z : ℤ) → IsLength z → is_word (signed_decimal z) ≡ true
-length-word z h = signed-word z (omega (arith, ints, h.0)) h.1
-
 glyph-words : (g : NamedGlyph) → IsGlyph g → list_all is_word (glyph_words g) ≡ true
 glyph-words g h =
     rw (
@@ -139,10 +131,6 @@ glyph-taken given g h new room =
     ∷ signed_decimal g.glyph.ink_descent ∷ signed_decimal g.glyph.italic ∷ accent_words g.glyph.accent)
     (SaysGlyph g) (glyph-words g h) refl (rw (glyph_in-printed g h) refl) (rw (new, free) refl)
 
-place-word : (glyphs : List NamedGlyph) (place : ℕ) → AreNamed glyphs → place < length glyphs
-    → is_word (name_in_list glyphs place) ≡ true
-place-word glyphs place n low = name-word (name_in_list glyphs place) (n.names place low)
-
 character-words : (glyphs : List NamedGlyph) (c : ℕ × ℕ) → AreNamed glyphs → IsCharacter (length glyphs) c
     → list_all is_word (character_words glyphs c) ≡ true
 character-words glyphs c n h =
@@ -160,53 +148,20 @@ character-taken given c n h new =
 
 -- ---- entries of tables
 
--- the fields behind a base glyph are words
-entry-fields : (t : Table) (glyphs : List NamedGlyph) (x : EntryOf t) → AreNamed glyphs → (slot t).Is (length glyphs) x
-    → list_all is_word ((slot t).fields glyphs x) ≡ true
-entry-fields (Variants axis) glyphs v n h =
-    rw (place-word glyphs v.glyph.0 n h.glyph, length-word v.measure h.measure) refl
-entry-fields (Parts axis) glyphs p n h =
-    rw (
-      place-word glyphs p.glyph.0 n h.glyph,
-      extender-word p.extender,
-      length-word p.start h.start,
-      length-word p.end h.end,
-      length-word p.full h.full,
-    ) refl
-
--- and give the entry
-entry_in-printed : (t : Table) (glyphs : List NamedGlyph) (place : ℕ) (x : EntryOf t) → AreNamed glyphs
-    → place < length glyphs → (slot t).Is (length glyphs) x
-    → (slot t).read glyphs (name_in_list glyphs place ∷ (slot t).fields glyphs x) ≡ Ok (place, x)
-entry_in-printed (Variants axis) glyphs place v n low h = variant_in-printed glyphs place v n low h
-entry_in-printed (Parts axis) glyphs place p n low h = part_in-printed glyphs place p n low h
-
--- a keyword is a word that names its table, and begins no comment
-record IsKeyword (t : Table) : Type 0 where
-  word : is_word (slot t).keyword ≡ true
-  names : keyword_of (slot t).keyword ≡ TableOf t
-  other : (word : List ℕ) (words : Words) → is_comment (join_with_byte 32 ((slot t).keyword ∷ word ∷ words)) ≡ false
-
-keyword : (t : Table) → IsKeyword t
-unfolding keyword_of
-keyword (Variants Block) = record { word = refl; names = refl; other = λ word words. refl }
-keyword (Variants Inline) = record { word = refl; names = refl; other = λ word words. refl }
-keyword (Parts Block) = record { word = refl; names = refl; other = λ word words. refl }
-keyword (Parts Inline) = record { word = refl; names = refl; other = λ word words. refl }
-
 pub entry-taken : (given : Given) (t : Table) (place : ℕ) (x : EntryOf t) → AreNamed given.glyphs
     → place < length given.glyphs → (slot t).Is (length given.glyphs) x
     → length (items_of (entries t given.tables) place) < (slot t).most
     → Takes given (entry_words t given.glyphs place x)
     (record given { tables = with_entry t given.tables place x })
 entry-taken given t place x n low h room =
-    let k = keyword t in
+    let k = kind t in
+    let key = k.keyword in
     let fields = name_in_list given.glyphs place ∷ (slot t).fields given.glyphs x in
     takes given (slot t).keyword fields (SaysEntry t (place, x))
-    (and_from _ _ k.word (and_from _ _ (place-word given.glyphs place n low) (entry-fields t given.glyphs x n h)))
-    (k.other (name_in_list given.glyphs place) ((slot t).fields given.glyphs x))
-    (ap (λ (key : Keyword). item_in given.glyphs key fields) k.names
-    ∙ ap (step_map (SaysEntry t)) (entry_in-printed t given.glyphs place x n low h))
+    (and_from _ _ key.word (and_from _ _ (place-word given.glyphs place n low) (k.words given.glyphs x n h)))
+    (key.other (name_in_list given.glyphs place) ((slot t).fields given.glyphs x))
+    (ap (λ (word : Keyword). item_in given.glyphs word fields) key.names
+    ∙ ap (step_map (SaysEntry t)) (k.printed given.glyphs place x n low h))
     (ap (λ b. fault_if b TooMany) (lt-leb (slot t).most (length (items_of (entries t given.tables) place)) room))
 
 -- ---- operators

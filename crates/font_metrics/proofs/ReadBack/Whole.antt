@@ -1,5 +1,5 @@
 -- Reading the print of metrics gives the same metrics.
-use Rattle.std.proofs.Common.{◌≡◌, ◌∙◌, ap, refl, ℕ, ◌≤◌, ◌+◌, true, List, [], ◌∷◌, ◌++◌, length, map, flat_map, codes, Option, Some, None, IfSome, IsSome, Ok, arith, zero-add}
+use Rattle.std.proofs.Common.{◌≡◌, ◌∙◌, ap, sym, refl, ℕ, ◌≤◌, ◌+◌, true, List, [], ◌∷◌, ◌++◌, length, map, flat_map, codes, Option, Some, None, IfSome, IsSome, Ok, arith, zero-add}
 use Rattle.std.specs.List.{join_with_byte, range_with_len}
 use Rattle.op_dictionary.specs.declared.operator.Axis.TheVariants.{Block, Inline}
 use Rattle.font_metrics.specs.declared.given.Given.{Given}
@@ -10,13 +10,12 @@ use Rattle.font_metrics.specs.Metrics.{MetricsValue, place_of_name}
 use Rattle.font_metrics.specs.Print.{version_words, upem_words, line_words, x_height_words, overlap_lines, constant_words, glyph_words, character_words, growth_lines, operator_words, line_text, print_of, PrintReadsBack}
 use Rattle.font_metrics.specs.Reading.{lines_of, nothing, is_foreign, words_of, after, after_first, kept, given_from, given_by, fault_or, first_fault_behind, needed_of, metrics_with, finished, numbered, metrics_or, metrics_of}
 use Rattle.font_metrics.specs.Tables.{no_tables, tables_of, AreFilled}
-use Rattle.font_metrics.specs.Taken.{IsTaken, IsVariant, IsPart, most_variants, most_parts}
+use Rattle.font_metrics.specs.Taken.{IsTaken}
 use Rattle.font_metrics.proofs.Forward.{given_from-push}
 use Rattle.font_metrics.proofs.ReadBack.Feeds.{are_words, lines-printed}
 use Rattle.font_metrics.proofs.ReadBack.Fields.{AreNamed}
 use Rattle.font_metrics.proofs.ReadBack.Following.{Follows, follows-append, follows-to, follows-words, constants-follow, glyphs-follow, characters-follow, operators-follow}
-use Rattle.font_metrics.proofs.ReadBack.Growing.{grown, grown_to, grows-from, table-all}
-use Rattle.font_metrics.proofs.ReadBack.Tables.{below-zero}
+use Rattle.font_metrics.proofs.ReadBack.Growing.{grown, grown_to, grows-from, tables-below-zero, tables-below-all}
 use Rattle.font_metrics.proofs.ReadBack.Taking.{upem-taken, line-taken, x_height-taken, overlap-taken}
 
 -- ---- lines that follow one another are read without a fault
@@ -109,19 +108,11 @@ are-filled m h (Parts Block) = h.parts.0
 are-filled m h (Parts Inline) = h.parts.1
 
 growth-none : (given : Given) (m : MetricsValue) → grown given m no_tables ≡ grown_to given m 0
-growth-none given m =
-    rw (below-zero m.variants.0, below-zero m.variants.1, below-zero m.parts.0, below-zero m.parts.1) refl
+growth-none given m = ap (grown given m) (sym (tables-below-zero (tables_of m)))
 
 growth-all : (given : Given) (m : MetricsValue) → IsTaken m
     → grown_to given m (length m.glyphs) ≡ grown given m (tables_of m)
-growth-all given m h =
-    let count = length m.glyphs in
-    rw (
-      table-all count most_variants (IsVariant count) m.variants.0 h.variants.0,
-      table-all count most_variants (IsVariant count) m.variants.1 h.variants.1,
-      table-all count most_parts (IsPart count) m.parts.0 h.parts.0,
-      table-all count most_parts (IsPart count) m.parts.1 h.parts.1,
-    ) refl
+growth-all given m h = ap (grown given m) (tables-below-all (length m.glyphs) (tables_of m) (are-filled m h))
 
 growth-follows : (given : Given) (m : MetricsValue) → IsTaken m
     → Follows (grown given m no_tables)

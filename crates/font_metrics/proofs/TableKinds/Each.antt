@@ -1,0 +1,10 @@
+-- Each table is of a kind.
+use Rattle.font_metrics.specs.declared.table.Table.{Table}
+use Rattle.font_metrics.specs.declared.table.Table.TheVariants.{Variants, Parts}
+use Rattle.font_metrics.proofs.TableKinds.Kind.{IsKind}
+use Rattle.font_metrics.proofs.TableKinds.Variants.{variants_kind}
+use Rattle.font_metrics.proofs.TableKinds.Parts.{parts_kind}
+
+pub kind : (t : Table) → IsKind t
+kind (Variants axis) = variants_kind axis
+kind (Parts axis) = parts_kind axis
