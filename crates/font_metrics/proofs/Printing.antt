@@ -107,6 +107,16 @@ line-end : (old word : List ℕ) (ws : Words) (now new : List ℕ) → now ≡ o
     → new ≡ now ++ 10 ∷ [] → new ≡ old ++ line_text (word ∷ ws)
 line-end old word ws now new h k = k ∙ ap (λ t. t ++ 10 ∷ []) h ∙ append_assoc old (joined word ws) (10 ∷ [])
 
+-- a line of four words
+pub four-words : (old word a b c one two three four new : List ℕ) → one ≡ old ++ word → two ≡ one ++ 32 ∷ a
+    → three ≡ two ++ 32 ∷ b → four ≡ three ++ 32 ∷ c → new ≡ four ++ 10 ∷ []
+    → new ≡ old ++ line_text (word ∷ a ∷ b ∷ c ∷ [])
+four-words old word a b c one two three four new h i j k l =
+    let second = word-more old word [] a one two h i in
+    let third = word-more old word (a ∷ []) b two three second j in
+    let fourth = word-more old word (a ∷ b ∷ []) c three four third k in
+    line-end old word (a ∷ b ∷ c ∷ []) four new fourth l
+
 -- a line of seven words
 pub seven-words : (old word a b c d e f one two three four five six seven new : List ℕ)
     → one ≡ old ++ word → two ≡ one ++ 32 ∷ a → three ≡ two ++ 32 ∷ b → four ≡ three ++ 32 ∷ c
