@@ -1,5 +1,6 @@
 pub mod Blank
 pub mod Changed
+pub mod EditPaths
 pub mod Edited
 pub mod Endings
 pub mod Ids

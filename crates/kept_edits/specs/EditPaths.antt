@@ -1,0 +1,23 @@
+-- The path from the root to the element that an edit changes.
+use Rattle.std.specs.Prelude.{◌≡◌, ℕ, true, List, Some}
+use Rattle.std.specs.List.{list_any}
+use Rattle.math_tree.specs.Trees.{TreeValue}
+use Rattle.math_tree.specs.declared.node.Node.{Node}
+use Rattle.tree_edits.specs.Edits.{has_id, head_of}
+use Rattle.tree_edits.specs.Paths.{children_of, node_at}
+use Rattle.tree_edits.specs.declared.edit.Edit.{Edit}
+use Rattle.tree_edits.specs.declared.edit.Edit.TheVariants.{Text, Attr, Insert, Remove, Replace}
+
+-- the element that an edit changes: the one that it names, or the one over it
+abbrev pub IsEnd : Edit → Node → Type 0
+IsEnd (Text id text) element = has_id id.0 (head_of element) ≡ true
+IsEnd (Attr id name value) element = has_id id.0 (head_of element) ≡ true
+IsEnd (Insert id index new) element = has_id id.0 (head_of element) ≡ true
+IsEnd (Remove id) element = list_any (λ child. has_id id.0 (head_of child)) (children_of element) ≡ true
+IsEnd (Replace id new) element = list_any (λ child. has_id id.0 (head_of child)) (children_of element) ≡ true
+
+-- the path from the root to that element
+pub record IsEditPath (tree : TreeValue) (edit : Edit) (path : List ℕ) : Type 0 where
+  pub element : Node
+  pub at : node_at path tree.root ≡ Some element
+  pub ends : IsEnd edit element
