@@ -1,4 +1,4 @@
-ghost use Rattle.std.specs.Prelude.{◌≡◌, ◌≢◌, Some, None, All, IfOk, IfErr, Ok, map, string_bytes};
+ghost use Rattle.std.specs.Prelude.{◌≡◌, ◌≢◌, Some, None, All, IfOk, IfErr, Ok, Err, map, string_bytes};
 ghost use Rattle.std.specs.Option.{option_map};
 ghost use Rattle.box_writer.specs.Items.{IsOfFont};
 ghost use Rattle.box_writer.specs.Lines.{text_of};
@@ -183,7 +183,8 @@ fn start<L: Ledger>(
     tree: Tree,
     steps: &mut Steps<L>,
 ) -> Result<Session, Refusal>
-    ensures gives { GivesOr (started metrics tree) result }
+    ensures session { IfOk result (λ session. started metrics tree ≡ Ok session.held) }
+    ensures refused { IfErr result (λ refusal. GivesOr (started metrics tree) (Err refusal)) }
     ensures late { IfErr result (λ refusal. ¬ EndsUnlaid (status_of refusal)) }
 {
     match Session::start(alloc, tree, metrics, steps) {
@@ -194,7 +195,7 @@ fn start<L: Ledger>(
 
 /// Writes the lines of the boxes and marks of a session's tree.
 fn show<O: Sink>(alloc: Global, session: &mut Session, out: &mut O) -> Status
-    ensures written { Written (Ok (whole_text (lines_of_page session.old)))
+    ensures written { Written (Ok (whole_text (lines_of_page session.old.held)))
         (O.told out.old) (O.told out.new) result }
     ensures late { ¬ EndsUnlaid result }
 {
@@ -214,7 +215,7 @@ fn answer_script<I: Inputs, O: Sink, L: Ledger>(
     steps: &mut Steps<L>,
 ) -> Status
     ensures answered { Answered (Edits name.now)
-        (option_map (scripted name.now session.old) (I.told inputs.old).files)
+        (option_map (scripted name.now session.old.held) (I.told inputs.old).files)
         (λ files. files name.now ≡ None)
         (I.told inputs.old) (I.told inputs.new)
         (O.told out.old) (O.told out.new) result }

@@ -31,7 +31,7 @@ pub fn answer_lines<O: Sink, L: Ledger>(
     out: &mut O,
     steps: &mut Steps<L>,
 ) -> Status
-    ensures { DeliversParts (output_of_text (answers_to session.old script.now))
+    ensures { DeliversParts (output_of_text (answers_to session.old.held script.now))
         (O.told out.old) (O.told out.new) result }
 {
     let mut rest = script;
@@ -58,8 +58,8 @@ fn answer_line<O: Sink, L: Ledger>(
     out: &mut O,
     steps: &mut Steps<L>,
 ) -> Result<(), Stop>
-    ensures told { Tells (told_of session.old line.now) (O.told out.old) (O.told out.new) result }
-    ensures session { OnOk result (session.new ≡ after_line session.old line.now) }
+    ensures told { Tells (told_of session.old.held line.now) (O.told out.old) (O.told out.new) result }
+    ensures session { OnOk result (session.new.held ≡ after_line session.old.held line.now) }
 {
     let reply = reply_to(alloc, session, line, steps)?;
     reply.write(out, session.metrics())?;

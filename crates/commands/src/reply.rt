@@ -47,9 +47,9 @@ pub fn reply_to<L: Ledger>(
     line: &[u8],
     steps: &mut Steps<L>,
 ) -> Result<Reply, Memory>
-    ensures reply { IfOk result (λ reply. reply ≡ reply_to session.old line.now) }
-    ensures glyphs { IfOk result (IsReplyOfFont session.old.metrics) }
-    ensures session { OnOk result (session.new ≡ after_line session.old line.now) }
+    ensures reply { IfOk result (λ reply. reply ≡ reply_to session.old.held line.now) }
+    ensures glyphs { IfOk result (IsReplyOfFont session.old.held.metrics) }
+    ensures session { OnOk result (session.new.held ≡ after_line session.old.held line.now) }
 {
     if is_white_space(line) {
         return Ok(Reply::Nothing);
@@ -69,9 +69,9 @@ fn carry_out<L: Ledger>(
     steps: &mut Steps<L>,
 ) -> Result<Reply, Memory>
     requires { IsProperCommand command }
-    ensures reply { IfOk result (λ reply. reply ≡ reply_to_command session.old (Some command)) }
-    ensures glyphs { IfOk result (IsReplyOfFont session.old.metrics) }
-    ensures session { OnOk result (session.new ≡ after_command session.old (Some command)) }
+    ensures reply { IfOk result (λ reply. reply ≡ reply_to_command session.old.held (Some command)) }
+    ensures glyphs { IfOk result (IsReplyOfFont session.old.held.metrics) }
+    ensures session { OnOk result (session.new.held ≡ after_command session.old.held (Some command)) }
 {
     match command {
         Command::Show => Ok(Reply::Shown(session.show(alloc)?)),
@@ -87,10 +87,10 @@ fn change<L: Ledger>(
     steps: &mut Steps<L>,
 ) -> Result<Reply, Memory>
     requires { IsProperEdit edit }
-    ensures reply { IfOk result (λ reply. reply ≡ reply_to_edit session.old edit) }
-    ensures glyphs { IfOk result (IsReplyOfFont session.old.metrics) }
+    ensures reply { IfOk result (λ reply. reply ≡ reply_to_edit session.old.held edit) }
+    ensures glyphs { IfOk result (IsReplyOfFont session.old.held.metrics) }
     ensures session { OnOk result
-        (session.new ≡ after_reply (reply_to_edit session.old edit) session.old edit) }
+        (session.new.held ≡ after_reply (reply_to_edit session.old.held edit) session.old.held edit) }
 {
     match session.edit(alloc, edit, steps) {
         Ok(()) => Ok(Reply::Accepted),

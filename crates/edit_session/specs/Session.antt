@@ -18,6 +18,10 @@ pub record SessionValue : Type 0 where
   pub tree : TreeValue
   pub metrics : MetricsValue
 
+-- what contracts see of a session: what it holds
+pub record KeptSession : Type 0 where
+  pub held : SessionValue
+
 -- every layout that is made of its tree can be stored
 abbrev pub IsInRange : SessionValue → Type 0
 IsInRange session = is_tree_in_range session.metrics session.tree ≡ true

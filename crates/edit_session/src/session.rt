@@ -31,15 +31,15 @@ pub struct Session {
 impl Model for Session {
     ghost use Rattle.std.specs.Coded.{codes};
     ghost use Rattle.math_tree.specs.contracts.node.Node as node;
-    ghost use Rattle.edit_session.specs.Session.{SessionValue};
+    ghost use Rattle.edit_session.specs.Session.{KeptSession};
 
-    ghost Value = { SessionValue };
+    ghost Value = { KeptSession };
 
     ghost coded = { Prim.hlevel (codes, node.the_row.coded) };
 
     ghost use Rattle.edit_session.specs.Session.{IsLaidOut};
 
-    ghost view = { λ session. record { tree = session.tree; metrics = session.metrics } };
+    ghost view = { λ session. record { held = record { tree = session.tree; metrics = session.metrics } } };
 
     ghost invariant = { λ session.
         IsLaidOut (record { tree = session.tree; metrics = session.metrics }) session.laid };
@@ -53,8 +53,8 @@ impl Session {
         metrics: Metrics,
         steps: &mut Steps<L>,
     ) -> Result<Session, LayRefusal>
-        ensures ok { IfOk result (λ session. session ≡ record { tree = tree; metrics = metrics }) }
-        ensures fit { IfOk result IsInRange }
+        ensures ok { IfOk result (λ session. session.held ≡ record { tree = tree; metrics = metrics }) }
+        ensures fit { IfOk result (λ session. IsInRange session.held) }
         ensures range { result ≡ Err Range → is_tree_in_range metrics tree ≡ false }
     {
         let laid = lay_fresh(alloc, &tree, &metrics, steps)?;
@@ -74,12 +74,12 @@ impl Session {
         steps: &mut Steps<L>,
     ) -> Result<(), SessionRefusal>
         requires proper { IsProperEdit edit }
-        ensures accepted { OnOk result (refusal_of self.old.tree edit ≡ None) }
-        ensures edited { OnOk result (self.new ≡ edited_session self.old edit) }
-        ensures fit { OnOk result (IsInRange self.new) }
-        ensures refused { IfErr result (IsCause self.old edit) }
+        ensures accepted { OnOk result (refusal_of self.old.held.tree edit ≡ None) }
+        ensures edited { OnOk result (self.new.held ≡ edited_session self.old.held edit) }
+        ensures fit { OnOk result (IsInRange self.new.held) }
+        ensures refused { IfErr result (IsCause self.old.held edit) }
         ensures unchanged { OnErr result (self.new ≡ self.old) }
-        ensures unlaid { refusal_of self.old.tree edit ≢ None → steps.new ≡ steps.old }
+        ensures unlaid { refusal_of self.old.held.tree edit ≢ None → steps.new ≡ steps.old }
     {
         let taken = apply(alloc, &mut self.tree, edit)?;
         match lay_fresh(alloc, &self.tree, &self.metrics, steps) {
@@ -97,9 +97,9 @@ impl Session {
     /// Says where the boxes and the marks of the tree stand, in document order: the root's baseline
     /// begins at (0, 0).
     pub fn show(&mut self, alloc: Global) -> Result<Placed, Memory>
-        ensures page { IfOk result (λ items. items ≡ page self.old) }
-        ensures glyphs { IfOk result (All (IsOfFont self.old.metrics)) }
-        ensures unchanged { self.new ≡ self.old }
+        ensures page { IfOk result (λ items. items ≡ page self.old.held) }
+        ensures glyphs { IfOk result (All (IsOfFont self.old.held.metrics)) }
+        ensures unchanged { self.new.held ≡ self.old.held }
     {
         // What placing needs to know of the tree: the call does nothing.
         let _root = self.tree.root();
@@ -109,23 +109,23 @@ impl Session {
 
     /// The metrics of the font, as the session was started with them.
     pub fn metrics(&self) -> &Metrics
-        ensures exact { result.now ≡ self.now.metrics }
-        ensures fit { IsInRange self.now }
+        ensures exact { result.now ≡ self.now.held.metrics }
+        ensures fit { IsInRange self.now.held }
     {
         &self.metrics
     }
 
     /// An equal tree, with the same ids and the same next id.
     pub fn tree(&self, alloc: Global) -> Result<Tree, Memory>
-        ensures { IfOk result (λ copied. copied ≡ self.now.tree) }
+        ensures { IfOk result (λ copied. copied ≡ self.now.held.tree) }
     {
         self.tree.copy(alloc)
     }
 
     /// The box of the root, as it is laid out.
     pub fn root_box(&self) -> MathBox
-        ensures exact { result ≡ root_box self.now }
-        ensures fit { IsInRange self.now }
+        ensures exact { result ≡ root_box self.now.held }
+        ensures fit { IsInRange self.now.held }
     {
         self.laid.outcome.answer.frame
     }

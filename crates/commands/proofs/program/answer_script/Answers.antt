@@ -9,7 +9,7 @@ use Rattle.commands.proofs.program.answer_script.Goals as goal
 pub returns-in-Ok-clause-answered : goal.returns-in-Ok-clause-answered
 returns-in-Ok-clause-answered g c =
     let name = c.args.name.now in
-    let session = c.args.session.now in
+    let session = c.args.session.now.held in
     record {
       result = Ok (answers_to session c.in-Ok.script);
       answers = with_script name session _ _ c.in-Ok.script c.in-Ok.ensures.answers;
@@ -22,7 +22,7 @@ returns-in-Ok-clause-answered g c =
 pub returns-in-Err-clause-answered : goal.returns-in-Err-clause-answered
 returns-in-Err-clause-answered g c = record {
   result = Err c.in-Err.refusal;
-  answers = without_script c.args.name.now c.args.session.now _ _ c.in-Err.refusal c.in-Err.ensures.answers;
+  answers = without_script c.args.name.now c.args.session.now.held _ _ c.in-Err.refusal c.in-Err.ensures.answers;
   delivers = inl c.tell.ensures;
   read_to_end = λ done parts. absurd (told_not_done c.in-Err.refusal _ _ _ _ c.tell.ensures done);
 }

@@ -1,4 +1,4 @@
-use Rattle.std.proofs.Common.{inl, Err}
+use Rattle.std.proofs.Common.{inl, inr, sym, Err}
 use Rattle.commands.proofs.Answering.{with_session, without_session}
 use Rattle.commands.proofs.Ending.{told_not_done}
 use Rattle.commands.proofs.program.edit.Goals as goal
@@ -8,7 +8,7 @@ returns-in-Ok-clause-answered g c =
     let a = c.answer_script-status.ensures.answered in
     record {
       result = a.result;
-      answers = with_session c.args.script.now c.args.metrics c.args.tree _ _ c.in-Ok.session a.result c.in-Ok.ensures.gives a.answers;
+      answers = with_session c.args.script.now c.args.metrics c.args.tree _ _ c.in-Ok.session.held a.result (inr (sym c.in-Ok.ensures.session)) a.answers;
       delivers = a.delivers;
       read_to_end = a.read_to_end;
     }
@@ -16,7 +16,7 @@ returns-in-Ok-clause-answered g c =
 pub returns-in-Err-clause-answered : goal.returns-in-Err-clause-answered
 returns-in-Err-clause-answered g c = record {
   result = Err c.in-Err.refusal;
-  answers = without_session c.args.script.now c.args.metrics c.args.tree _ c.in-Err.refusal c.in-Err.ensures.gives;
+  answers = without_session c.args.script.now c.args.metrics c.args.tree _ c.in-Err.refusal c.in-Err.ensures.refused;
   delivers = inl c.tell.ensures;
   read_to_end = λ done parts. absurd (told_not_done c.in-Err.refusal _ _ _ _ c.tell.ensures done);
 }

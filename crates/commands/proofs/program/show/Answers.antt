@@ -8,7 +8,7 @@ use Rattle.commands.proofs.program.show.Goals as goal
 
 pub returns-in-Ok-clause-written : goal.returns-in-Ok-clause-written
 returns-in-Ok-clause-written g c =
-    let s = c.args.session.now in
+    let s = c.args.session.now.held in
     let told = g.O.Sink.told in
     let metrics : c.metrics.result.now ≡ s.metrics = c.metrics.ensures.exact ∙ ap (λ t. t.metrics) c.in-Ok.ensures.unchanged in
     let same : text_of c.metrics.result.now c.in-Ok.placed ≡ lines_of_page s = λ i. text_of (metrics i) (c.in-Ok.ensures.page i) in

@@ -7,7 +7,7 @@ use Rattle.layout_model.specs.Range.{outcome_fits}
 use Rattle.layout_model.specs.declared.laid.Laid.{Laid}
 use Rattle.placement.specs.Placing.{placed}
 use Rattle.edit_session.proofs.Whole.{all_stored, few_levels, glyphs_known}
-use Rattle.edit_session.specs.Session.{SessionValue}
+use Rattle.edit_session.specs.Session.{KeptSession}
 use Rattle.edit_session.proofs.session.Session.show.Goals as goal
 
 pub place-requires-clause-levels : goal.place-requires-clause-levels
@@ -24,9 +24,9 @@ place-requires-clause-stored c =
 pub returns-clause-glyphs : goal.returns-clause-glyphs
 returns-clause-glyphs c =
     let kept = c.self.inside in
-    let metrics = c.args.self.now.metrics in
+    let metrics = c.args.self.now.held.metrics in
     let of_tree = glyphs_known kept.metrics kept.tree c.is_taken.ensures c.self.invariant.fit in
     let of_laid = subst (λ (l : Laid). All (IsOfFont kept.metrics) (placed l (pos 0) (pos 0))) (sym c.self.invariant.laid_is) of_tree in
-    let known = subst (λ (s : SessionValue). All (IsOfFont s.metrics) (placed kept.laid (pos 0) (pos 0))) c.self.view_is of_laid in
+    let known = subst (λ (s : KeptSession). All (IsOfFont s.held.metrics) (placed kept.laid (pos 0) (pos 0))) c.self.view_is of_laid in
     IfOk-weaker c.place.result (λ items. items ≡ placed kept.laid (pos 0) (pos 0)) (All (IsOfFont metrics))
     (λ items e. subst (All (IsOfFont metrics)) (sym e) known) c.place.ensures
