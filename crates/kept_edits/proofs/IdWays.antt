@@ -119,7 +119,7 @@ one_way_law tree a b x y id whole at has to too = one_way a b tree.root x y id (
 
 -- ---- layouts that are needed
 
-made_at : (m : MetricsValue) (path : List ℕ) (node : Node) (context : Context) (element : Node) (made : Context) → IsMade m path node context element made
+pub made_at : (m : MetricsValue) (path : List ℕ) (node : Node) (context : Context) (element : Node) (made : Context) → IsMade m path node context element made
     → node_at path node ≡ Some element
 made_at m [] node context element made h = ap (λ (n : Node). Some n) (sym h.0)
 made_at m (place ∷ path) node context element made (question, child, asks, at, rest) =

@@ -1,10 +1,15 @@
 pub mod Backwards
 pub mod Changing
+pub mod EditEnds
 pub mod EditedTrees
 pub mod Ended
 pub mod IdWays
 pub mod Lists
 pub mod Needing
 pub mod OnTheWay
+pub mod OnePath
+pub mod Origins
+pub mod ToldById
 pub mod Unlaid
 pub mod Ways
+mod Worked

@@ -27,25 +27,25 @@ use Rattle.kept_edits.proofs.Changing.{marked, marked_is}
 -- ---- places in a changed list
 
 module _ {X : Type 0} where
-  insert_before : (xs : List X) (i j : ℕ) (x : X) → i ≤ length xs → j < i → slice_get (insert xs i x) j ≡ slice_get xs j
+  pub insert_before : (xs : List X) (i j : ℕ) (x : X) → i ≤ length xs → j < i → slice_get (insert xs i x) j ≡ slice_get xs j
   insert_before xs zero j x w l = absurd (omega (arith, l))
   insert_before [] (suc i) j x w l = absurd (omega (arith, w))
   insert_before (y ∷ xs) (suc i) zero x w l = refl
   insert_before (y ∷ xs) (suc i) (suc j) x w l = insert_before xs i j x (omega (arith, w)) (omega (arith, l))
 
-  insert_behind : (xs : List X) (i j : ℕ) (x : X) → i ≤ length xs → i ≤ j → slice_get (insert xs i x) (suc j) ≡ slice_get xs j
+  pub insert_behind : (xs : List X) (i j : ℕ) (x : X) → i ≤ length xs → i ≤ j → slice_get (insert xs i x) (suc j) ≡ slice_get xs j
   insert_behind xs zero j x w l = refl
   insert_behind [] (suc i) j x w l = absurd (omega (arith, w))
   insert_behind (y ∷ xs) (suc i) zero x w l = absurd (omega (arith, l))
   insert_behind (y ∷ xs) (suc i) (suc j) x w l = insert_behind xs i j x (omega (arith, w)) (omega (arith, l))
 
-  remove_before : (xs : List X) (i j : ℕ) → i < length xs → j < i → slice_get (remove xs i) j ≡ slice_get xs j
+  pub remove_before : (xs : List X) (i j : ℕ) → i < length xs → j < i → slice_get (remove xs i) j ≡ slice_get xs j
   remove_before [] i j w l = absurd (omega (arith, w))
   remove_before (y ∷ xs) zero j w l = absurd (omega (arith, l))
   remove_before (y ∷ xs) (suc i) zero w l = refl
   remove_before (y ∷ xs) (suc i) (suc j) w l = remove_before xs i j (omega (arith, w)) (omega (arith, l))
 
-  remove_behind : (xs : List X) (i j : ℕ) → i < length xs → i ≤ j → slice_get (remove xs i) j ≡ slice_get xs (suc j)
+  pub remove_behind : (xs : List X) (i j : ℕ) → i < length xs → i ≤ j → slice_get (remove xs i) j ≡ slice_get xs (suc j)
   remove_behind [] i j w l = absurd (omega (arith, w))
   remove_behind (y ∷ xs) zero j w l = refl
   remove_behind (y ∷ xs) (suc i) zero w l = absurd (omega (arith, l))
@@ -139,7 +139,7 @@ stays_law m memo change other path known from to entry fits same came h = stays_
 
 -- ---- what is missing then is counted
 
-missing_counted : (m : MetricsValue) (node : Node) (context : Context) (memo : Memo) (change : Change) (other : MemoChange) (path : List ℕ) (known : List Facts)
+pub missing_counted : (m : MetricsValue) (node : Node) (context : Context) (memo : Memo) (change : Change) (other : MemoChange) (path : List ℕ) (known : List Facts)
     → IsSealedFor m node context memo → FitsMemo other path memo → IsSame m change other
     → (pair : Pair) → IsPairMissing (changed_memo other known path memo) pair → IsCounted m path change node context pair
 missing_counted m node context memo change other path known sealed fits same pair missing from came need =

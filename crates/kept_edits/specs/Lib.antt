@@ -1,4 +1,5 @@
 pub mod Blank
+pub mod ByIds
 pub mod Changed
 pub mod EditPaths
 pub mod Edited

@@ -1,6 +1,8 @@
 //! What holds of changed memos.
 //!
 //! A law is proved where it is a contract, so each function here has one and computes nothing.
+ghost use Rattle.kept_edits.specs.ByIds.{EditAtLaw, NeedLaw, PassNeedLaw};
+ghost use Rattle.kept_edits.specs.EditPaths.{EditPathLaw};
 ghost use Rattle.kept_edits.specs.Edited.{FollowLaw, OwnEditLaw, ParentEditLaw};
 ghost use Rattle.kept_edits.specs.Endings.{AcceptedLaw, EntriesStayLaw, RefusedLaw};
 ghost use Rattle.kept_edits.specs.Ids.{IdsLaw, OneWayLaw};
@@ -48,6 +50,28 @@ pub fn there_is_one_way_to_an_id()
 /// Each layout that is needed is of an element of the tree, and two of one id in one context are one.
 pub fn needed_layouts_are_told_by_ids()
     ensures { IdsLaw }
+{}
+
+/// An edit of a whole tree that isn't refused has one path.
+pub fn an_edit_has_one_path()
+    ensures { EditPathLaw }
+{}
+
+/// An edit of a whole tree that isn't refused is one change at the end of that path, and brings new ids
+/// only.
+pub fn an_edit_changes_the_end_of_its_path()
+    ensures { EditAtLaw }
+{}
+
+/// Layouts that are needed after an edit and are counted by places are ones that the edit needs, told by
+/// ids.
+pub fn counted_layouts_are_needed()
+    ensures { NeedLaw }
+{}
+
+/// Each step of a pass after an edit is a layout that the edit needs, told by ids; none is taken twice.
+pub fn a_pass_takes_what_an_edit_needs()
+    ensures { PassNeedLaw }
 {}
 
 /// An edit that isn't refused is one change at the end of the way to the element that it names.
