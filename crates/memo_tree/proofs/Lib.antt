@@ -1,3 +1,4 @@
+pub mod Changes
 pub mod Elements
 pub mod Followed
 pub mod Rooms

@@ -1,5 +1,5 @@
 -- The context of a tree's root, and what is kept of its layout.
-use Rattle.std.proofs.Common.{◌≡◌, ◌∙◌, refl, ap, subst, true, ◌≤◌, []}
+use Rattle.std.proofs.Common.{◌≡◌, ◌∙◌, refl, sym, ap, subst, ℕ, Bool, true, ◌≤◌, []}
 use Rattle.font_metrics.specs.Metrics.{MetricsValue}
 use Rattle.math_tree.specs.Trees.{IsWhole, TreeValue}
 use Rattle.math_tree.specs.declared.node.Node.{Node}
@@ -12,14 +12,18 @@ use Rattle.layout_model.specs.Layout.{in_range, is_tree_in_range, root_context}
 use Rattle.layout_model.specs.declared.context.Context.{Context}
 use Rattle.layout_model.specs.declared.context.Stretch.TheVariants.{None as Unstretched}
 use Rattle.kept_results.specs.Contexts.{Suits}
-use Rattle.kept_results.specs.Ends.{kept_count}
-use Rattle.kept_results.specs.Kept.{HoldsOne, IsKept}
+use Rattle.kept_results.specs.Ends.{kept_count, sealed, settled}
+use Rattle.kept_results.specs.Kept.{Agrees, HoldsOne, IsKept}
+use Rattle.kept_results.specs.Passes.{Needs, Passes}
 use Rattle.kept_results.specs.declared.memo.Memo.{Memo}
 use Rattle.kept_results.specs.declared.memo.Memo.TheViews.{out-Memo}
+use Rattle.kept_results.proofs.Sealing.{seal_law}
 use Rattle.kept_laid.proofs.Few.{limit_law}
 use Rattle.kept_edits.specs.Need.{IsSealedFor}
+use Rattle.kept_edits.specs.Passed.{TakesMissing}
 use Rattle.kept_sweep.specs.Swept.{KeepsNeeded}
-use Rattle.memo_tree.specs.Trees.{IsLaidOut, context_of}
+use Rattle.memo_tree.specs.States.{IsPassed}
+use Rattle.memo_tree.specs.Trees.{IsLaidOut, MemoTreeValue, context_of}
 
 abbrev pub of_style : Style → Context
 of_style style = record { style = style; form = Infix; stretch = Unstretched }
@@ -59,3 +63,34 @@ pub few_kept : (m : MetricsValue) (tree : TreeValue) (root : Node) (context : Co
 few_kept m tree root context memo r suits whole h =
     let all = subst (λ (n : Node). KeepsNeeded m n context memo) r h in
     limit_law m tree.root context memo suits.carried all.agrees all.no_other whole.few
+
+-- ---- passes
+
+-- what holds of a root that was read, and of the context that was made for it
+pub of_tree : (m : MetricsValue) (tree : TreeValue) (root : Node) (context : Context) (P : Node → Context → Type 0) → root ≡ tree.root → context ≡ context_of m tree
+    → P root context → P tree.root (context_of m tree)
+of_tree m tree root context P r s h = subst (P tree.root) s (subst (λ (n : Node). P n context) r h)
+
+pub takes_missing : (m : MetricsValue) (node : Node) (context : Context) (before after : Memo) (from to : ℕ) (done : Bool)
+    → Passes m node (Needs m node context) before after from to done → TakesMissing m node context before from to
+takes_missing m node context before after from to done h = record { pairs = h.pairs; steps = h.steps; needed = h.needed_all; missing = h.missing; apart = h.apart }
+
+pub passed_of : (m : MetricsValue) (tree : TreeValue) (memo : Memo) → Agrees m tree.root memo → IsKept (out-Memo memo) (context_of m tree)
+    → IsPassed record { tree = tree; metrics = m; memo = memo }
+passed_of m tree memo agrees kept = record { agrees = agrees; kept = record { entry = kept.entry; held = kept.has; in_context = kept.in_context } }
+
+-- a pass that was done is sealed
+pub sealed_pass : (laid : MemoTreeValue) (memo : Memo) → IsPassed laid → memo ≡ sealed laid.memo → IsLaidOut record { tree = laid.tree; metrics = laid.metrics; memo = memo }
+sealed_pass laid memo h is =
+    let m = laid.metrics in
+    let root = laid.tree.root in
+    let s = seal_law m root laid.memo h.agrees in
+    let own = (h.agrees.at [] root laid.memo (refl, refl)).sound h.kept.entry h.kept.held in
+    record {
+      sealed = subst (IsSealedFor m root (context_of m laid.tree)) (sym is) record {
+        ready = record { agrees = s.agrees; plain = s.plain };
+        unmarked = s.unmarked;
+        kept = record { entry = settled h.kept.entry; held = s.stays [] h.kept.entry h.kept.held; in_context = h.kept.in_context };
+      };
+      fit = subst (λ (c : Context). in_range m root c ≡ true) h.kept.in_context own.fits;
+    }

@@ -1,3 +1,7 @@
+pub mod Counted
+pub mod Followed
+pub mod Reversing
 pub mod Rooms
+pub mod States
 pub mod Trees
 pub mod Ways

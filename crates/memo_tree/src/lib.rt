@@ -1,20 +1,27 @@
 //! A tree with its kept layouts.
 //!
 //! `MemoTree::start` lays a tree out with the metrics of a font, and keeps each layout that is made for
-//! it. What stands in the layout of the tree is read off what is kept, without any layout. No command
-//! uses it yet.
+//! it. An edit is carried out by `change`, `relay`, which makes the layouts that aren't kept, and `seal`;
+//! where `relay` is refused, `undo_pass` and `undo_change` give back what was there before. What stands
+//! in the layout of the tree is read off what is kept, without any layout. No command uses it yet.
 //!
 //! - Models: this project's own; MathML Core says nothing of it.
-//! - Proved: what is kept agrees with the tree and the metrics at any time, the layout of the root is
-//!   among it, and what is read is what a fresh layout gives; `way_of` says where an edit that
-//!   isn't refused changes the tree.
+//! - Proved: in each state what is kept agrees with the tree and the metrics, and before and after an
+//!   edit the layout of the root is among it (`specs/States.antt`); what isn't kept after an edit is
+//!   counted as needed anew (`specs/Counted.antt`); what is taken back is as it was, and takes no memory
+//!   (`specs/Reversing.antt`); and what is read is what a fresh layout gives.
 //! - Knows nothing of: how an element is laid out, and what is written of it.
-//! - Change what is kept: `kept_results`; what is dropped: `kept_sweep`.
+//! - Change what an edit does to what is kept: `src/following.rt`, and below it `kept_edits`. Change
+//!   what is kept: `kept_results`; what is dropped: `kept_sweep`.
 #![tactic(auto)]
 
+mod element; // the element at the end of a way
+mod following; // memos after an edit
+mod reversal; // Reversal
 mod root; // the context of a tree's root
 mod tree; // MemoTree
 mod way; // where an edit changes a tree
 
+pub use reversal::Reversal;
 pub use tree::MemoTree;
 pub use way::{Place, Way, way_of};

@@ -1,23 +1,39 @@
-ghost use Rattle.std.specs.Prelude.{◌≡◌, ◌≤◌, ◌+◌, true, false, Err, IfOk, OnOk};
+ghost use Rattle.std.specs.Prelude.{◌≡◌, ◌≤◌, ◌<◌, ◌+◌, ◌^◌, true, false, Err, IfErr, IfOk, None as NoReason, OnErr, OnOk};
 ghost use Rattle.fixed_units.specs.declared.refusal.LayRefusal.TheVariants.{Range};
+ghost use Rattle.tree_edits.specs.Applying.{IsProperEdit, IsReason};
+ghost use Rattle.tree_edits.specs.Edits.{edited, refusal_of};
 ghost use Rattle.layout_model.specs.Layout.{is_tree_in_range, laid_tree};
-ghost use Rattle.kept_results.specs.Ends.{kept_count};
+ghost use Rattle.kept_results.specs.Ends.{kept_count, sealed, stripped};
+ghost use Rattle.kept_results.specs.Kept.{Keeps};
+ghost use Rattle.kept_edits.specs.Blank.{blank};
+ghost use Rattle.kept_edits.specs.Passed.{TakesMissing};
 ghost use Rattle.kept_sweep.specs.Swept.{CountsNeeded, IsPartOf, KeepsNeeded};
-ghost use Rattle.memo_tree.specs.Trees.{IsLaidOut, context_of, root_box};
+ghost use Rattle.memo_tree.specs.Counted.{MissingIsCounted};
+ghost use Rattle.memo_tree.specs.Reversing.{CanReverse, Reverses, reversed};
+ghost use Rattle.memo_tree.specs.States.{Changed, IsIn, Passed, Sealed, Stopped};
+ghost use Rattle.memo_tree.specs.Trees.{context_of, root_box};
 
+use crate::following::follow;
+use crate::reversal::Reversal;
 use crate::root::context_of;
+use crate::way::way_of;
 use fixed_units::{LayRefusal, MathBox, Memory, Steps};
 use font_metrics::Metrics;
+use kept_edits::blank;
 use kept_laid::{count, laid_of, root_box};
-use kept_results::Memo;
+use kept_results::{Memo, relay_element, seal, undo_pass};
 use kept_sweep::{start_layout, sweep_layouts};
 use layout_model::Laid;
 use math_tree::Tree;
 use std::alloc::Global;
 use std::marker::Model;
 use std::sync::ledger::Ledger;
+use tree_edits::{Edit, EditRefusal, apply, restore};
 
 /// A tree with the layouts that are kept of it and of its elements, and the metrics of their font.
+///
+/// It is in one of four states (`specs/States.antt`): a pass, `relay`, leads from changed to passed or,
+/// where it is refused, to stopped; `seal` ends a pass that was done, and `undo_pass` takes one back.
 #[derive(Drop)]
 pub struct MemoTree {
     tree: Tree,
@@ -35,15 +51,29 @@ impl Model for MemoTree {
 
     ghost coded = { Prim.hlevel (codes, node.the_row.coded, kept.the_row.coded) };
 
-    ghost use Rattle.memo_tree.specs.Trees.{IsLaidOut};
+    ghost use Rattle.math_tree.specs.Trees.{IsWhole};
 
     ghost view = { λ laid. record { tree = laid.tree; metrics = laid.metrics; memo = laid.memo } };
 
-    ghost invariant = { λ laid.
-        IsLaidOut (record { tree = laid.tree; metrics = laid.metrics; memo = laid.memo }) };
+    ghost invariant = { λ laid. IsWhole laid.tree };
 }
 
 impl MemoTree {
+    /// Takes a tree and metrics over, and keeps no layout yet.
+    pub fn make(alloc: Global, tree: Tree, metrics: Metrics) -> Result<MemoTree, Memory>
+        ensures tree { IfOk result (λ laid. laid.tree ≡ tree) }
+        ensures metrics { IfOk result (λ laid. laid.metrics ≡ metrics) }
+        ensures memo { IfOk result (λ laid. laid.memo ≡ blank tree.root) }
+        ensures changed { IfOk result (IsIn Changed) }
+    {
+        let memo = blank(alloc, tree.root())?;
+        Ok(MemoTree {
+            tree,
+            metrics,
+            memo,
+        })
+    }
+
     /// Takes a tree and metrics over, and lays the tree out. Exactly the layouts are kept that the one of
     /// the tree needs, and each ticks a step. It is refused with `Range` exactly where a number of one of
     /// them can't be stored; then both are dropped.
@@ -58,7 +88,7 @@ impl MemoTree {
         ensures kept { IfOk result (λ laid. KeepsNeeded metrics tree.root (context_of metrics tree) laid.memo) }
         ensures steps { CountsNeeded metrics tree.root (context_of metrics tree) steps.old steps.new }
         ensures all { IfOk result (λ laid. steps.new ≡ steps.old + kept_count laid.memo) }
-        ensures fit { IfOk result IsLaidOut }
+        ensures fit { IfOk result (IsIn Sealed) }
         ensures range { result ≡ Err Range → is_tree_in_range metrics tree ≡ false }
     {
         let context = context_of(&tree, &metrics);
@@ -70,11 +100,102 @@ impl MemoTree {
         })
     }
 
+    /// Edits the tree, and changes what is kept beside it: what is kept of elements that the edit leaves
+    /// alone stays kept. Where the edit is refused, all stays as it is.
+    pub fn change(&mut self, alloc: Global, edit: Edit) -> Result<Reversal, EditRefusal>
+        requires proper { IsProperEdit edit }
+        requires sealed { IsIn Sealed self.old }
+        ensures accepted { OnOk result (refusal_of self.old.tree edit ≡ NoReason) }
+        ensures tree { OnOk result (self.new.tree ≡ edited self.old.tree edit) }
+        ensures metrics { self.new.metrics ≡ self.old.metrics }
+        ensures changed { OnOk result (IsIn Changed self.new) }
+        ensures counted { OnOk result (MissingIsCounted self.old edit self.new) }
+        ensures reversal { IfOk result (λ reversal. Reverses reversal self.new self.old) }
+        ensures refused { IfErr result (IsReason self.old.tree edit) }
+        ensures unchanged { OnErr result (self.new ≡ self.old) }
+    {
+        let found = way_of(&self.tree, &edit);
+        let taken = apply(alloc, &mut self.tree, edit)?;
+        let Some(way) = found else {
+            unreachable!();
+        };
+        match follow(alloc, self.tree.root(), &mut self.memo, &way) {
+            Ok(back) => Ok(Reversal::of(taken, way.path, back)),
+            Err(_) => {
+                restore(&mut self.tree, taken);
+                Err(EditRefusal::Memory)
+            }
+        }
+    }
+
+    /// Takes a change back. It takes no memory.
+    pub fn undo_change(&mut self, reversal: Reversal)
+        requires { CanReverse reversal self.old }
+        ensures { self.new ≡ reversed reversal self.old }
+    {
+        reversal.take_back(&mut self.tree, &mut self.memo);
+    }
+
+    /// Lays the tree out as far as its layouts aren't kept, each of which ticks a step; those that are
+    /// kept stay. It is refused with `Range` exactly where a number of a layout that the one of the tree
+    /// needs can't be stored.
+    pub fn relay<L: Ledger>(
+        &mut self,
+        alloc: Global,
+        steps: &mut Steps<L>,
+    ) -> Result<(), LayRefusal>
+        requires changed { IsIn Changed self.old }
+        ensures tree { self.new.tree ≡ self.old.tree }
+        ensures metrics { self.new.metrics ≡ self.old.metrics }
+        ensures stopped { IsIn Stopped self.new }
+        ensures passed { OnOk result (IsIn Passed self.new) }
+        ensures before { stripped self.new.memo ≡ self.old.memo }
+        ensures steps { TakesMissing self.old.metrics self.old.tree.root (context_of self.old.metrics self.old.tree) self.old.memo steps.old steps.new }
+        ensures keeps { Keeps self.old.memo self.new.memo }
+        ensures all { OnOk result (steps.new + kept_count self.old.memo ≡ steps.old + kept_count self.new.memo) }
+        ensures fit { OnOk result (is_tree_in_range self.old.metrics self.old.tree ≡ true) }
+        ensures range { result ≡ Err Range → is_tree_in_range self.old.metrics self.old.tree ≡ false }
+    {
+        let context = context_of(&self.tree, &self.metrics);
+        relay_element(
+            alloc,
+            self.tree.root(),
+            &mut self.memo,
+            &context,
+            &self.metrics,
+            steps,
+        )?;
+        Ok(())
+    }
+
+    /// Takes a pass back: what it made is dropped. It takes no memory.
+    pub fn undo_pass(&mut self)
+        ensures tree { self.new.tree ≡ self.old.tree }
+        ensures metrics { self.new.metrics ≡ self.old.metrics }
+        ensures memo { self.new.memo ≡ stripped self.old.memo }
+    {
+        undo_pass(&mut self.memo);
+    }
+
+    /// Ends a pass that was done: layouts of elements as they were before it are dropped. It takes no
+    /// memory.
+    pub fn seal(&mut self)
+        requires passed { IsIn Passed self.old }
+        ensures tree { self.new.tree ≡ self.old.tree }
+        ensures metrics { self.new.metrics ≡ self.old.metrics }
+        ensures memo { self.new.memo ≡ sealed self.old.memo }
+        ensures sealed { IsIn Sealed self.new }
+    {
+        seal(&mut self.memo);
+    }
+
     /// Drops all layouts but those that the one of the tree needs, and says how many are left. It takes no
     /// memory.
     pub fn sweep(&mut self) -> usize
+        requires sealed { IsIn Sealed self.old }
         ensures tree { self.new.tree ≡ self.old.tree }
         ensures metrics { self.new.metrics ≡ self.old.metrics }
+        ensures sealed { IsIn Sealed self.new }
         ensures kept { KeepsNeeded self.old.metrics self.old.tree.root (context_of self.old.metrics self.old.tree) self.new.memo }
         ensures part { IsPartOf self.new.memo self.old.memo }
         ensures count { result ≡ kept_count self.new.memo }
@@ -87,6 +208,7 @@ impl MemoTree {
 
     /// The layout of the tree with all elements in flow, read off what is kept.
     pub fn laid(&self, alloc: Global) -> Result<Laid, Memory>
+        requires sealed { IsIn Sealed self.now }
         ensures { IfOk result (λ all. all ≡ laid_tree self.now.metrics self.now.tree) }
     {
         let context = context_of(&self.tree, &self.metrics);
@@ -95,16 +217,24 @@ impl MemoTree {
 
     /// The box of the root. It takes no memory.
     pub fn root_box(&self) -> MathBox
+        requires sealed { IsIn Sealed self.now }
         ensures { result ≡ root_box self.now }
     {
         let context = context_of(&self.tree, &self.metrics);
         root_box(&self.memo, &context)
     }
 
+    /// How many layouts are kept. It takes no memory.
+    pub fn kept(&self) -> usize
+        requires few { kept_count self.now.memo < 2 ^ 64 }
+        ensures { result ≡ kept_count self.now.memo }
+    {
+        count(&self.memo)
+    }
+
     /// The tree.
     pub fn tree(&self) -> &Tree
-        ensures exact { result.now ≡ self.now.tree }
-        ensures fit { IsLaidOut self.now }
+        ensures { result.now ≡ self.now.tree }
     {
         &self.tree
     }

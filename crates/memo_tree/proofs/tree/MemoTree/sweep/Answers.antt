@@ -1,4 +1,5 @@
-use Rattle.std.proofs.Common.{arith}
+use Rattle.std.proofs.Common.{arith, sym, subst}
+use Rattle.memo_tree.specs.Trees.{IsLaidOut}
 use Rattle.memo_tree.proofs.Roots.{few_kept, laid_out, sealed_of}
 use Rattle.memo_tree.proofs.tree.MemoTree.sweep.Goals as goal
 
@@ -8,13 +9,13 @@ count-requires c =
     c.root.ensures.exact c.context_of-context.ensures.suits c.root.ensures.whole c.sweep_layouts.ensures.swept in
     record { few = omega (arith, few) }
 
-pub invariant_of-self : goal.invariant_of-self
-invariant_of-self c =
+pub returns-clause-sealed : goal.returns-clause-sealed
+returns-clause-sealed c =
     let m = c.self.inside.metrics in
     let root = c.root.result.now in
     let context = c.context_of-context.result in
     laid_out m c.self.inside.tree root context c.sweep_layouts.new.memo c.root.ensures.exact c.context_of-context.ensures.exact
-    (sealed_of m root context c.sweep_layouts.new.memo c.sweep_layouts.ensures.swept) c.self.invariant.fit
+    (sealed_of m root context c.sweep_layouts.new.memo c.sweep_layouts.ensures.swept) (subst IsLaidOut (sym c.self.view_is) c.requires.sealed).fit
 
 pub returns-clause-few : goal.returns-clause-few
 returns-clause-few c =

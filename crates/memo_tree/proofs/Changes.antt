@@ -1,0 +1,56 @@
+-- An edit of a tree with its kept layouts.
+use Rattle.std.proofs.Common.{◌≡◌, ◌∙◌, ap, subst}
+use Rattle.math_tree.specs.Trees.{TreeValue}
+use Rattle.math_tree.specs.declared.node.Node.{Node}
+use Rattle.tree_edits.specs.Applying.{TakenValue, Undoes}
+use Rattle.tree_edits.specs.Edits.{edited}
+use Rattle.tree_edits.specs.declared.edit.Edit.{Edit}
+use Rattle.kept_results.specs.declared.memo.Memo.{Memo}
+use Rattle.kept_results.proofs.Whole.{kept_law}
+use Rattle.kept_edits.specs.Changed.{undone_memo}
+use Rattle.kept_edits.specs.Laws.{IsReadyFor}
+use Rattle.kept_edits.specs.declared.change.MemoChange.{MemoChange}
+use Rattle.memo_tree.specs.Counted.{MissingIsCounted}
+use Rattle.memo_tree.specs.Followed.{IsBefore, IsFollowed}
+use Rattle.memo_tree.specs.Reversing.{Reverses}
+use Rattle.memo_tree.specs.Trees.{IsLaidOut, MemoTreeValue, context_of}
+use Rattle.memo_tree.specs.Ways.{IsWay}
+use Rattle.memo_tree.specs.declared.way.Way.{Way}
+
+module _ (old : MemoTreeValue) (edit : Edit) (way : Way) (tree : TreeValue) (root : Node) (laid : IsLaidOut old) (is : IsWay old.tree edit way) (made : tree ≡ edited old.tree edit)
+    (read : root ≡ tree.root) where
+  -- the memo before the edit, beside the edited tree
+  abbrev pub before : IsBefore root old.memo way
+  before = record {
+    metrics = old.metrics;
+    old = old.tree.root;
+    change = is.change;
+    fits = is.is.fits;
+    gives = read ∙ ap (λ (t : TreeValue). t.root) made ∙ is.is.gives;
+    alike = is.alike;
+    ready = laid.sealed.ready;
+    unmarked = laid.sealed.unmarked;
+  }
+
+  module _ (now : Memo) (back : MemoChange) (h : IsFollowed root old.memo way before now back) where
+    pub ready_now : IsReadyFor old.metrics tree.root now
+    ready_now = subst (λ (n : Node). IsReadyFor old.metrics n now) read h.ready
+
+    pub reverses : (taken : TakenValue) → Undoes taken tree old.tree
+        → Reverses record { taken = taken; path = way.path; back = back } record { tree = tree; metrics = old.metrics; memo = now } old
+    reverses taken undoes = record {
+      can = record { tree = undoes.can; memo = h.fits };
+      gives = ap (λ (t : TreeValue). record { tree = t; metrics = old.metrics; memo = undone_memo back way.path now }) undoes.gives
+          ∙ ap (λ (z : Memo). record { tree = old.tree; metrics = old.metrics; memo = z }) h.gives;
+    }
+
+    -- what was needed and is of elements that the edit leaves alone is kept
+    pub counted : MissingIsCounted old edit record { tree = tree; metrics = old.metrics; memo = now }
+    counted = record {
+      path = way.path;
+      change = is.change;
+      is = is.is;
+      counted = λ pair missing from came need.
+          let one = kept_law old.metrics old.tree.root old.memo (context_of old.metrics old.tree) laid.sealed.ready.agrees laid.sealed.kept record { path = from; context = pair.context } need in
+          missing record { entry = one.entry; held = h.stays from pair.path one.entry came one.held; in_context = one.in_context };
+    }

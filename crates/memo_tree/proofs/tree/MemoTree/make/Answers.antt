@@ -1,0 +1,10 @@
+use Rattle.std.proofs.Common.{◌∙◌, sym, ap, subst}
+use Rattle.kept_edits.specs.Blank.{blank}
+use Rattle.kept_edits.specs.Laws.{IsReadyFor}
+use Rattle.kept_edits.proofs.Unlaid.{blank_law}
+use Rattle.memo_tree.proofs.tree.MemoTree.make.Goals as goal
+
+pub returns-clause-changed : goal.returns-clause-changed
+returns-clause-changed c =
+    let root = c.args.tree.root in
+    subst (IsReadyFor c.args.metrics root) (sym (c.in_ok-memo.ensures {u = tt} ∙ ap blank c.root.ensures.exact)) (blank_law c.args.metrics root).0

@@ -1,0 +1,27 @@
+-- The states of a tree with its kept layouts, from one edit to the next.
+use Rattle.std.specs.Prelude.{[]}
+use Rattle.kept_results.specs.Kept.{Agrees, HoldsOne}
+use Rattle.kept_edits.specs.Laws.{IsReadyFor}
+use Rattle.memo_tree.specs.Trees.{IsLaidOut, MemoTreeValue, context_of}
+
+pub data State : Type 0 where
+  -- the tree is new or was edited, and no pass over it began since then
+  Changed : State
+  -- a pass over it ended somewhere, done or not
+  Stopped : State
+  -- a pass over it was done: the layout of the root is kept
+  Passed : State
+  -- and what it made is settled: neither an edit nor a pass is under way
+  Sealed : State
+
+-- what is kept agrees with the tree, and the layout of the root is among it
+pub record IsPassed (laid : MemoTreeValue) : Type 0 where
+  pub agrees : Agrees laid.metrics laid.tree.root laid.memo
+  pub kept : HoldsOne [] laid.memo (context_of laid.metrics laid.tree)
+
+-- in each state what is kept agrees with the tree and the metrics
+abbrev pub IsIn : State → MemoTreeValue → Type 0
+IsIn Changed laid = IsReadyFor laid.metrics laid.tree.root laid.memo
+IsIn Stopped laid = Agrees laid.metrics laid.tree.root laid.memo
+IsIn Passed laid = IsPassed laid
+IsIn Sealed laid = IsLaidOut laid

@@ -1,0 +1,51 @@
+ghost use Rattle.std.specs.Prelude.{◌≡◌};
+ghost use Rattle.tree_edits.specs.Applying.{CanRestore, restored};
+ghost use Rattle.kept_edits.specs.Changed.{FitsMemo, undone_memo};
+
+use kept_edits::{MemoChange, undo_memo};
+use kept_results::Memo;
+use math_tree::Tree;
+use std::marker::Model;
+use tree_edits::{Path, Taken, restore};
+
+/// What takes a change of a tree with its kept layouts back.
+#[derive(Debug, Drop)]
+pub struct Reversal {
+    taken: Taken,
+    path: Path,
+    back: MemoChange,
+}
+
+impl Model for Reversal {
+    ghost use Rattle.std.specs.Coded.{codes};
+    ghost use Rattle.kept_edits.specs.contracts.change.MemoChange as memos;
+    ghost use Rattle.tree_edits.specs.contracts.change.Change as one;
+    ghost use Rattle.memo_tree.specs.Reversing.{ReversalValue};
+
+    ghost Value = { ReversalValue };
+
+    ghost coded = { Prim.hlevel (codes, one.the_row.coded, memos.the_row.coded) };
+
+    ghost view = { λ reversal. record { taken = reversal.taken; path = reversal.path; back = reversal.back } };
+}
+
+impl Reversal {
+    /// By what undoes the change of the tree, and the change of memos that undoes theirs.
+    pub(crate) fn of(taken: Taken, path: Path, back: MemoChange) -> Reversal
+        ensures { result ≡ record { taken = taken; path = path; back = back } }
+    {
+        Reversal { taken, path, back }
+    }
+
+    /// Takes the change back. It takes no memory.
+    pub(crate) fn take_back(self, tree: &mut Tree, memo: &mut Memo)
+        requires tree { CanRestore self.taken tree.old }
+        requires memo { FitsMemo self.back self.path memo.old }
+        ensures tree { tree.new ≡ restored self.taken tree.old }
+        ensures memo { memo.new ≡ undone_memo self.back self.path memo.old }
+    {
+        let Reversal { taken, path, back } = self;
+        restore(tree, taken);
+        undo_memo(memo, path.as_slice(), back);
+    }
+}
