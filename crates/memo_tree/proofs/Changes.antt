@@ -1,6 +1,7 @@
 -- An edit of a tree with its kept layouts.
 use Rattle.std.proofs.Common.{◌≡◌, ◌∙◌, ap, subst}
-use Rattle.math_tree.specs.Trees.{TreeValue}
+use Rattle.font_metrics.specs.Metrics.{MetricsValue}
+use Rattle.math_tree.specs.Trees.{IsWhole, TreeValue}
 use Rattle.math_tree.specs.declared.node.Node.{Node}
 use Rattle.tree_edits.specs.Applying.{TakenValue, Undoes}
 use Rattle.tree_edits.specs.Edits.{edited}
@@ -10,7 +11,9 @@ use Rattle.kept_results.proofs.Whole.{kept_law}
 use Rattle.kept_edits.specs.Changed.{undone_memo}
 use Rattle.kept_edits.specs.Laws.{IsReadyFor}
 use Rattle.kept_edits.specs.declared.change.MemoChange.{MemoChange}
-use Rattle.memo_tree.specs.Counted.{MissingIsCounted}
+use Rattle.kept_edits.specs.Passed.{TakesMissing}
+use Rattle.kept_edits.proofs.ToldById.{missing_need}
+use Rattle.memo_tree.specs.Counted.{MissingIsCounted, StepsLaw}
 use Rattle.memo_tree.specs.Followed.{IsBefore, IsFollowed}
 use Rattle.memo_tree.specs.Reversing.{Reverses}
 use Rattle.memo_tree.specs.Trees.{IsLaidOut, MemoTreeValue, context_of}
@@ -45,12 +48,20 @@ module _ (old : MemoTreeValue) (edit : Edit) (way : Way) (tree : TreeValue) (roo
     }
 
     -- what was needed and is of elements that the edit leaves alone is kept
-    pub counted : MissingIsCounted old edit record { tree = tree; metrics = old.metrics; memo = now }
-    counted = record {
+    pub counted : IsWhole old.tree → IsWhole tree → MissingIsCounted old edit record { tree = tree; metrics = old.metrics; memo = now }
+    counted whole after = record {
       path = way.path;
       change = is.change;
-      is = is.is;
+      is = record { whole = whole; whole_after = subst IsWhole made after; to_end = is.leads; is = is.is; new = is.new };
       counted = λ pair missing from came need.
           let one = kept_law old.metrics old.tree.root old.memo (context_of old.metrics old.tree) laid.sealed.ready.agrees laid.sealed.kept record { path = from; context = pair.context } need in
           missing record { entry = one.entry; held = h.stays from pair.path one.entry came one.held; in_context = one.in_context };
     }
+
+-- ---- the steps of a pass after it
+
+pub steps_law : StepsLaw
+steps_law old new edit from to h tree metrics takes =
+    missing_need old.metrics old.tree edit h.change h.path new.memo from to h.is h.counted
+    (subst (λ (t : TreeValue). TakesMissing old.metrics t.root (context_of old.metrics t) new.memo from to) tree
+    (subst (λ (m : MetricsValue). TakesMissing m new.tree.root (context_of m new.tree) new.memo from to) metrics takes))

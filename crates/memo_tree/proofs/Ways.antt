@@ -13,6 +13,7 @@ use Rattle.math_tree.specs.declared.node.NodeId.{NodeId}
 use Rattle.tree_edits.proofs.Refusals.{accepted}
 use Rattle.tree_edits.proofs.Target.{found_at, found_nowhere}
 use Rattle.kept_edits.specs.Edited.{with_room}
+use Rattle.kept_edits.proofs.EditEnds.{own_brings, own_path, parent_brings, parent_path}
 use Rattle.kept_edits.proofs.EditedTrees.{own_edit_law, parent_edit_law}
 use Rattle.memo_tree.proofs.Elements.{ends_at}
 use Rattle.memo_tree.specs.Ways.{IsAlike, IsWay}
@@ -25,6 +26,8 @@ pub own_way : (tree : TreeValue) (edit : Edit) (path : List ℕ) (place : Place)
 own_way tree edit path place whole free own leads alike = record {
   change = with_room (own_change edit tree.next_id) leads.element;
   is = own_edit_law tree edit path leads.element whole free own leads.at leads.has;
+  leads = own_path tree edit path leads.element own leads.at leads.has;
+  new = own_brings edit tree.next_id leads.element own;
   alike = alike;
 }
 
@@ -36,6 +39,8 @@ parent_way tree edit path over at place whole parent leads same alike =
     record {
       change = parent_change edit tree.next_id at;
       is = parent_edit_law tree edit over e.parent at leads.element whole parent e.at e.there leads.has;
+      leads = parent_path tree edit over e.parent at leads.element parent e.at e.there leads.has;
+      new = parent_brings edit tree.next_id at parent;
       alike = alike;
     }
 

@@ -1,16 +1,23 @@
 -- Which layouts aren't kept any more after an edit.
-use Rattle.std.specs.Prelude.{ℕ, List}
+use Rattle.std.specs.Prelude.{◌≡◌, ℕ, List}
+use Rattle.tree_edits.specs.Edits.{edited}
 use Rattle.tree_edits.specs.declared.change.Change.{Change}
 use Rattle.tree_edits.specs.declared.edit.Edit.{Edit}
 use Rattle.kept_results.specs.Passes.{IsPairMissing, Pair}
-use Rattle.kept_edits.specs.Edited.{IsChangeOf}
+use Rattle.kept_edits.specs.ByIds.{IsEditAt, TakesNeeded}
 use Rattle.kept_edits.specs.Need.{IsCounted}
+use Rattle.kept_edits.specs.Passed.{TakesMissing}
 use Rattle.memo_tree.specs.Trees.{MemoTreeValue, context_of}
 
--- an edit is one change at the end of a path; what isn't kept after it is a layout of an element on that path or of
+-- an edit is one change at the end of its path; what isn't kept after it is a layout of an element on that path or of
 -- a new one, or one that wasn't needed before
 pub record MissingIsCounted (old : MemoTreeValue) (edit : Edit) (new : MemoTreeValue) : Type 0 where
   pub path : List ℕ
   pub change : Change
-  pub is : IsChangeOf old.tree edit change path
+  pub is : IsEditAt old.tree edit change path
   pub counted : (pair : Pair) → IsPairMissing new.memo pair → IsCounted old.metrics path change old.tree.root (context_of old.metrics old.tree) pair
+
+-- each step of a pass after it is then a layout that the edit needs, told by ids, and none is taken twice
+abbrev pub StepsLaw : Type 0
+StepsLaw = (old new : MemoTreeValue) (edit : Edit) (from to : ℕ) → MissingIsCounted old edit new → new.tree ≡ edited old.tree edit → new.metrics ≡ old.metrics →
+    TakesMissing new.metrics new.tree.root (context_of new.metrics new.tree) new.memo from to → TakesNeeded old.metrics old.tree edit from to

@@ -17,6 +17,7 @@
 
 mod element; // the element at the end of a way
 mod following; // memos after an edit
+pub mod laws; // of the definitions
 mod reversal; // Reversal
 mod root; // the context of a tree's root
 mod tree; // MemoTree

@@ -27,7 +27,7 @@ returns-in-Ok-clause-counted c =
     let root = c.root.result.now in
     subst (λ (o : MemoTreeValue). MissingIsCounted o c.args.edit new) c.self.view_is
     (counted old c.args.edit way c.apply.new.tree root laid is done.tree c.root.ensures.exact c.follow.new.memo c.in-Ok.back
-    ((c.in-Ok.ensures {u = tt}).followed (before old c.args.edit way c.apply.new.tree root laid is done.tree c.root.ensures.exact)))
+    ((c.in-Ok.ensures {u = tt}).followed (before old c.args.edit way c.apply.new.tree root laid is done.tree c.root.ensures.exact)) c.self.invariant c.root.ensures.whole)
 
 pub returns-in-Ok-clause-reversal : goal.returns-in-Ok-clause-reversal
 returns-in-Ok-clause-reversal c =
