@@ -1,6 +1,7 @@
 #!/usr/bin/env python3
-"""Times the built program on a tree of 833 elements and on the same shape with 64,000 elements, flat and in groups of
-64 rows: how long it takes to read a tree, to lay it out, to place and write its boxes, and to answer an edit.
+"""Times the built program on a tree of 833 elements and on the same shape with 53,249 elements, flat and in groups of
+64 rows: how long it takes to read a tree, to lay it out, to place and write its boxes, and to answer an edit. And on 90
+elements in 60 levels, of which each element is asked in two contexts.
 
     python3 bench/layout.py [PROGRAM]
 
@@ -20,7 +21,7 @@ PROGRAM = os.path.join(HERE, "..", "crates", "mathlay", "out", "mathlay")
 METRICS = os.path.join(HERE, "..", "crates", "cases", "data", "sample.metrics")
 
 # Each tree: its rows, how many of them stand in a group, if they do, and how many edits are timed on it.
-TREES = {"833 elements": (64, None, 20_000), "64,000 elements, flat": (4_922, None, 20), "64,000, in groups": (4_862, 64, 20)}
+TREES = {"833 elements": (64, None, 20_000), "53,249 elements, flat": (4_096, None, 100), "53,249, in groups of 64": (4_096, 64, 2_000)}
 
 # A row of 13 elements: x + 1/2 - b^2 (4), by name and text or children.
 ROW = ("mrow", (
@@ -41,6 +42,14 @@ def tree(rows, group):
     if group:
         every = tuple(("mrow", every[first:first + group]) for first in range(0, rows, group))
     return element("math", every)
+
+
+def nested(pairs):
+    """Scripts of parentheses in rows, each in the script of the one before: a parenthesis is asked with a stretch, too."""
+    inside = ("mo", "(")
+    for _ in range(pairs):
+        inside = ("mrow", (("msub", (("mo", "("), inside)),))
+    return element("math", (inside,))
 
 
 def rows_of(value, first=1):
@@ -92,20 +101,21 @@ def least(words, status=0):
     return min(run(words, status)[0] for _ in range(5))
 
 
+def file_in(folder, kind, text):
+    """The path of a new file."""
+    path = os.path.join(folder, kind)
+    with open(path, "w") as out:
+        out.write(text)
+    return path
+
+
 def measure(program, folder, name, rows, group, count):
     value = tree(rows, group)
     ids, elements = rows_of(value)
-
-    def file(kind, text):
-        path = os.path.join(folder, kind)
-        with open(path, "w") as out:
-            out.write(text)
-        return path
-
-    whole, empty = file("tree", json.dumps(value)), file("empty", "")
+    whole, empty = file_in(folder, "tree", json.dumps(value)), file_in(folder, "empty", "")
     value["children"].append({"name": "no name"})
-    faulty = file("faulty", json.dumps(value))
-    script = file("script", "".join(json.dumps(edit) + "\n" for edit in edits(ids, count)))
+    faulty = file_in(folder, "faulty", json.dumps(value))
+    script = file_in(folder, "script", "".join(json.dumps(edit) + "\n" for edit in edits(ids, count)))
     reading = least([program, "layout", METRICS, faulty], status=4)
     laid_out = least([program, "edit", METRICS, whole, empty])
     edited = least([program, "edit", METRICS, whole, script])
@@ -115,7 +125,14 @@ def measure(program, folder, name, rows, group, count):
     print(f"{name} ({elements}):")
     print(f"  started and read in {reading * 1e3:.1f} ms, laid out in {layout * 1e3:.1f} ms ({layout / elements * 1e6:.2f} us an element)")
     print(f"  placed and written in {(written - laid_out) * 1e3:.1f} ms, {size} bytes; {peak} KB at the peak")
-    print(f"  {count} edits, each laid out afresh: {edit * 1e6:.0f} us each ({edit / elements * 1e6:.2f} us an element)")
+    print(f"  {count} edits: {edit * 1e6:.1f} us each")
+
+
+def measure_nested(program, folder):
+    value = nested(29)
+    whole, empty = file_in(folder, "tree", json.dumps(value)), file_in(folder, "empty", "")
+    seconds = least([program, "edit", METRICS, whole, empty]) - least([program, "check", METRICS, whole])
+    print(f"{rows_of(value)[1]} elements in 60 levels, asked in two contexts each: laid out in {seconds * 1e3:.1f} ms")
 
 
 def main():
@@ -123,6 +140,7 @@ def main():
     with tempfile.TemporaryDirectory() as folder:
         for name, (rows, group, count) in TREES.items():
             measure(program, folder, name, rows, group, count)
+        measure_nested(program, folder)
 
 
 main()
