@@ -27,6 +27,18 @@ last_behind x (y ∷ xs) =
 
 -- ---- one question more
 
+same_place : (k i : ℕ) → nat_eq k i ≡ true → k ≡ i
+same_place k i e = grind (arith, nat_tests)
+
+other_place : (k i : ℕ) → nat_eq k i ≡ false → k ≡ i → ⊥
+other_place k i e same = absurd (grind (arith, nat_tests))
+
+pub alike : (k i : ℕ) → k ≡ i → nat_eq k i ≡ true
+alike k i same = grind (arith, nat_tests)
+
+pub unlike : (k i : ℕ) → (k ≡ i → ⊥) → nat_eq k i ≡ false
+unlike k i other = grind (arith, nat_tests)
+
 abbrev goes_to : ℕ → Question → Bool
 goes_to kid question = nat_eq question.kid kid
 
@@ -44,13 +56,26 @@ last_more asks q kid =
         ∙ last_ends (map context_in (filter (goes_to kid) asks)) q.context
     by false = ap (λ (list : List Question). last_some (map context_in list)) (append-nil (filter (goes_to kid) asks))
 
+-- the same of the first questions of a list, behind earlier ones
+module _ (earlier asks : List Question) (i : ℕ) (q : Question) (kid : ℕ) (last : Option Context) (within : i < length asks) (is : q ≡ get_or asks i q) (h : last ≡ last_context (earlier ++ take i asks) kid) where
+  next_asks : (earlier ++ take i asks) ++ q ∷ [] ≡ earlier ++ take (i + 1) asks
+  next_asks =
+      append_assoc earlier (take i asks) (q ∷ [])
+      ∙ ap (λ (x : Question). earlier ++ (take i asks ++ x ∷ [])) is
+      ∙ ap (λ (list : List Question). earlier ++ list) (sym (take_more asks i q within))
+
+  last_next : cond (nat_eq q.kid kid) (Some q.context) last ≡ last_context (earlier ++ take (i + 1) asks) kid
+  last_next =
+      ap (cond (nat_eq q.kid kid) (Some q.context)) h ∙ sym (last_more (earlier ++ take i asks) q kid)
+      ∙ ap (λ (list : List Question). last_context list kid) next_asks
+
+  pub asked_now : q.kid ≡ kid → Some q.context ≡ last_context (earlier ++ take (i + 1) asks) kid
+  asked_now same = sym (ap (λ (b : Bool). cond b (Some q.context) last) (alike q.kid kid same)) ∙ last_next
+
+  pub asked_before : (q.kid ≡ kid → ⊥) → last ≡ last_context (earlier ++ take (i + 1) asks) kid
+  asked_before other = sym (ap (λ (b : Bool). cond b (Some q.context) last) (unlike q.kid kid other)) ∙ last_next
+
 -- ---- places
-
-same_place : (k i : ℕ) → nat_eq k i ≡ true → k ≡ i
-same_place k i e = grind (arith, nat_tests)
-
-other_place : (k i : ℕ) → nat_eq k i ≡ false → k ≡ i → ⊥
-other_place k i e same = absurd (grind (arith, nat_tests))
 
 module _ {X : Type 0} where
   set_here : (xs : List X) (i : ℕ) (x : X) → i < length xs → slice_get (set xs i x) i ≡ Some x

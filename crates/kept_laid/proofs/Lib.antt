@@ -1,4 +1,6 @@
+pub mod BoxReading
 pub mod Few
 pub mod LastAsked
 pub mod Reading
 pub mod Totals
+pub mod Walking

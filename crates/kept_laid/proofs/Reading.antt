@@ -52,7 +52,7 @@ module _ (m : MetricsValue) (node : Node) (memo : Memo) (entry : Entry) (agrees 
   pub outcome_is : (context : Context) → entry.context ≡ context → entry.outcome ≡ lay m node context
   outcome_is context is = sound.stores ∙ ap (lay m node) is
 
-  asks_are : (context : Context) → entry.context ≡ context → asks_in entry ≡ questions m (seen_of node) context (answer_of m node)
+  pub asks_are : (context : Context) → entry.context ≡ context → asks_in entry ≡ questions m (seen_of node) context (answer_of m node)
   unfolding questions
   asks_are context is =
       ap (λ (ones : List Question). ones ++ entry.twos) sound.ones
@@ -111,7 +111,7 @@ abbrev pub kids_until : MetricsValue → Node → List Question → ℕ → List
 kids_until m node asks index = somes (list_to index (laid_below m node asks))
 
 module _ (m : MetricsValue) (node : Node) (asks : List Question) (index : ℕ) where
-  kids_next : (found : Option Laid) → laid_below m node asks index ≡ found → kids_until m node asks (index + 1) ≡ kids_until m node asks index ++ somes (found ∷ [])
+  pub kids_next : (found : Option Laid) → laid_below m node asks index ≡ found → kids_until m node asks (index + 1) ≡ kids_until m node asks index ++ somes (found ∷ [])
   unfolding list_to
   kids_next found is =
       let next : kids_until m node asks (index + 1) ≡ kids_until m node asks (suc index) = rw add-one refl in
@@ -119,7 +119,7 @@ module _ (m : MetricsValue) (node : Node) (asks : List Question) (index : ℕ) w
       ∙ ap (λ (option : Option Laid). kids_until m node asks index ++ somes (option ∷ [])) is
 
   module _ (kid : Node) (at : slice_get (flow_nodes node) index ≡ Some kid) where
-    below_is : laid_below m node asks index ≡ option_map (laid m kid) (last_context asks index)
+    pub below_is : laid_below m node asks index ≡ option_map (laid m kid) (last_context asks index)
     below_is = ap (λ (found : Option Node). option_and_then (λ (k : Node). option_map (laid m k) (last_context asks index)) found) at
 
     pub kid_more : (context : Context) (before after : List Laid) (made : Laid) → last_context asks index ≡ Some context → before ≡ kids_until m node asks index

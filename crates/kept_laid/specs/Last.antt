@@ -5,9 +5,12 @@ use Rattle.layout_model.specs.Layout.{last_context}
 use Rattle.layout_model.specs.declared.context.Context.{Context}
 use Rattle.layout_model.specs.declared.context.Question.{Question}
 
--- what references show
+-- what a reference shows, where there is one
+abbrev pub seen_context : Option (Bor Context) → Option Context
+seen_context = option_map (λ context. context.now)
+
 abbrev pub seen_contexts : List (Option (Bor Context)) → List (Option Context)
-seen_contexts = map (option_map (λ context. context.now))
+seen_contexts = map seen_context
 
 -- at each place, the context of the last question to the child there, where there is one
 pub record AreLast (asks : List Question) (places : List (Option Context)) : Type 0 where

@@ -1,4 +1,4 @@
-ghost use Rattle.std.specs.Prelude.{◌≡◌, ◌<◌, ◌^◌, length, filter};
+ghost use Rattle.std.specs.Prelude.{◌≡◌, ◌<◌, ◌-◌, ◌^◌, min, length, filter};
 ghost use Rattle.kept_results.specs.Ends.{kept_count};
 ghost use Rattle.kept_results.specs.Kept.{is_live as is_no_older_one, is_marked};
 ghost use Rattle.kept_results.specs.declared.memo.Memo.TheViews.{out-Memo};
@@ -12,9 +12,16 @@ pub fn count(memo: &Memo) -> usize
     requires few { kept_count memo.now < 2 ^ 64 }
     ensures { result ≡ kept_count memo.now }
 {
+    count_or_most(memo)
+}
+
+/// The same of any memo; 2^64 - 1 where there are more.
+pub fn count_or_most(memo: &Memo) -> usize
+    ensures { result ≡ min (kept_count memo.now) (2 ^ 64 - 1) }
+{
     let mut total = count_here(memo);
     for below in memo.below.as_slice() {
-        total += count(below);
+        total = total.saturating_add(count_or_most(below));
     }
     total
 }

@@ -1,8 +1,9 @@
 ghost use Rattle.std.specs.Prelude.{◌≡◌, ◌++◌, [], length, List as Sequence, IfOk};
 ghost use Rattle.std.specs.List.{All};
+ghost use Rattle.layout_model.specs.Layout.{last_context};
 ghost use Rattle.layout_model.specs.Questions.{IsBelow};
 ghost use Rattle.layout_model.specs.declared.context.Question.{Question as Asked};
-ghost use Rattle.kept_laid.specs.Last.{AreLast, seen_contexts};
+ghost use Rattle.kept_laid.specs.Last.{AreLast, seen_context, seen_contexts};
 
 use fixed_units::{List, Memory};
 use kept_results::Entry;
@@ -47,4 +48,30 @@ fn put_all<'a>(asks: &'a List<Question>, places: &mut Vec<Option<&'a Context>>)
     for asked in asks.as_slice() {
         places[asked.kid as usize] = Some(&asked.context);
     }
+}
+
+/// The context of the last question to a child in flow for an entry, where there is one. It takes no
+/// memory.
+pub fn last_asked<'a>(entry: &'a Entry, kid: usize) -> Option<&'a Context>
+    ensures { seen_context result ≡ last_context (entry.now.ones ++ entry.now.twos) kid }
+{
+    let first = last_among(None, &entry.ones, kid);
+    last_among(first, &entry.twos, kid)
+}
+
+/// The same of further questions, where it is given of those before them.
+fn last_among<'a>(
+    before: Option<&'a Context>,
+    asks: &'a List<Question>,
+    kid: usize,
+) -> Option<&'a Context>
+    ensures { (earlier : Sequence Asked) → seen_context before.entry ≡ last_context earlier kid → seen_context result ≡ last_context (earlier ++ asks.now) kid }
+{
+    let mut last = before;
+    for asked in asks.as_slice() {
+        if asked.kid as usize == kid {
+            last = Some(&asked.context);
+        }
+    }
+    last
 }

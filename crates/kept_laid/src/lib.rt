@@ -11,13 +11,16 @@
 #![tactic(auto)]
 
 mod amount; // how many entries there are
-mod contexts; // the same context
+mod boxes; // the box of an element by its id
 mod last; // the last question to each child
 pub mod laws; // what holds of all kept layouts
 mod laid; // a tree of kept layouts
 mod lookup; // one entry of an element
 mod outcomes; // outcomes once more
+mod places; // which children may be in flow
 
-pub use amount::count;
+pub use amount::{count, count_or_most};
+pub use boxes::box_of;
 pub use laid::laid_of;
 pub use lookup::{root_answer, root_box};
+pub use places::may_show;

@@ -5,9 +5,8 @@ ghost use Rattle.layout_model.specs.Layout.{lay};
 ghost use Rattle.kept_results.specs.Kept.{Agrees, HasEntry, IsKept, is_live, is_marked};
 ghost use Rattle.kept_results.specs.declared.memo.Memo.TheViews.{out-Memo};
 
-use crate::contexts::is_same;
 use fixed_units::MathBox;
-use kept_results::{Entry, Memo};
+use kept_results::{Entry, Memo, is_same};
 use layout_model::{Answer, Context};
 
 /// The answer that is kept of the root of a tree in a context. It takes no memory.

@@ -4,4 +4,3 @@ pub mod Listed
 pub mod Starting
 pub mod Sweeping
 pub mod Totals
-pub mod Walking

@@ -26,7 +26,7 @@ use Rattle.kept_edits.proofs.Unlaid.{blank_out}
 use Rattle.kept_sweep.specs.Flagged.{cleared}
 use Rattle.kept_sweep.proofs.Clearing.{out_cleared}
 use Rattle.kept_sweep.proofs.Sweeping.{by_below}
-use Rattle.kept_sweep.proofs.Walking.{at_count}
+use Rattle.kept_laid.proofs.Walking.{at_count}
 
 -- ---- a list without repeats, in another one
 

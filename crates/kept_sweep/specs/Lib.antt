@@ -1,3 +1,2 @@
 pub mod Flagged
-pub mod Places
 pub mod Swept

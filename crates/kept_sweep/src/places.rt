@@ -1,28 +1,20 @@
 ghost use Rattle.std.specs.Prelude.{◌≡◌, ◌<◌, ◌≤◌, length, map};
 ghost use Rattle.math_tree.specs.declared.node.Node.TheViews.{out-Node};
 ghost use Rattle.embellished.specs.Facts.{facts};
-ghost use Rattle.embellished.specs.Flow.{may_show};
 ghost use Rattle.embellished.specs.Seen.{HasChild, flow_children};
 ghost use Rattle.kept_results.specs.Looking.{own_facts};
-ghost use Rattle.kept_sweep.specs.Places.{shown_before};
+ghost use Rattle.kept_laid.specs.Places.{shown_before};
 
 use embellished::Facts;
+use kept_laid::may_show;
 use kept_results::Memo;
-use math_tree::{Kind, Node};
+use math_tree::Node;
 
 /// A place among all children of an element, and how many of the children before it may be in flow.
 #[derive(Clone, Copy, Debug)]
 pub struct Spot {
     pub index: usize,
     pub place: usize,
-}
-
-/// Whether a child that may be in flow is: no annotation, and no mark of a valid `mmultiscripts`.
-fn may_show(laid: Kind, kid: Kind) -> bool
-    ensures { result ≡ may_show laid kid }
-{
-    !matches!(kid, Kind::Annotation | Kind::AnnotationXml)
-        && !(matches!(laid, Kind::Mmultiscripts) && matches!(kid, Kind::Mprescripts))
 }
 
 /// From where on to look for a child in flow: from the last one that was found, or from the start

@@ -6,7 +6,7 @@ use Rattle.layout_model.specs.declared.context.Question.{Question}
 use Rattle.kept_results.specs.Kept.{NamesKept}
 use Rattle.kept_results.specs.declared.memo.Memo.{Memo}
 use Rattle.kept_sweep.specs.Flagged.{AreFlagged}
-use Rattle.kept_sweep.specs.Places.{shown_before}
+use Rattle.kept_laid.specs.Places.{shown_before}
 use Rattle.kept_sweep.specs.declared.places.Spot.{Spot}
 use Rattle.kept_sweep.proofs.flags.+flag.Given as goal
 

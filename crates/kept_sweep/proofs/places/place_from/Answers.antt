@@ -3,7 +3,7 @@ use Rattle.std.proofs.lemmas.List.{length-map}
 use Rattle.math_tree.specs.declared.node.Node.TheViews.{out-Node}
 use Rattle.embellished.specs.Facts.{facts}
 use Rattle.kept_results.specs.Looking.{own_facts}
-use Rattle.kept_sweep.proofs.Walking.{child_told, found, no_more, not_at_end, one_more}
+use Rattle.kept_laid.proofs.Walking.{child_told, found, no_more, not_at_end, one_more}
 use Rattle.kept_sweep.proofs.places.place_from.Goals.{then-may_show+else-index-wanted, else-may_show}
 use Rattle.kept_sweep.proofs.places.place_from.Goals as goal
 

@@ -14,7 +14,7 @@ use Rattle.embellished.specs.declared.facts.Facts.{Facts}
 use Rattle.embellished.proofs.InFlow.{among, shown}
 use Rattle.kept_results.specs.Looking.{own_facts}
 use Rattle.kept_results.specs.declared.memo.Memo.{Memo}
-use Rattle.kept_sweep.specs.Places.{all_children, shown_before}
+use Rattle.kept_laid.specs.Places.{all_children, shown_before}
 
 -- ---- those of a list that pass a test
 
