@@ -1,10 +1,11 @@
-ghost use Rattle.std.specs.Prelude.{◌≡◌, ◌≤◌, ◌<◌, ◌+◌, ◌^◌, true, false, Err, IfErr, IfOk, None as NoReason, OnErr, OnOk};
+ghost use Rattle.std.specs.Prelude.{◌≡◌, ◌≤◌, ◌+◌, ◌-◌, ◌^◌, min, true, false, Err, IfErr, IfOk, None as NoReason, OnErr, OnOk};
 ghost use Rattle.fixed_units.specs.declared.refusal.LayRefusal.TheVariants.{Range};
 ghost use Rattle.tree_edits.specs.Applying.{IsProperEdit, IsReason};
 ghost use Rattle.tree_edits.specs.Edits.{edited, refusal_of};
 ghost use Rattle.layout_model.specs.Layout.{is_tree_in_range, laid_tree};
 ghost use Rattle.kept_results.specs.Ends.{kept_count, sealed, stripped};
 ghost use Rattle.kept_results.specs.Kept.{Keeps};
+ghost use Rattle.kept_laid.specs.Boxes.{box_in};
 ghost use Rattle.kept_edits.specs.Blank.{blank};
 ghost use Rattle.kept_edits.specs.Passed.{TakesMissing};
 ghost use Rattle.kept_sweep.specs.Swept.{CountsNeeded, IsPartOf, KeepsNeeded};
@@ -20,11 +21,11 @@ use crate::way::way_of;
 use fixed_units::{LayRefusal, MathBox, Memory, Steps};
 use font_metrics::Metrics;
 use kept_edits::blank;
-use kept_laid::{count, laid_of, root_box};
+use kept_laid::{box_of, count, count_or_most, laid_of, root_box};
 use kept_results::{Memo, relay_element, seal, undo_pass};
 use kept_sweep::{start_layout, sweep_layouts};
 use layout_model::Laid;
-use math_tree::Tree;
+use math_tree::{NodeId, Tree};
 use std::alloc::Global;
 use std::marker::Model;
 use std::sync::ledger::Ledger;
@@ -224,12 +225,21 @@ impl MemoTree {
         root_box(&self.memo, &context)
     }
 
-    /// How many layouts are kept. It takes no memory.
-    pub fn kept(&self) -> usize
-        requires few { kept_count self.now.memo < 2 ^ 64 }
-        ensures { result ≡ kept_count self.now.memo }
+    /// The box of the element with an id, as the layout of the tree has it; none where no element in flow
+    /// has the id. It takes no memory.
+    pub fn box_of(&self, id: NodeId) -> Option<MathBox>
+        requires sealed { IsIn Sealed self.now }
+        ensures { result ≡ box_in id (laid_tree self.now.metrics self.now.tree) }
     {
-        count(&self.memo)
+        let context = context_of(&self.tree, &self.metrics);
+        box_of(self.tree.root(), &self.memo, &context, id)
+    }
+
+    /// How many layouts are kept, and 2^64 - 1 where there are more. It takes no memory.
+    pub fn kept(&self) -> usize
+        ensures { result ≡ min (kept_count self.now.memo) (2 ^ 64 - 1) }
+    {
+        count_or_most(&self.memo)
     }
 
     /// The tree.
