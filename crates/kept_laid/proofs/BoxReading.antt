@@ -1,17 +1,19 @@
 -- The box of an element by its id: that of the layout itself, and those of the children, one after another.
-use Rattle.std.proofs.Common.{◌≡◌, ◌∙◌, refl, sym, ap, ℕ, zero, suc, ◌+◌, ◌-◌, ◌<◌, ◌≤◌, max, arith, Bool, true, false, cond, nat_eq, inl, inr, List, [], ◌∷◌, ◌++◌, append_assoc, append-nil, get_or, length, Option, Some, None, slice_get}
+use Rattle.std.proofs.Common.{◌≡◌, ◌∙◌, refl, sym, ap, ℕ, zero, suc, ◌+◌, ◌-◌, ◌<◌, ◌≤◌, max, arith, Bool, true, false, ◌||◌, cond, nat_eq, inl, inr, List, [], ◌∷◌, ◌++◌, append_assoc, append-nil, get_or, length, Option, Some, None, slice_get}
 use Rattle.std.proofs.lemmas.List.{length-map}
 use Rattle.std.proofs.lemmas.List.Concat.{flat_map-append}
-use Rattle.std.proofs.lemmas.List.Folds.{find-append, flat_map-map}
+use Rattle.std.proofs.lemmas.List.Folds.{find-append, flat_map-map, list_any-append}
 use Rattle.std.proofs.lemmas.Option.{get_or_from_slice_get, same_Some, slice_get_cases, slice_get_within, slice_get-get_or, slice_get-map}
-use Rattle.std.specs.List.{find, flat_map}
+use Rattle.std.specs.List.{AllByRecursion, find, flat_map, list_any}
 use Rattle.std.specs.Option.{option_and_then, option_map, option_or}
 use denote.Param.Weighed.{most, at_most}
 use Rattle.fixed_units.specs.declared.boxes.MathBox.{MathBox}
 use Rattle.font_metrics.specs.Metrics.{MetricsValue}
+use Rattle.math_tree.specs.Trees.{listed}
 use Rattle.math_tree.specs.declared.node.Node.{Node}
 use Rattle.math_tree.specs.declared.node.Node.TheViews.{out-Node, size-Node, size_is-Node}
 use Rattle.math_tree.specs.declared.node.NodeId.{NodeId}
+use Rattle.math_tree.proofs.Nodes.{by_children, listed_element}
 use Rattle.embellished.specs.Facts.{facts}
 use Rattle.embellished.specs.Flow.{may_show}
 use Rattle.embellished.specs.Seen.{Child, flow_children, flow_nodes, seen_of}
@@ -25,6 +27,7 @@ use Rattle.layout_model.specs.declared.laid.Laid.TheFolds.{fold-Laid, fold_out-L
 use Rattle.layout_model.specs.declared.laid.Laid.TheOpen.{Laid-F}
 use Rattle.layout_model.specs.declared.laid.Laid.TheViews.{out-Laid, out-roll-Laid}
 use Rattle.layout_model.specs.declared.outcome.Outcome.{Outcome}
+use Rattle.layout_model.proofs.LaidTrees.{below_holds}
 use Rattle.layout_model.proofs.Trees.{laid_is}
 use Rattle.kept_results.specs.Kept.{Agrees, HasEntry, IsKept, NamesKept}
 use Rattle.kept_results.specs.Looking.{own_facts}
@@ -32,7 +35,7 @@ use Rattle.kept_results.specs.declared.memo.Entry.{Entry}
 use Rattle.kept_results.specs.declared.memo.Memo.{Memo}
 use Rattle.kept_results.specs.declared.memo.Memo.TheViews.{out-Memo}
 use Rattle.kept_results.proofs.Turns.{child_in_flow, facts_known}
-use Rattle.kept_laid.specs.Boxes.{ElementBox, box_below, box_in, boxes, boxes_over, first_box}
+use Rattle.kept_laid.specs.Boxes.{ElementBox, box_below, box_in, boxes, boxes_over, first_box, has_id}
 use Rattle.kept_laid.specs.Laid.{kids_laid}
 use Rattle.kept_laid.specs.Places.{shown_before}
 use Rattle.kept_laid.proofs.LastAsked.{asked_last}
@@ -252,3 +255,48 @@ all_passed node place index over is = elim (slice_get_cases (flow_nodes node) in
       absurd (not_at_end node place index index (omega (arith, inside, length-map (flow_children node) (λ (kid : Child). kid.node))) over is (omega arith))
   | inr h ↦ h.0
 ]
+
+-- ---- an id that no element has
+
+none_of : (a b : Bool) → (a || b) ≡ false → (a ≡ false) × (b ≡ false)
+none_of false b e = (refl, e)
+none_of true b e = absurd cc
+
+module _ (id : NodeId) (m : MetricsValue) where
+  abbrev IsUnboxed : Node → Type 0
+  IsUnboxed node = (context : Context) → box_in id (laid m node context) ≡ None
+
+  abbrev Lacks : Node → Type 0
+  Lacks node = (level : ℕ) → list_any (has_id id) (listed level node) ≡ false → IsUnboxed node
+
+  each_lacks : (nodes : List Node) (level : ℕ) → AllByRecursion Lacks nodes → list_any (has_id id) (flat_map (listed level) nodes) ≡ false → AllByRecursion IsUnboxed nodes
+  each_lacks [] level h e = tt
+  each_lacks (node ∷ nodes) level h e =
+      let parts = none_of (list_any (has_id id) (listed level node)) (list_any (has_id id) (flat_map (listed level) nodes))
+      (sym (list_any-append (has_id id) (listed level node) (flat_map (listed level) nodes)) ∙ e) in
+      (h.0 level parts.0, each_lacks nodes level h.1 parts.1)
+
+  pub in_no_context : (kid : Node) → IsUnboxed kid → (found : Option Context) → option_and_then (λ (context : Context). box_in id (laid m kid context)) found ≡ None
+  in_no_context kid h None = refl
+  in_no_context kid h (Some context) = h context
+
+  none_until : (node : Node) (asks : List Question) (n : ℕ) → AllByRecursion IsUnboxed (out-Node node).children → box_below id (kids_until m node asks n) ≡ None
+  none_until node asks zero h = sym (none_yet id m node asks)
+  none_until node asks (suc n) h =
+      let next : suc n ≡ n + 1 = omega arith in
+      ap (λ (i : ℕ). box_below id (kids_until m node asks i)) next
+      ∙ none_so_far id m node asks n (none_until node asks n h) (by (slice_get (flow_nodes node) n) refl)
+    where
+      by : (found : Option Node) → slice_get (flow_nodes node) n ≡ found → box_below id (somes (laid_below m node asks n ∷ [])) ≡ None
+      by None at =
+          ap (λ (kid : Option Node). box_below id (somes (option_and_then (λ (k : Node). option_map (laid m k) (last_context asks n)) kid ∷ []))) at
+      by (Some kid) at =
+          box_of_kid_is id m node asks n kid (λ context asked. at) ∙ in_no_context kid (below_holds IsUnboxed node kid n h at) (last_context asks n)
+
+  pub lacks : (node : Node) → Lacks node
+  lacks = by_children Lacks (λ node h level e context.
+      let parts = none_of _ _ (sym (ap (list_any (has_id id)) (listed_element level node)) ∙ e) in
+      let asks = questions m (seen_of node) context (answer_of m node) in
+      box_is id m node context
+      ∙ ap (λ (b : Bool). cond b (Some (lay m node context).answer.frame) (box_below id (kids_laid m node asks))) parts.0
+      ∙ none_until node asks (length (flow_nodes node)) (each_lacks (out-Node node).children (level + 1) h parts.1))

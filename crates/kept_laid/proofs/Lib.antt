@@ -1,5 +1,6 @@
 pub mod BoxReading
 pub mod Few
+pub mod IdsBelow
 pub mod LastAsked
 pub mod Reading
 pub mod Totals

@@ -1,7 +1,8 @@
 -- The box of an element in a tree that is laid out.
-use Rattle.std.specs.Prelude.{nat_eq, List, ◌∷◌, Option, option_map}
+use Rattle.std.specs.Prelude.{nat_eq, Bool, List, ◌∷◌, Option, option_map}
 use Rattle.std.specs.List.{find, flat_map}
 use Rattle.fixed_units.specs.declared.boxes.MathBox.{MathBox}
+use Rattle.math_tree.specs.Trees.{Listed}
 use Rattle.math_tree.specs.declared.node.NodeId.{NodeId}
 use Rattle.layout_model.specs.declared.laid.Laid.{Laid}
 use Rattle.layout_model.specs.declared.laid.Laid.TheFolds.{fold-Laid}
@@ -29,3 +30,7 @@ box_in id laid = first_box id (boxes laid)
 -- the same below an element, in what is laid out of its children
 abbrev pub box_below : NodeId → List Laid → Option MathBox
 box_below id kids = first_box id (flat_map boxes kids)
+
+-- an element of a tree has an id
+abbrev pub has_id : NodeId → Listed → Bool
+has_id id element = nat_eq element.head.id.0 id.0

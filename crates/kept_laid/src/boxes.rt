@@ -8,6 +8,7 @@ ghost use Rattle.kept_results.specs.declared.memo.Memo.TheViews.{out-Memo};
 ghost use Rattle.kept_laid.specs.Boxes.{box_below, box_in};
 ghost use Rattle.kept_laid.specs.Laid.{AgreesWithSome, kids_laid};
 
+use crate::ids::has_id;
 use crate::last::last_asked;
 use crate::lookup::kept_entry;
 use crate::places::may_show;
@@ -66,6 +67,9 @@ fn box_of_kid(
     ensures { (m : MetricsValue) → Agrees m child.now below.now →
         result ≡ option_and_then (λ context. box_in id (laid m child.now context)) (last_context (entry.now.ones ++ entry.now.twos) index) }
 {
+    if !has_id(child, id) {
+        return None;
+    }
     match last_asked(entry, index) {
         Some(context) => box_of(child, below, context, id),
         None => None,

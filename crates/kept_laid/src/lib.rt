@@ -12,6 +12,7 @@
 
 mod amount; // how many entries there are
 mod boxes; // the box of an element by its id
+mod ids; // which elements have an id
 mod last; // the last question to each child
 pub mod laws; // what holds of all kept layouts
 mod laid; // a tree of kept layouts

@@ -1,12 +1,13 @@
 use Rattle.std.proofs.Common.{◌<◌, ◌∙◌, refl, sym, ap, ℕ, arith, [], length}
 use Rattle.math_tree.specs.declared.node.Node.{Node}
 use Rattle.math_tree.specs.declared.node.Node.TheViews.{out-Node, size-Node}
+use Rattle.layout_model.specs.Layout.{last_context}
 use Rattle.kept_results.specs.Kept.{IsMemoOf}
 use Rattle.kept_results.specs.declared.memo.Memo.{Memo}
 use Rattle.kept_results.specs.declared.memo.Memo.TheViews.{out-Memo}
 use Rattle.kept_results.proofs.Agreement.{agrees_child}
 use Rattle.kept_laid.specs.Boxes.{box_below}
-use Rattle.kept_laid.proofs.BoxReading.{all_passed, at_place, box_found, box_further, box_here, box_of_kid_is, kid_in_flow, kid_kept, none_found, none_so_far, none_yet, not_some, smaller, told_of_child}
+use Rattle.kept_laid.proofs.BoxReading.{all_passed, at_place, box_found, box_further, box_here, box_of_kid_is, in_no_context, kid_in_flow, kid_kept, lacks, none_found, none_so_far, none_yet, not_some, smaller, told_of_child}
 use Rattle.kept_laid.proofs.LastAsked.{alike, unlike}
 use Rattle.kept_laid.proofs.Reading.{asks_in, kids_until}
 use Rattle.kept_laid.proofs.Walking.{no_more, none_before, one_more}
@@ -123,3 +124,9 @@ box_of_kids-returns t c = λ m agrees.
     let own : IsMemoOf m node (out-Memo c.args.memo.now) = agrees.at [] node c.args.memo.now (refl, refl) in
     none_found c.args.id m node (asks_in c.args.entry.now) c.loop-place.index
     (all_passed node c.loop-place.place c.loop-place.index (omega (arith, own.as_many)) c.loop-place.invariant.0) (c.loop-place.invariant.2 m agrees)
+
+-- ---- a child
+
+pub box_of_kid-returns-then-not-has_id : goal.box_of_kid-returns-then-not-has_id
+box_of_kid-returns-then-not-has_id t c = λ m agrees.
+    sym (in_no_context c.args.id m c.args.child.now (lacks c.args.id m c.args.child.now 1 (sym (c.has_id.ensures 1) ∙ c.if-not-has_id.true)) (last_context (asks_in c.args.entry.now) c.args.index))
