@@ -1,5 +1,5 @@
--- What a tree that can be laid out gives to placing it, and the box of its root.
-use Rattle.std.proofs.Common.{◌≡◌, ◌∙◌, ap, ◌≤◌, true, pos}
+-- What a tree that can be laid out gives to placing it.
+use Rattle.std.proofs.Common.{◌≡◌, ◌≤◌, true, pos}
 use Rattle.std.specs.List.{All}
 use Rattle.font_metrics.specs.Metrics.{MetricsValue}
 use Rattle.font_metrics.specs.Taken.{IsTaken}
@@ -7,13 +7,9 @@ use Rattle.math_tree.specs.Forms.{most_levels}
 use Rattle.math_tree.specs.Trees.{TreeValue, IsWhole}
 use Rattle.math_tree.specs.declared.node.Node.TheViews.{out-Node}
 use Rattle.layout_model.proofs.LaidTrees.{drawn_law, levels_law, stored_law}
-use Rattle.layout_model.proofs.Trees.{laid_is}
 use Rattle.layout_model.specs.Laid.{all_outcomes, levels}
-use Rattle.layout_model.specs.Layout.{is_tree_in_range, laid_tree, lay_tree, root_context}
+use Rattle.layout_model.specs.Layout.{is_tree_in_range, laid_tree, root_context}
 use Rattle.layout_model.specs.Range.{outcome_fits}
-use Rattle.layout_model.specs.declared.laid.Laid.{Laid}
-use Rattle.layout_model.specs.declared.laid.Laid.TheOpen.{Laid-F}
-use Rattle.layout_model.specs.declared.laid.Laid.TheViews.{out-Laid, out-roll-Laid}
 use Rattle.box_writer.specs.Items.{IsOfFont}
 use Rattle.placement.proofs.Glyphs.{glyph_law}
 use Rattle.placement.specs.Placing.{placed}
@@ -28,8 +24,3 @@ module _ (m : MetricsValue) (tree : TreeValue) where
   pub glyphs_known : IsTaken m → is_tree_in_range m tree ≡ true → All (IsOfFont m) (placed (laid_tree m tree) (pos 0) (pos 0))
   glyphs_known taken fit =
       glyph_law m (laid_tree m tree) (pos 0) (pos 0) (drawn_law m tree.root (root_context m (out-Node tree.root).head) taken fit)
-
-  pub root_frame : (out-Laid (laid_tree m tree)).outcome.answer.frame ≡ (lay_tree m tree).answer.frame
-  root_frame =
-      ap (λ (l : Laid). (out-Laid l).outcome.answer.frame) (laid_is m tree.root (root_context m (out-Node tree.root).head))
-      ∙ ap (λ (l : Laid-F Laid). l.outcome.answer.frame) (out-roll-Laid _)

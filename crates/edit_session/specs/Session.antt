@@ -7,7 +7,9 @@ use Rattle.tree_edits.specs.Edits.{edited, refusal_of}
 use Rattle.tree_edits.specs.declared.edit.Edit.{Edit}
 use Rattle.tree_edits.specs.declared.edit.EditRefusal.TheVariants.{Memory as OutOfMemory}
 use Rattle.layout_model.specs.Layout.{is_tree_in_range, laid_tree, lay_tree}
-use Rattle.layout_model.specs.declared.laid.Laid.{Laid}
+use Rattle.kept_results.specs.declared.memo.Memo.{Memo}
+use Rattle.kept_sweep.specs.Swept.{KeepsNeeded}
+use Rattle.memo_tree.specs.Trees.{MemoTreeValue, context_of}
 use Rattle.box_writer.specs.declared.placed.PlacedItem.{PlacedItem}
 use Rattle.placement.specs.Placing.{placed}
 use Rattle.edit_session.specs.declared.refusal.SessionRefusal.{SessionRefusal}
@@ -18,18 +20,23 @@ pub record SessionValue : Type 0 where
   pub tree : TreeValue
   pub metrics : MetricsValue
 
--- what contracts see of a session: what it holds
+-- the same, with the layouts that are kept
 pub record KeptSession : Type 0 where
   pub held : SessionValue
+  pub memo : Memo
+
+-- the session of a tree with its kept layouts
+abbrev pub session_of : MemoTreeValue → KeptSession
+session_of laid = record { held = record { tree = laid.tree; metrics = laid.metrics }; memo = laid.memo }
+
+-- exactly the layouts are kept that the one of its tree needs
+abbrev pub IsSwept : KeptSession → Type 0
+IsSwept session =
+    KeepsNeeded session.held.metrics session.held.tree.root (context_of session.held.metrics session.held.tree) session.memo
 
 -- every layout that is made of its tree can be stored
 abbrev pub IsInRange : SessionValue → Type 0
 IsInRange session = is_tree_in_range session.metrics session.tree ≡ true
-
--- what is kept of its layout is that of its tree
-pub record IsLaidOut (session : SessionValue) (laid : Laid) : Type 0 where
-  pub laid_is : laid ≡ laid_tree session.metrics session.tree
-  pub fit : IsInRange session
 
 -- the session over the edited tree
 abbrev pub edited_session : SessionValue → Edit → SessionValue

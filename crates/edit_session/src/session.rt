@@ -1,52 +1,58 @@
-ghost use Rattle.std.specs.Prelude.{◌≡◌, ◌≢◌, true, false, None, All, Err, IfOk, OnOk, IfErr, OnErr};
+ghost use Rattle.std.specs.Prelude.{◌≡◌, ◌≤◌, ◌≢◌, ◌+◌, false, None, All, Err, IfOk, OnOk, IfErr, OnErr};
 ghost use Rattle.box_writer.specs.Items.{IsOfFont};
 ghost use Rattle.fixed_units.specs.declared.refusal.LayRefusal.TheVariants.{Range};
 ghost use Rattle.layout_model.specs.Layout.{is_tree_in_range};
 ghost use Rattle.tree_edits.specs.Applying.{IsProperEdit};
 ghost use Rattle.tree_edits.specs.Edits.{refusal_of};
-ghost use Rattle.edit_session.specs.Session.{IsCause, IsInRange, edited_session, page, root_box};
+ghost use Rattle.kept_results.specs.Ends.{kept_count};
+ghost use Rattle.kept_edits.specs.ByIds.{TakesNeeded};
+ghost use Rattle.kept_sweep.specs.Swept.{CountsNeeded, IsPartOf};
+ghost use Rattle.memo_tree.specs.States.{IsIn, Sealed};
+ghost use Rattle.memo_tree.specs.Trees.{context_of};
+ghost use Rattle.edit_session.specs.Session.{IsCause, IsInRange, IsSwept, edited_session, page, root_box, session_of};
 
 use crate::SessionRefusal;
 use box_writer::Placed;
 use fixed_units::{LayRefusal, MathBox, Memory, Steps};
 use font_metrics::Metrics;
-use layout_core::lay_fresh;
-use layout_model::Laid;
 use math_tree::Tree;
+use memo_tree::MemoTree;
 use placement::place;
 use std::alloc::Global;
 use std::marker::Model;
 use std::sync::ledger::Ledger;
-use tree_edits::{Edit, apply, restore};
+use tree_edits::Edit;
 
 /// A tree that is laid out with the metrics of a font. It can be edited and shown; its tree is in
-/// range at any time. Contracts see the tree and the metrics.
+/// range at any time. The layouts that were made for it are kept, so that an edit makes only those that
+/// it needs and that aren't there.
 #[derive(Drop)]
 pub struct Session {
-    tree: Tree,
-    laid: Laid,
-    metrics: Metrics,
+    layouts: MemoTree,
 }
 
 impl Model for Session {
     ghost use Rattle.std.specs.Coded.{codes};
     ghost use Rattle.math_tree.specs.contracts.node.Node as node;
+    ghost use Rattle.kept_results.specs.contracts.memo.Memo as kept;
     ghost use Rattle.edit_session.specs.Session.{KeptSession};
 
     ghost Value = { KeptSession };
 
-    ghost coded = { Prim.hlevel (codes, node.the_row.coded) };
+    ghost coded = { Prim.hlevel (codes, node.the_row.coded, kept.the_row.coded) };
 
-    ghost use Rattle.edit_session.specs.Session.{IsLaidOut};
+    ghost use Rattle.edit_session.specs.Session.{session_of};
 
-    ghost view = { λ session. record { held = record { tree = session.tree; metrics = session.metrics } } };
+    ghost view = { λ session. session_of session.layouts };
 
-    ghost invariant = { λ session.
-        IsLaidOut (record { tree = session.tree; metrics = session.metrics }) session.laid };
+    ghost use Rattle.memo_tree.specs.States.{IsIn, Sealed};
+
+    ghost invariant = { λ session. IsIn Sealed session.layouts };
 }
 
 impl Session {
-    /// Takes a tree and metrics over, and lays the tree out. Where that is refused both are dropped.
+    /// Takes a tree and metrics over, and lays the tree out. Exactly the layouts are kept that the one of
+    /// the tree needs, and each ticks a step. Where it is refused both are dropped.
     pub fn start<L: Ledger>(
         alloc: Global,
         tree: Tree,
@@ -56,17 +62,17 @@ impl Session {
         ensures ok { IfOk result (λ session. session.held ≡ record { tree = tree; metrics = metrics }) }
         ensures fit { IfOk result (λ session. IsInRange session.held) }
         ensures range { result ≡ Err Range → is_tree_in_range metrics tree ≡ false }
+        ensures kept { IfOk result IsSwept }
+        ensures steps { CountsNeeded metrics tree.root (context_of metrics tree) steps.old steps.new }
+        ensures all { IfOk result (λ session. steps.new ≡ steps.old + kept_count session.memo) }
     {
-        let laid = lay_fresh(alloc, &tree, &metrics, steps)?;
-        Ok(Session {
-            tree,
-            laid,
-            metrics,
-        })
+        let layouts = MemoTree::start(alloc, tree, metrics, steps)?;
+        Ok(Session { layouts })
     }
 
-    /// Carries an edit out, and lays the edited tree out. Where either is refused, the session stays
-    /// as it was; an edit that the tree gives a reason to refuse takes no step.
+    /// Carries an edit out, and makes the layouts that the edited tree needs and that aren't kept, each of
+    /// which ticks a step. Where either is refused, the session stays as it was, with all that it keeps; an
+    /// edit that the tree gives a reason to refuse takes no step.
     pub fn edit<L: Ledger>(
         &mut self,
         alloc: Global,
@@ -80,31 +86,38 @@ impl Session {
         ensures refused { IfErr result (IsCause self.old.held edit) }
         ensures unchanged { OnErr result (self.new ≡ self.old) }
         ensures unlaid { refusal_of self.old.held.tree edit ≢ None → steps.new ≡ steps.old }
+        ensures steps { refusal_of self.old.held.tree edit ≡ None → TakesNeeded self.old.held.metrics self.old.held.tree edit steps.old steps.new }
     {
-        let taken = apply(alloc, &mut self.tree, edit)?;
-        match lay_fresh(alloc, &self.tree, &self.metrics, steps) {
-            Ok(laid) => {
-                self.laid = laid;
+        let reversal = self.layouts.change(alloc, edit)?;
+        match self.layouts.relay(alloc, steps) {
+            Ok(()) => {
+                self.layouts.seal();
                 Ok(())
             }
             Err(refusal) => {
-                restore(&mut self.tree, taken);
+                self.layouts.undo_pass();
+                self.layouts.undo_change(reversal);
                 Err(refusal.into())
             }
         }
     }
 
     /// Says where the boxes and the marks of the tree stand, in document order: the root's baseline
-    /// begins at (0, 0).
+    /// begins at (0, 0). All layouts are dropped but those that the one of the tree needs.
     pub fn show(&mut self, alloc: Global) -> Result<Placed, Memory>
         ensures page { IfOk result (λ items. items ≡ page self.old.held) }
         ensures glyphs { IfOk result (All (IsOfFont self.old.held.metrics)) }
         ensures unchanged { self.new.held ≡ self.old.held }
+        ensures kept { IsSwept self.new }
+        ensures part { IsPartOf self.new.memo self.old.memo }
+        ensures few { kept_count self.new.memo ≤ 131_072 }
     {
-        // What placing needs to know of the tree: the call does nothing.
-        let _root = self.tree.root();
-        self.metrics.is_taken();
-        place(alloc, &self.laid)
+        self.layouts.sweep();
+        let laid = self.layouts.laid(alloc)?;
+        // What placing needs to know of the tree: the calls do nothing.
+        let _root = self.layouts.tree().root();
+        self.layouts.metrics().is_taken();
+        place(alloc, &laid)
     }
 
     /// The metrics of the font, as the session was started with them.
@@ -112,14 +125,14 @@ impl Session {
         ensures exact { result.now ≡ self.now.held.metrics }
         ensures fit { IsInRange self.now.held }
     {
-        &self.metrics
+        self.layouts.metrics()
     }
 
     /// An equal tree, with the same ids and the same next id.
     pub fn tree(&self, alloc: Global) -> Result<Tree, Memory>
         ensures { IfOk result (λ copied. copied ≡ self.now.held.tree) }
     {
-        self.tree.copy(alloc)
+        self.layouts.tree().copy(alloc)
     }
 
     /// The box of the root, as it is laid out.
@@ -127,6 +140,14 @@ impl Session {
         ensures exact { result ≡ root_box self.now.held }
         ensures fit { IsInRange self.now.held }
     {
-        self.laid.outcome.answer.frame
+        self.layouts.root_box()
+    }
+
+    /// The tree with the layouts that are kept of it. They agree with it, and its own is among them.
+    pub fn layouts(&self) -> &MemoTree
+        ensures exact { session_of result.now ≡ self.now }
+        ensures agrees { IsIn Sealed result.now }
+    {
+        &self.layouts
     }
 }

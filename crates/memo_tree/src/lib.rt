@@ -3,7 +3,7 @@
 //! `MemoTree::start` lays a tree out with the metrics of a font, and keeps each layout that is made for
 //! it. An edit is carried out by `change`, `relay`, which makes the layouts that aren't kept, and `seal`;
 //! where `relay` is refused, `undo_pass` and `undo_change` give back what was there before. What stands
-//! in the layout of the tree is read off what is kept, without any layout. No command uses it yet.
+//! in the layout of the tree is read off what is kept, without any layout.
 //!
 //! - Models: this project's own; MathML Core says nothing of it.
 //! - Proved: in each state what is kept agrees with the tree and the metrics, and before and after an

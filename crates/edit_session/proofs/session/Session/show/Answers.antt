@@ -1,6 +1,9 @@
 use Rattle.std.proofs.Common.{◌≡◌, ◌∙◌, ap, arith, subst, sym, pos}
 use Rattle.std.proofs.lemmas.Result.{IfOk-weaker}
 use Rattle.std.specs.List.{All}
+use Rattle.font_metrics.specs.Metrics.{MetricsValue}
+use Rattle.font_metrics.specs.Taken.{IsTaken}
+use Rattle.math_tree.specs.Trees.{IsWhole}
 use Rattle.box_writer.specs.Items.{IsOfFont}
 use Rattle.layout_model.specs.Laid.{all_outcomes, levels}
 use Rattle.layout_model.specs.Range.{outcome_fits}
@@ -12,21 +15,23 @@ use Rattle.edit_session.proofs.session.Session.show.Goals as goal
 
 pub place-requires-clause-levels : goal.place-requires-clause-levels
 place-requires-clause-levels c =
-    let kept = c.self.inside in
-    let few = few_levels kept.metrics kept.tree c.root-root.ensures.whole in
-    omega (arith, ap levels c.self.invariant.laid_is, few)
+    let kept = c.sweep.new.self in
+    let few = few_levels kept.metrics kept.tree (subst IsWhole c.tree.ensures c.root-root.ensures.whole) in
+    omega (arith, ap levels c.in_ok-laid.ensures, few)
 
 pub place-requires-clause-stored : goal.place-requires-clause-stored
 place-requires-clause-stored c =
-    let kept = c.self.inside in
-    ap (all_outcomes outcome_fits) c.self.invariant.laid_is ∙ all_stored kept.metrics kept.tree c.self.invariant.fit
+    let kept = c.sweep.new.self in
+    ap (all_outcomes outcome_fits) c.in_ok-laid.ensures ∙ all_stored kept.metrics kept.tree c.sweep.ensures.sealed.fit
 
 pub returns-clause-glyphs : goal.returns-clause-glyphs
 returns-clause-glyphs c =
-    let kept = c.self.inside in
+    let kept = c.sweep.new.self in
+    let laid = c.in_ok-laid.laid in
     let metrics = c.args.self.now.held.metrics in
-    let of_tree = glyphs_known kept.metrics kept.tree c.is_taken.ensures c.self.invariant.fit in
-    let of_laid = subst (λ (l : Laid). All (IsOfFont kept.metrics) (placed l (pos 0) (pos 0))) (sym c.self.invariant.laid_is) of_tree in
-    let known = subst (λ (s : KeptSession). All (IsOfFont s.held.metrics) (placed kept.laid (pos 0) (pos 0))) c.self.view_is of_laid in
-    IfOk-weaker c.place.result (λ items. items ≡ placed kept.laid (pos 0) (pos 0)) (All (IsOfFont metrics))
+    let same : kept.metrics ≡ metrics = c.sweep.ensures.metrics ∙ ap (λ (s : KeptSession). s.held.metrics) c.self.view_is in
+    let of_tree = glyphs_known kept.metrics kept.tree (subst IsTaken c.metrics.ensures c.is_taken.ensures) c.sweep.ensures.sealed.fit in
+    let of_laid = subst (λ (l : Laid). All (IsOfFont kept.metrics) (placed l (pos 0) (pos 0))) (sym c.in_ok-laid.ensures) of_tree in
+    let known = subst (λ (m : MetricsValue). All (IsOfFont m) (placed laid (pos 0) (pos 0))) same of_laid in
+    IfOk-weaker c.place.result (λ items. items ≡ placed laid (pos 0) (pos 0)) (All (IsOfFont metrics))
     (λ items e. subst (All (IsOfFont metrics)) (sym e) known) c.place.ensures
