@@ -1,18 +1,16 @@
 //! `steps`: how many layouts are made of a tree, at the start and by each edit of a script.
 //!
-//! A step is a layout that is made. How many were taken can't be read, since they take no bytes; but a
-//! pass keeps as many layouts as it makes, and what is kept is counted before it and after it.
+//! A step is a layout that is made. How many were taken can't be read, since they take no bytes; but a pass
+//! that is done keeps as many layouts more as it made, so what is kept is counted before it and after it.
 ghost use Rattle.std.specs.Prelude.{◌≡◌, ◌<◌, OnOk};
-ghost use Rattle.memo_tree.specs.States.{Changed, IsIn, Sealed};
-ghost use Rattle.memo_tree.specs.Reversing.{Reverses};
-ghost use Rattle.memo_tree.specs.Trees.{MemoTreeValue};
+ghost use Rattle.memo_tree.specs.States.{IsIn, Sealed};
 ghost use Rattle.tree_edits.specs.Applying.{IsProperEdit};
 
 use case_format::{Case, Fault, Fields};
 use fixed_units::{LayRefusal, Steps};
 use font_metrics::Metrics;
 use math_tree::{Tree, TreeRefusal, read_tree};
-use memo_tree::{MemoTree, Reversal};
+use memo_tree::MemoTree;
 use serde_json::Value;
 use std::alloc::Global;
 use std::marker::Brand;
@@ -125,7 +123,8 @@ fn add_line<L: Ledger>(
     }
 }
 
-/// Carries an edit out, and adds what came of it.
+/// Carries an edit out as a session does, and adds what came of it: how many layouts were made, or why the
+/// tree stays as it was.
 fn add_edit<L: Ledger>(
     alloc: Global,
     laid: &mut MemoTree,
@@ -137,26 +136,11 @@ fn add_edit<L: Ledger>(
     requires sealed { IsIn Sealed laid.old }
     ensures { OnOk result (IsIn Sealed laid.new) }
 {
-    match laid.change(alloc, edit) {
-        Ok(reversal) => add_pass(alloc, laid, reversal, words, steps),
-        Err(EditRefusal::Memory) => Err(Fault::Memory),
-        Err(_) => add_word(REFUSED, words),
-    }
-}
-
-/// Lays a changed tree out, and adds how many layouts were made; where it is out of range, the change
-/// is taken back.
-fn add_pass<L: Ledger>(
-    alloc: Global,
-    laid: &mut MemoTree,
-    reversal: Reversal,
-    words: &mut String,
-    steps: &mut Steps<L>,
-) -> Result<(), Fault>
-    requires changed { IsIn Changed laid.old }
-    requires back { WasSealed reversal laid.old }
-    ensures { OnOk result (IsIn Sealed laid.new) }
-{
+    let reversal = match laid.change(alloc, edit) {
+        Ok(reversal) => reversal,
+        Err(EditRefusal::Memory) => return Err(Fault::Memory),
+        Err(_) => return add_word(REFUSED, words),
+    };
     let before = laid.kept();
     match laid.relay(alloc, steps) {
         Ok(()) => {
