@@ -2,7 +2,7 @@
 
 from dataclasses import dataclass, field
 
-from . import answers, built, fonts, leaves, numbers, rows, runs, shapes, styles, tables
+from . import answers, built, fonts, leaves, numbers, rows, runs, shapes, steps, styles, tables
 
 
 @dataclass
@@ -18,6 +18,7 @@ PROGRAMS = {
     "cases": Kinds({**answers.KINDS, **fonts.KINDS, **numbers.KINDS}),
     "run_cases": Kinds({}, {name: runs.RUNS[name] for name in ("check", "layout", "run")}),
     "edit_cases": Kinds(runs.FAILING, {name: runs.RUNS[name] for name in ("edit", "run")}),
+    "step_cases": Kinds(steps.KINDS),
     "leaf_cases": Kinds({**styles.KINDS, **shapes.KINDS, **leaves.KINDS}),
     "row_cases": Kinds({**rows.KINDS, **tables.KINDS}),
     "equation_cases": Kinds(built.KINDS),

@@ -1,0 +1,22 @@
+//! The program `step_cases`: it lays trees out, edits them and sweeps what is kept, as lines of its
+//! standard input say, and writes how many layouts were made each time and how many are kept.
+//!
+//! `stdin` has the cases, and `stdout` what must come of them, which was found out by a second
+//! program (docs/CASES.md has the format and says how). The gate runs this program and compares.
+//!
+//! - Proved: that every input is gone through to its end, without undefined behaviour. What is
+//!   written is compared, so no function here says what it writes.
+//! - Knows nothing of: what is kept, and what an edit leaves of it.
+//! - Add a kind of case: its file here, and its line in `src/kinds.rt`.
+#![tactic(auto)]
+
+mod kinds; // the kinds of cases
+
+use case_format::carry_out;
+use kinds::OfSteps;
+use std::io;
+use std::process::ExitCode;
+
+fn main(rt: HostRuntime) -> io::Result<ExitCode> {
+    carry_out(&rt, &OfSteps)
+}
