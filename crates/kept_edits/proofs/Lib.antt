@@ -1,3 +1,4 @@
+mod Worked
 pub mod Backwards
 pub mod Changing
 pub mod EditEnds
@@ -9,7 +10,7 @@ pub mod Needing
 pub mod OnTheWay
 pub mod OnePath
 pub mod Origins
+pub mod Tidying
 pub mod ToldById
 pub mod Unlaid
 pub mod Ways
-mod Worked
