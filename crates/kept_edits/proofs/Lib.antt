@@ -1,4 +1,3 @@
-mod Worked
 pub mod Backwards
 pub mod Changing
 pub mod EditEnds
@@ -14,3 +13,4 @@ pub mod Tidying
 pub mod ToldById
 pub mod Unlaid
 pub mod Ways
+mod Worked
