@@ -9,6 +9,7 @@ pub mod Needing
 pub mod OnTheWay
 pub mod OnePath
 pub mod Origins
+pub mod Tidying
 pub mod ToldById
 pub mod Unlaid
 pub mod Ways

@@ -4,6 +4,7 @@ ghost use Rattle.math_tree.specs.Trees.{element_count};
 ghost use Rattle.layout_model.specs.Layout.{in_range};
 ghost use Rattle.kept_results.specs.Contexts.{Suits};
 ghost use Rattle.kept_results.specs.Laws.{AllKept};
+ghost use Rattle.kept_results.specs.Tidy.{IsTidy};
 ghost use Rattle.kept_edits.specs.Laws.{IsReadyFor};
 ghost use Rattle.kept_edits.specs.Need.{IsSealedFor};
 ghost use Rattle.kept_edits.specs.Passed.{TakesMissing};
@@ -28,6 +29,7 @@ pub fn pass<L: Ledger>(
     steps: &mut Steps<L>,
 ) -> Result<(), LayRefusal>
     requires ready { IsReadyFor metrics.now node.now memo.old }
+    requires tidy { IsTidy memo.old }
     requires few { element_count node.now ≤ 65_536 }
     requires context { Suits metrics.now node.now context.now }
     ensures sealed { OnOk result (IsSealedFor metrics.now node.now context.now memo.new) }

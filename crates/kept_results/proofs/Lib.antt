@@ -6,5 +6,6 @@ pub mod Lists
 pub mod Passing
 pub mod Renewing
 pub mod Sealing
+pub mod Tidying
 pub mod Turns
 pub mod Whole

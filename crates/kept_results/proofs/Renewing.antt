@@ -1,14 +1,24 @@
 -- Loops that renew each memo below, one after another.
-use Rattle.std.proofs.Common.{◌≡◌, ◌∙◌, refl, sym, ap, ℕ, zero, suc, ◌+◌, arith, List, [], ◌∷◌, ◌++◌, drop, length, map, set, take, Some, slice_get, None, is_some}
-use Rattle.std.proofs.lemmas.Option.{none-some, same_Some}
+use Rattle.std.proofs.Common.{◌≡◌, ◌∙◌, refl, sym, ap, ℕ, zero, suc, ◌+◌, ◌<◌, ◌≤◌, max, arith, List, [], ◌∷◌, ◌++◌, drop, get_or, length, map, set, take, Some, slice_get, None, is_some}
+use Rattle.std.proofs.lemmas.Option.{get_or_from_slice_get, none-some, same_Some, slice_get_within}
+use denote.Param.Weighed.{most, at_most}
 use Rattle.kept_results.specs.Kept.{is_marked}
 use Rattle.kept_results.specs.Ends.{not_fresh, sealed, settled_all, stripped}
 use Rattle.kept_results.specs.declared.memo.Entry.{Entry}
 use Rattle.kept_results.specs.declared.memo.Memo.{Memo}
 use Rattle.kept_results.specs.declared.memo.Memo.TheOpen.{Memo-F}
-use Rattle.kept_results.specs.declared.memo.Memo.TheViews.{out-Memo, out-roll-Memo, roll-Memo}
+use Rattle.kept_results.specs.declared.memo.Memo.TheViews.{out-Memo, out-roll-Memo, roll-Memo, size-Memo, size_is-Memo}
 use Rattle.kept_results.proofs.Agreement.{renewed}
 use Rattle.kept_results.proofs.Counts.{sealed_out, stripped_out}
+
+-- a child's memo is smaller than that of its parent
+pub smaller : (memo : Memo) (place : ℕ) (below : Memo) → slice_get (out-Memo memo).below place ≡ Some below → size-Memo below < size-Memo memo
+smaller memo place below at =
+    let memos : List Memo = (out-Memo memo).below in
+    let deepest : size-Memo (get_or memos place below) ≤ most size-Memo memos = at_most size-Memo memos place below (slice_get_within memos place below at) in
+    let whole : size-Memo memo ≡ max 0 (max 0 (max 0 (max (most size-Memo memos) 0))) + 1 = size_is-Memo memo in
+    let same : size-Memo (get_or memos place below) ≡ size-Memo below = ap size-Memo (get_or_from_slice_get memos place below below at) in
+    omega arith
 
 -- the first memos below are renewed, and all else is as it was
 pub record Renewed (renew : Memo → Memo) (before now : Memo) (at : ℕ) : Type 0 where
@@ -42,13 +52,18 @@ module _ (renew : Memo → Memo) where
   renewed_all (k ∷ memos) zero h = absurd (omega arith)
   renewed_all (k ∷ memos) (suc at) h = ap (λ (l : List Memo). renew k ∷ l) (renewed_all memos at (omega arith))
 
+  -- the next one is as it was
+  pub next_was : (before now : Memo) (at : ℕ) (old : Memo) → Renewed renew before now at → slice_get (out-Memo now).below at ≡ Some old
+      → slice_get (out-Memo before).below at ≡ Some old
+  next_was before now at old h there = sym (next_is (out-Memo before).below at) ∙ ap (λ l. slice_get l at) (sym h.below) ∙ there
+
   -- one more
   pub renewed_more : (before now : Memo) (at : ℕ) (old new : Memo) → Renewed renew before now at → slice_get (out-Memo now).below at ≡ Some old → new ≡ renew old
       → Renewed renew before (roll-Memo (renewed now at new)) (at + 1)
   renewed_more before now at old new h there e =
       let memos : List Memo = (out-Memo before).below in
       let out : out-Memo (roll-Memo (renewed now at new)) ≡ renewed now at new = out-roll-Memo (renewed now at new) in
-      let was : slice_get memos at ≡ Some old = sym (next_is memos at) ∙ ap (λ l. slice_get l at) (sym h.below) ∙ there in
+      let was : slice_get memos at ≡ Some old = next_was before now at old h there in
       let one : suc at ≡ at + 1 = omega arith in
       record {
         former = ap (λ (l : Memo-F Memo). l.former) out ∙ h.former;

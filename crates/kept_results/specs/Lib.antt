@@ -5,3 +5,4 @@ pub mod Kept
 pub mod Laws
 pub mod Looking
 pub mod Passes
+pub mod Tidy

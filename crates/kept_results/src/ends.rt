@@ -1,7 +1,8 @@
 ghost use Rattle.std.specs.Prelude.{◌≡◌};
 ghost use Rattle.kept_results.specs.Ends.{not_fresh, sealed, settled_all, stripped};
+ghost use Rattle.kept_results.specs.Tidy.{IsTidy};
 
-use crate::entries::{is_live, is_marked};
+use crate::entries::{is_calm, is_live, is_marked};
 use crate::memo::{Entry, Memo};
 use fixed_units::List;
 
@@ -15,11 +16,15 @@ pub fn undo_pass(memo: &mut Memo)
     drop_fresh(&mut memo.entries);
 }
 
-/// Ends a pass that was done: older entries are dropped, and marks and flags are cleared. It takes no
-/// memory.
+/// Ends a pass that was done: older entries are dropped, and marks and flags are cleared. It goes only
+/// where the edit and the pass went, and takes no memory.
 pub fn seal(memo: &mut Memo)
+    requires tidy { IsTidy memo.old }
     ensures { memo.new ≡ sealed memo.old }
 {
+    if is_calm(memo) {
+        return;
+    }
     for at in 0..memo.below.len() {
         seal(memo.below.at_mut(at));
     }

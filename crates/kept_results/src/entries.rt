@@ -1,6 +1,7 @@
 ghost use Rattle.std.specs.Prelude.{◌≡◌, ◌++◌, ◌∷◌, [], true, false, IfOk, IfSome, IfNone, OnErr, OnOk, map};
 ghost use Rattle.kept_results.specs.Kept.{IsMissing, is_live, is_marked};
 ghost use Rattle.kept_results.specs.Looking.{HasAnswer, IsKeptNow, own_facts};
+ghost use Rattle.kept_results.specs.Tidy.{has_none_fresh, is_calm};
 ghost use Rattle.kept_results.specs.declared.memo.Memo.TheViews.{out-Memo};
 
 use crate::contexts::{copy_of as copy_of_context, is_same};
@@ -15,6 +16,26 @@ pub fn is_marked(memo: &Memo) -> bool
     ensures { result ≡ is_marked (out-Memo memo.now) }
 {
     memo.former.is_some()
+}
+
+/// Whether the present edit and the present pass left the element alone. It says nothing of those
+/// below it.
+pub fn is_calm(memo: &Memo) -> bool
+    ensures { result ≡ is_calm (out-Memo memo.now) }
+{
+    !is_marked(memo) && has_none_fresh(memo.entries.as_slice())
+}
+
+/// Is none of these entries fresh?
+fn has_none_fresh(entries: &[Entry]) -> bool
+    ensures { result ≡ has_none_fresh entries.now }
+{
+    for entry in entries {
+        if entry.fresh {
+            return false;
+        }
+    }
+    true
 }
 
 /// Whether an entry is no older one.

@@ -7,6 +7,7 @@ ghost use Rattle.layout_model.specs.Layout.{in_range, lay, visit_fits};
 ghost use Rattle.kept_results.specs.Contexts.{IsProper, Suits};
 ghost use Rattle.kept_results.specs.Kept.{Agrees, IsKept, NamesKept};
 ghost use Rattle.kept_results.specs.Passes.{AnswersNeed, Needs, Passes};
+ghost use Rattle.kept_results.specs.Tidy.{AreTidy, IsTidy};
 ghost use Rattle.kept_results.specs.declared.memo.Memo.TheViews.{out-Memo};
 
 use crate::entries::{facts_below, keep, kept_answer};
@@ -39,6 +40,7 @@ pub fn relay_element<L: Ledger>(
     ensures passes { Passes metrics.now node.now (Needs metrics.now node.now context.now) memo.old memo.new steps.old steps.new false }
     ensures passed { OnOk result (Passes metrics.now node.now (Needs metrics.now node.now context.now) memo.old memo.new steps.old steps.new true) }
     ensures kept { OnOk result (IsKept (out-Memo memo.new) context.now) }
+    ensures tidy { OnOk result (IsTidy memo.old → IsTidy memo.new) }
     ensures ok { IfOk result (λ answer. answer ≡ (lay metrics.now node.now context.now).answer) }
     ensures fit { OnOk result (in_range metrics.now node.now context.now ≡ true) }
     ensures range { result ≡ Err Range → in_range metrics.now node.now context.now ≡ false }
@@ -76,6 +78,7 @@ fn relay_all<L: Ledger>(
     ensures own { (out-Memo memo.new).entries ≡ (out-Memo memo.old).entries }
     ensures marked { (out-Memo memo.new).former ≡ (out-Memo memo.old).former }
     ensures kept { OnOk result (AllByRecursion (NamesKept node.now (out-Memo memo.new).below) asks.now) }
+    ensures tidy { OnOk result (AreTidy (out-Memo memo.old).below → AreTidy (out-Memo memo.new).below) }
     ensures ok { IfOk result (λ answers. answers ≡ map (answer_of metrics.now node.now) asks.now) }
     ensures fit { OnOk result (list_all (visit_fits metrics.now) (flat_map (visits_below metrics.now node.now) asks.now) ≡ true) }
     ensures range { result ≡ Err Range →

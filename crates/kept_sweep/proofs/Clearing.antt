@@ -10,12 +10,14 @@ use Rattle.layout_model.specs.declared.context.Context.{Context}
 use Rattle.kept_results.specs.Ends.{settled}
 use Rattle.kept_results.specs.Kept.{Agrees, AreApart, HasEntry, IsKept, IsMissing, IsSound, is_marked}
 use Rattle.kept_results.specs.Looking.{own_facts}
+use Rattle.kept_results.specs.Tidy.{StaysCalm, IsTidy, IsMemoAt}
 use Rattle.kept_results.specs.declared.memo.Entry.{Entry}
 use Rattle.kept_results.specs.declared.memo.Memo.{Memo}
 use Rattle.kept_results.specs.declared.memo.Memo.TheFolds.{fold-roll-Memo, fold_out-Memo}
 use Rattle.kept_results.specs.declared.memo.Memo.TheOpen.{Memo-F}
 use Rattle.kept_results.specs.declared.memo.Memo.TheViews.{out-Memo, out-roll-Memo, roll-Memo}
 use Rattle.kept_results.proofs.Renewing.{Renewed, below_all}
+use Rattle.kept_results.proofs.Tidying.{mark_calms}
 use Rattle.kept_sweep.specs.Flagged.{StandsAt, all_marked, cleared, cleared_layer, marked_layer}
 
 -- ---- the folds, layer by layer
@@ -62,12 +64,26 @@ marked_end before now at h l =
       below = below_all all_marked before now at h l i;
     }) ∙ sym (marked_out before)
 
--- ---- what agrees when it is cleared
+-- ---- all marked
 
 pub mapped_was : {X Y : Type 0} (f : X → Y) (xs : List X) (i : ℕ) (y : Y) → slice_get (map f xs) i ≡ Some y → (x : X) × (slice_get xs i ≡ Some x) × (y ≡ f x)
 mapped_was f [] i y h = absurd (none-some y h)
 mapped_was f (x ∷ xs) zero y h = (x, refl, sym (same_Some (f x) y h))
 mapped_was f (x ∷ xs) (suc i) y h = mapped_was f xs i y h
+
+marked_calms : (path : List ℕ) (memo kept : Memo) → IsMemoAt path (all_marked memo) kept → StaysCalm (out-Memo kept)
+marked_calms [] memo kept s =
+    subst (λ (z : Memo). StaysCalm (out-Memo z)) (sym s)
+    (subst StaysCalm (sym (out_marked memo)) (mark_calms (marked_over (out-Memo memo)) refl))
+marked_calms (place ∷ path) memo kept s =
+    let was = mapped_was all_marked (out-Memo memo).below place s.0 (ap (λ (l : Memo-F Memo). slice_get l.below place) (sym (out_marked memo)) ∙ s.1) in
+    marked_calms path was.0 kept (subst (λ (z : Memo). IsMemoAt path z kept) was.2 s.2)
+
+-- no element is calm then
+pub marked_tidy : (memo : Memo) → IsTidy (all_marked memo)
+marked_tidy memo = record { at = λ path kept s. marked_calms path memo kept s }
+
+-- ---- what agrees when it is cleared
 
 module _ (m : MetricsValue) (node : Node) (memo : Memo) (h : Agrees m node (cleared memo)) where
   -- each entry is sound, older or not

@@ -27,6 +27,7 @@ use Rattle.kept_results.specs.declared.memo.Memo.TheViews.{out-Memo, out-roll-Me
 use Rattle.kept_results.proofs.Agreement.{agrees_child, agrees_made, missing_kept}
 use Rattle.kept_results.proofs.Lists.{all_then, one_place, set_cases, set_here, still_cases}
 use Rattle.kept_results.proofs.Passing.{fresh_live}
+use Rattle.kept_results.proofs.Tidying.{fresh_calms, tidy_below, tidy_made, tidy_set}
 use Rattle.kept_results.proofs.Turns.{facts_known}
 use Rattle.kept_sweep.specs.Flagged.{AreFlagged, BelowAgree, IsFlagged, StandsAt, cleared}
 use Rattle.kept_sweep.proofs.Clearing.{apart_any, apart_settled, as_many_cleared, cleared_out, cleared_roll, cleared_set, out_cleared, same_known, settled_set, sound_settled, stands_cleared}
@@ -47,7 +48,7 @@ module _ {m : MetricsValue} {node : Node} where
   }
 
   pub flagged_none : (asks : List Question) (below : List Memo) → BelowAgree m node below → AreFlagged m node asks below below
-  flagged_none asks below h = record { agrees = h; same = refl; grows = λ place path context k. k; asked = λ place path context k. inl k }
+  flagged_none asks below h = record { agrees = h; same = refl; grows = λ place path context k. k; asked = λ place path context k. inl k; tidy = λ x. x }
 
   pub flagged_both : {ones twos : List Question} {a b d : List Memo} (asks : List Question) → ((question : Question) → Contains ones question → Contains asks question)
       → ((question : Question) → Contains twos question → Contains asks question) → AreFlagged m node ones a b → AreFlagged m node twos b d → AreFlagged m node asks a d
@@ -59,6 +60,7 @@ module _ {m : MetricsValue} {node : Node} where
       | inl p ↦ elim (h.asked place path context p) [ inl q ↦ inl q | inr q ↦ inr (need_wider asks f (record { path = place ∷ path; context = context }) q) ]
       | inr p ↦ inr (need_wider asks g (record { path = place ∷ path; context = context }) p)
     ];
+    tidy = λ x. k.tidy (h.tidy x);
   }
 
   -- what is known of the children is still known
@@ -148,6 +150,7 @@ module _ (m : MetricsValue) (node kid : Node) (place : ℕ) (asks : List Questio
       ]
       | inr e ↦ inl (x.0, e, x.2)
     ];
+    tidy = λ x. tidy_set below place new x (flagged.tidy (x place old at));
   }
 
   pub named_one : NamesKept node later question
@@ -175,6 +178,7 @@ module _ (m : MetricsValue) (node : Node) (memo : Memo) (context : Context) wher
     grows = λ path other x. x;
     asked = λ path other x. inl x;
     here = record { entry = entry; has = record { place = place; at = at; live = fresh_live (is_marked (out-Memo memo)) entry flag }; in_context = is };
+    tidy = λ x. x;
   }
 
   -- that there is none can't be
@@ -304,6 +308,7 @@ module _ (m : MetricsValue) (node : Node) (memo : Memo) (context : Context) (pla
           has = subst (λ (l : Memo-F Memo). HasEntry l (fresh entry)) (sym out) record { place = place; at = set_here entries place (fresh entry) entry at; live = live_now };
           in_context = is;
         };
+        tidy = λ x. tidy_made layer (fresh_calms layer place (fresh entry) (set_here entries place (fresh entry) entry at) refl) (need.tidy (tidy_below memo x));
       }
 
 -- ---- while parts of a memo are lent

@@ -8,6 +8,7 @@ use Rattle.layout_model.specs.declared.context.Question.{Question}
 use Rattle.kept_results.specs.Ends.{settled}
 use Rattle.kept_results.specs.Kept.{Agrees, HoldsOne, IsKept}
 use Rattle.kept_results.specs.Passes.{AnswersNeed, Needs}
+use Rattle.kept_results.specs.Tidy.{AreTidy, IsTidy}
 use Rattle.kept_results.specs.declared.memo.Entry.{Entry}
 use Rattle.kept_results.specs.declared.memo.Memo.{Memo}
 use Rattle.kept_results.specs.declared.memo.Memo.TheFolds.{fold-Memo}
@@ -56,6 +57,7 @@ pub record IsFlagged (m : MetricsValue) (node : Node) (context : Context) (befor
   pub asked : (path : List ℕ) (other : Context) → HoldsOne path after other
       → HoldsOne path before other ⊎ Needs m node context record { path = path; context = other }
   pub here : IsKept (out-Memo after) context
+  pub tidy : IsTidy before → IsTidy after
 
 -- ---- its children
 
@@ -75,3 +77,4 @@ pub record AreFlagged (m : MetricsValue) (node : Node) (asks : List Question) (b
   pub grows : (place : ℕ) (path : List ℕ) (context : Context) → IsKeptBelow place path before context → IsKeptBelow place path after context
   pub asked : (place : ℕ) (path : List ℕ) (context : Context) → IsKeptBelow place path after context
       → IsKeptBelow place path before context ⊎ AnswersNeed m node asks record { path = place ∷ path; context = context }
+  pub tidy : AreTidy before → AreTidy after

@@ -16,6 +16,7 @@ use Rattle.kept_edits.proofs.ToldById.{missing_need}
 use Rattle.memo_tree.specs.Counted.{MissingIsCounted, StepsLaw}
 use Rattle.memo_tree.specs.Followed.{IsBefore, IsFollowed}
 use Rattle.memo_tree.specs.Reversing.{Reverses}
+use Rattle.memo_tree.specs.States.{IsChanged}
 use Rattle.memo_tree.specs.Trees.{IsLaidOut, MemoTreeValue, context_of}
 use Rattle.memo_tree.specs.Ways.{IsWay}
 use Rattle.memo_tree.specs.declared.way.Way.{Way}
@@ -36,8 +37,8 @@ module _ (old : MemoTreeValue) (edit : Edit) (way : Way) (tree : TreeValue) (roo
   }
 
   module _ (now : Memo) (back : MemoChange) (h : IsFollowed root old.memo way before now back) where
-    pub ready_now : IsReadyFor old.metrics tree.root now
-    ready_now = subst (λ (n : Node). IsReadyFor old.metrics n now) read h.ready
+    pub changed_now : IsChanged record { tree = tree; metrics = old.metrics; memo = now }
+    changed_now = record { ready = subst (λ (n : Node). IsReadyFor old.metrics n now) read h.ready; tidy = h.tidy }
 
     pub reverses : (taken : TakenValue) → Undoes taken tree old.tree
         → Reverses record { taken = taken; path = way.path; back = back } record { tree = tree; metrics = old.metrics; memo = now } old

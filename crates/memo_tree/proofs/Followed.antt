@@ -14,6 +14,7 @@ use Rattle.tree_edits.specs.Paths.{Fits, changed, children_of, node_at}
 use Rattle.tree_edits.specs.declared.change.Change.{Change}
 use Rattle.tree_edits.specs.declared.change.Change.TheVariants.{SetText, SetValue, PutChild, TakeChild, SwapChild}
 use Rattle.tree_edits.proofs.Inverse.{changed_there}
+use Rattle.kept_results.specs.Tidy.{IsTidy}
 use Rattle.kept_results.specs.declared.memo.Memo.{Memo}
 use Rattle.kept_results.specs.declared.memo.Memo.TheViews.{out-Memo}
 use Rattle.kept_results.proofs.Lists.{set_here}
@@ -21,11 +22,13 @@ use Rattle.kept_edits.specs.Blank.{blank}
 use Rattle.kept_edits.specs.Changed.{FitsMemo}
 use Rattle.kept_edits.specs.Known.{IsBeside}
 use Rattle.kept_edits.specs.Laws.{IsReadyFor, IsSame}
+use Rattle.kept_edits.specs.Passed.{PutsTidy}
 use Rattle.kept_edits.specs.declared.change.MemoChange.{MemoChange}
 use Rattle.kept_edits.specs.declared.change.MemoChange.TheVariants.{Stay as Unchanged, PutMemo, TakeMemo, SwapMemo}
 use Rattle.kept_edits.proofs.Changing.{paired}
 use Rattle.kept_edits.proofs.Lists.{length_insert, length_remove, some_at}
 use Rattle.kept_edits.proofs.OnTheWay.{beside_law}
+use Rattle.kept_edits.proofs.Tidying.{blank_tidy}
 use Rattle.kept_edits.proofs.Unlaid.{blank_law}
 use Rattle.memo_tree.specs.Followed.{HasPlace, IsBefore, IsOfElement, IsOfPlace, IsOfWay}
 use Rattle.memo_tree.specs.Rooms.{HasRoom, IsRoomy}
@@ -150,6 +153,19 @@ roomy_for element (Take index) (SwapMemo place memo) h = absurd h
 roomy_for element (Swap index) Unchanged h = absurd h
 roomy_for element (Swap index) (PutMemo place memo room) h = absurd h
 roomy_for element (Swap index) (TakeMemo place) h = absurd h
+
+-- nothing is kept of what it puts in
+pub puts_tidy : (m : MetricsValue) (element : Node) (place : Place) (other : MemoChange) → IsOfElement place element other → PutsTidy other
+puts_tidy m element place Unchanged h = tt
+puts_tidy m element place (TakeMemo index) h = tt
+puts_tidy m element (Put index) (PutMemo place memo room) h = subst IsTidy (sym h.1.is) (blank_tidy m h.1.child)
+puts_tidy m element (Swap index) (SwapMemo place memo) h = subst IsTidy (sym h.1.is) (blank_tidy m h.1.child)
+puts_tidy m element Stay (PutMemo place memo room) h = absurd h
+puts_tidy m element (Take index) (PutMemo place memo room) h = absurd h
+puts_tidy m element (Swap index) (PutMemo place memo room) h = absurd h
+puts_tidy m element Stay (SwapMemo place memo) h = absurd h
+puts_tidy m element (Put index) (SwapMemo place memo) h = absurd h
+puts_tidy m element (Take index) (SwapMemo place memo) h = absurd h
 
 -- ---- the place of the child that was put in
 

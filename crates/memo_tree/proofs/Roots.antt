@@ -15,6 +15,7 @@ use Rattle.kept_results.specs.Contexts.{Suits}
 use Rattle.kept_results.specs.Ends.{kept_count, sealed, settled}
 use Rattle.kept_results.specs.Kept.{Agrees, HoldsOne, IsKept}
 use Rattle.kept_results.specs.Passes.{Needs, Passes}
+use Rattle.kept_results.specs.Tidy.{IsTidy}
 use Rattle.kept_results.specs.declared.memo.Memo.{Memo}
 use Rattle.kept_results.specs.declared.memo.Memo.TheViews.{out-Memo}
 use Rattle.kept_results.proofs.Sealing.{seal_law}
@@ -75,9 +76,9 @@ pub takes_missing : (m : MetricsValue) (node : Node) (context : Context) (before
     → Passes m node (Needs m node context) before after from to done → TakesMissing m node context before from to
 takes_missing m node context before after from to done h = record { pairs = h.pairs; steps = h.steps; needed = h.needed_all; missing = h.missing; apart = h.apart }
 
-pub passed_of : (m : MetricsValue) (tree : TreeValue) (memo : Memo) → Agrees m tree.root memo → IsKept (out-Memo memo) (context_of m tree)
+pub passed_of : (m : MetricsValue) (tree : TreeValue) (memo : Memo) → Agrees m tree.root memo → IsKept (out-Memo memo) (context_of m tree) → IsTidy memo
     → IsPassed record { tree = tree; metrics = m; memo = memo }
-passed_of m tree memo agrees kept = record { agrees = agrees; kept = record { entry = kept.entry; held = kept.has; in_context = kept.in_context } }
+passed_of m tree memo agrees kept tidy = record { agrees = agrees; kept = record { entry = kept.entry; held = kept.has; in_context = kept.in_context }; tidy = tidy }
 
 -- a pass that was done is sealed
 pub sealed_pass : (laid : MemoTreeValue) (memo : Memo) → IsPassed laid → memo ≡ sealed laid.memo → IsLaidOut record { tree = laid.tree; metrics = laid.metrics; memo = memo }

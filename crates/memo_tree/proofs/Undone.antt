@@ -4,6 +4,7 @@ use Rattle.math_tree.specs.declared.node.Node.{Node}
 use Rattle.embellished.specs.declared.facts.Facts.{Facts}
 use Rattle.kept_results.specs.Kept.{Holds}
 use Rattle.kept_results.specs.Laws.{is_unmarked}
+use Rattle.kept_results.specs.Tidy.{IsTidy}
 use Rattle.kept_results.specs.declared.memo.Memo.{Memo}
 use Rattle.kept_edits.specs.Changed.{FitsMemo, changed_memo, taken_from, undone_memo}
 use Rattle.kept_edits.specs.Known.{IsKnownOn}
@@ -12,10 +13,11 @@ use Rattle.kept_edits.specs.declared.change.MemoChange.{MemoChange}
 use Rattle.kept_edits.proofs.Backwards.{back_law}
 use Rattle.kept_edits.proofs.Changing.{change_law}
 use Rattle.kept_edits.proofs.Needing.{stays_law}
+use Rattle.kept_edits.proofs.Tidying.{changed_is_tidy}
 use Rattle.memo_tree.specs.Followed.{IsBefore, IsFollowed, IsOfWay}
 use Rattle.memo_tree.specs.Rooms.{HasRoom}
 use Rattle.memo_tree.specs.declared.way.Way.{Way}
-use Rattle.memo_tree.proofs.Followed.{fits_change, same_change}
+use Rattle.memo_tree.proofs.Followed.{fits_change, puts_tidy, same_change}
 use Rattle.memo_tree.proofs.Rooms.{back_fits}
 
 module _ (path : List ℕ) (memo now : Memo) (other back : MemoChange) (known : List Facts) (taken : Option Memo) (room : ℕ)
@@ -44,6 +46,8 @@ followed root memo now way before other back known taken room of_way k roomy is 
       ready = subst (IsReadyFor before.metrics root) (sym is)
           (subst (λ (n : Node). IsReadyFor before.metrics n (changed_memo other known way.path memo)) (sym before.gives)
           (change_law before.metrics before.old memo before.change other way.path known before.ready before.fits same (subst (KnownOn known way.path) before.gives k.on)));
+      tidy = subst IsTidy (sym is)
+          (changed_is_tidy other known way.path memo before.unmarked before.ready.plain fits (puts_tidy before.metrics of_way.element way.place other of_way.is));
       fits = undo_fits way.path memo now other back known taken room is took made fits roomy;
       gives = undone way.path memo now other back known taken room is took made fits before.unmarked;
       stays = λ from to entry came held.

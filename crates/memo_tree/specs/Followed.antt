@@ -6,6 +6,7 @@ use Rattle.tree_edits.specs.Paths.{FitsAt, changed, changed_at, children_of, nod
 use Rattle.tree_edits.specs.declared.change.Change.{Change}
 use Rattle.kept_results.specs.Kept.{Holds}
 use Rattle.kept_results.specs.Laws.{is_unmarked}
+use Rattle.kept_results.specs.Tidy.{IsTidy}
 use Rattle.kept_results.specs.declared.memo.Entry.{Entry}
 use Rattle.kept_results.specs.declared.memo.Memo.{Memo}
 use Rattle.kept_edits.specs.Blank.{blank}
@@ -73,10 +74,11 @@ IsOfPlace change place = ⊥
 
 -- ---- after
 
--- the memo agrees with the edited tree, there is a change that gives the memo before, and what is kept of elements
--- that the edit leaves alone stays kept
+-- the memo agrees with the edited tree and is tidy, there is a change that gives the memo before, and what is kept of
+-- elements that the edit leaves alone stays kept
 pub record IsFollowed (root : Node) (memo : Memo) (way : Way) (before : IsBefore root memo way) (now : Memo) (back : MemoChange) : Type 0 where
   pub ready : IsReadyFor before.metrics root now
+  pub tidy : IsTidy now
   pub fits : FitsMemo back way.path now
   pub gives : undone_memo back way.path now ≡ memo
   pub stays : (from to : List ℕ) (entry : Entry) → CameFrom way.path before.change from to → Holds from memo entry → Holds to now entry

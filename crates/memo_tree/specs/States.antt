@@ -1,6 +1,7 @@
 -- The states of a tree with its kept layouts, from one edit to the next.
 use Rattle.std.specs.Prelude.{[]}
 use Rattle.kept_results.specs.Kept.{Agrees, HoldsOne}
+use Rattle.kept_results.specs.Tidy.{IsTidy}
 use Rattle.kept_edits.specs.Laws.{IsReadyFor}
 use Rattle.memo_tree.specs.Trees.{IsLaidOut, MemoTreeValue, context_of}
 
@@ -14,14 +15,21 @@ pub data State : Type 0 where
   -- and what it made is settled: neither an edit nor a pass is under way
   Sealed : State
 
--- what is kept agrees with the tree, and the layout of the root is among it
+-- what is kept agrees with the tree, no pass is under way, and nothing is marked below an element that isn't
+pub record IsChanged (laid : MemoTreeValue) : Type 0 where
+  pub ready : IsReadyFor laid.metrics laid.tree.root laid.memo
+  pub tidy : IsTidy laid.memo
+
+-- what is kept agrees with the tree, the layout of the root is among it, and nothing is marked or new below an element
+-- that the edit and the pass left alone
 pub record IsPassed (laid : MemoTreeValue) : Type 0 where
   pub agrees : Agrees laid.metrics laid.tree.root laid.memo
   pub kept : HoldsOne [] laid.memo (context_of laid.metrics laid.tree)
+  pub tidy : IsTidy laid.memo
 
 -- in each state what is kept agrees with the tree and the metrics
 abbrev pub IsIn : State → MemoTreeValue → Type 0
-IsIn Changed laid = IsReadyFor laid.metrics laid.tree.root laid.memo
+IsIn Changed laid = IsChanged laid
 IsIn Stopped laid = Agrees laid.metrics laid.tree.root laid.memo
 IsIn Passed laid = IsPassed laid
 IsIn Sealed laid = IsLaidOut laid

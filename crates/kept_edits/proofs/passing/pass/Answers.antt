@@ -2,6 +2,9 @@ use Rattle.kept_edits.proofs.Ended.{accepted_law}
 use Rattle.kept_edits.proofs.passing.pass.Goals.{in-Ok, in-Err}
 use Rattle.kept_edits.proofs.passing.pass.Goals as goal
 
+pub seal-requires : goal.seal-requires
+seal-requires g c = record { tidy = (c.in-Ok.ensures {u = tt}).tidy c.requires.tidy }
+
 pub returns-clause-sealed : goal.returns-clause-sealed
 returns-clause-sealed g c =
     elim c.match-relay_element.branch [

@@ -1,8 +1,18 @@
-use Rattle.std.proofs.Common.{◌≡◌, ◌∙◌, ap, Bool, length, arith}
+use Rattle.std.proofs.Common.{◌≡◌, ◌∙◌, ◌<◌, sym, ap, Bool, length, arith}
 use Rattle.kept_results.specs.Ends.{sealed, settled_all}
-use Rattle.kept_results.specs.declared.memo.Memo.TheViews.{out-Memo}
-use Rattle.kept_results.proofs.Renewing.{renewed_more, sealed_end}
+use Rattle.kept_results.specs.declared.memo.Memo.TheViews.{out-Memo, size-Memo}
+use Rattle.kept_results.proofs.Renewing.{next_was, renewed_more, sealed_end, smaller}
+use Rattle.kept_results.proofs.Tidying.{calm_sealed, tidy_below}
 use Rattle.kept_results.proofs.ends.+seal.Goals as goal
+
+pub returns-then-is_calm : goal.returns-then-is_calm
+returns-then-is_calm t c = sym (calm_sealed c.args.memo.now c.requires.tidy (sym c.is_calm.ensures ∙ c.if-is_calm.true))
+
+pub seal-requires : goal.seal-requires
+seal-requires t c =
+    let was = next_was sealed c.args.memo.now c.loop-at.memo c.loop-at.at c.at_mut.result.now c.loop-at.invariant c.at_mut.ensures.value in
+    let falls : size-Memo c.at_mut.result.now < size-Memo c.args.memo.now = smaller c.args.memo.now c.loop-at.at c.at_mut.result.now was in
+    (omega arith, tidy_below c.args.memo.now c.requires.tidy c.loop-at.at c.at_mut.result.now was)
 
 pub loop-at-preserved : goal.loop-at-preserved
 loop-at-preserved t c =

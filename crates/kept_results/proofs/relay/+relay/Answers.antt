@@ -17,11 +17,13 @@ use Rattle.kept_results.specs.Contexts.{IsProper}
 use Rattle.kept_results.specs.Kept.{IsKept, IsMissing, NamesKept, is_marked}
 use Rattle.kept_results.specs.Looking.{HasAnswer}
 use Rattle.kept_results.specs.Passes.{AnswersNeed, Needs, Pair, Passes}
+use Rattle.kept_results.specs.Tidy.{IsTidy}
 use Rattle.kept_results.specs.declared.memo.Memo.{Memo}
 use Rattle.kept_results.specs.declared.memo.Memo.TheViews.{out-Memo}
 use Rattle.kept_results.proofs.Agreement.{agrees_child, has_added}
 use Rattle.kept_results.proofs.Lists.{all_then}
 use Rattle.kept_results.proofs.Passing.{fresh_live, pair_at, passes_added, passes_both, passes_none, passes_partly, passes_step, passes_under, under}
+use Rattle.kept_results.proofs.Tidying.{tidy_added, tidy_below, tidy_renewed}
 use Rattle.kept_results.proofs.Turns.{Waves, child_in_flow, facts_known, kept_answers, kept_fits, kept_more, missing_same, names_still, needed_below, ones_proper, own_entries, own_mark, pass_ones, pass_twos, sound_made, suits_child, told_more, twos_proper, waves_fit, waves_lay, waves_unfit}
 use Rattle.kept_results.proofs.relay.+relay.Goals as goal
 
@@ -46,6 +48,7 @@ relay_all-loop-asked-init g t c =
       own = refl;
       marked = refl;
       kept = tt;
+      tidy = λ h. h;
     }
 
 pub relay_all-at_mut-below-requires : goal.relay_all-at_mut-below-requires
@@ -161,11 +164,15 @@ relay_all-loop-asked-preserved g t c =
       own = own_entries c.loop-asked.memo c.place.result c.relay_element.new.memo ∙ c.loop-asked.invariant.own;
       marked = own_mark c.loop-asked.memo c.place.result c.relay_element.new.memo ∙ c.loop-asked.invariant.marked;
       kept = kept_more m node kid place items i q c.loop-asked-test.true c.asked-item.is to memo c.at_mut-below.result.now c.relay_element.new.memo c.at_mut-below.ensures.value made.passed.keeps c.loop-asked.invariant.kept made.kept;
+      tidy = λ h. tidy_renewed memo place c.at_mut-below.result.now c.relay_element.new.memo c.at_mut-below.ensures.value (c.loop-asked.invariant.tidy h) made.tidy;
     }
 
 pub relay_all-returns-clause-passes : goal.relay_all-returns-clause-passes
 relay_all-returns-clause-passes g t c =
     passes_partly c.args.metrics.now c.loop-asked.invariant.passes
+
+pub relay_all-returns-clause-tidy : goal.relay_all-returns-clause-tidy
+relay_all-returns-clause-tidy g t c = c.loop-asked.invariant.tidy
 
 -- ---- an answer that is kept
 
@@ -190,6 +197,9 @@ pub relay_element-returns-in-Some-clause-fit : goal.relay_element-returns-in-Som
 relay_element-returns-in-Some-clause-fit g t c =
     kept_fits c.args.metrics.now c.args.node.now c.args.memo.now c.args.context.now c.in-Some.answer c.requires.agrees
     (some_of c.in_ok-answer.field-0 c.in-Some.answer (HasAnswer (out-Memo c.args.memo.now) c.args.context.now) c.in-Some.is (c.in_ok-answer.ensures {u = tt}).some)
+
+pub relay_element-returns-in-Some-clause-tidy : goal.relay_element-returns-in-Some-clause-tidy
+relay_element-returns-in-Some-clause-tidy g t c = λ h. h
 
 -- ---- an element
 
@@ -426,6 +436,13 @@ relay_element-returns-clause-kept g t c =
     let live = fresh_live (is_marked (out-Memo c.relay_all-2.new.memo)) kept.entry kept.fresh in
     subst (λ (memo : Memo). IsKept (out-Memo memo) c.args.context.now) (sym kept.added)
     record { entry = kept.entry; has = has_added c.relay_all-2.new.memo kept.entry live; in_context = kept.in_context }
+
+pub relay_element-returns-clause-tidy : goal.relay_element-returns-clause-tidy
+relay_element-returns-clause-tidy g t c =
+    λ h.
+    let kept = (c.in_ok-keep.ensures {u = tt}).kept in
+    let ones = (c.in_ok-one.ensures {u = tt}).tidy (tidy_below c.args.memo.now h) in
+    subst IsTidy (sym kept.added) (tidy_added c.relay_all-2.new.memo kept.entry kept.fresh ((c.in_ok-two.ensures {u = tt}).tidy ones))
 
 pub relay_element-returns-clause-ok : goal.relay_element-returns-clause-ok
 relay_element-returns-clause-ok g t c =

@@ -8,6 +8,7 @@ use Rattle.layout_model.specs.declared.outcome.Answer.{Answer}
 use Rattle.layout_core.proofs.Waves.{all_fit}
 use Rattle.kept_results.specs.Kept.{NamesKept}
 use Rattle.kept_results.specs.Passes.{AnswersNeed, Passes}
+use Rattle.kept_results.specs.Tidy.{AreTidy}
 use Rattle.kept_results.specs.declared.memo.Memo.{Memo}
 use Rattle.kept_results.specs.declared.memo.Memo.TheViews.{out-Memo}
 use Rattle.kept_results.proofs.relay.+relay.Given as goal
@@ -20,6 +21,7 @@ pub record Answered (m : MetricsValue) (node : Node) (before memo : Memo) (asks 
   pub own : (out-Memo memo).entries ≡ (out-Memo before).entries
   pub marked : (out-Memo memo).former ≡ (out-Memo before).former
   pub kept : AllByRecursion (NamesKept node (out-Memo memo).below) (take index items)
+  pub tidy : AreTidy (out-Memo before).below → AreTidy (out-Memo memo).below
 
 abbrev pub invariant-relay_all-loop-asked : goal.invariant-relay_all-loop-asked
 invariant-relay_all-loop-asked g l = Answered l.metrics l.node l.fn.memo l.memo l.asks l.asked-items l.asked-index l.answers l.fn.steps l.steps

@@ -3,10 +3,12 @@ use Rattle.kept_results.specs.Ends.{kept_count, stripped}
 use Rattle.kept_results.specs.Kept.{Agrees, IsKept}
 use Rattle.kept_results.specs.Laws.{is_unmarked}
 use Rattle.kept_results.specs.Passes.{IsPairKept, Needs}
+use Rattle.kept_results.specs.Tidy.{IsTidy}
 use Rattle.kept_results.specs.declared.memo.Memo.{Memo}
 use Rattle.kept_results.specs.declared.memo.Memo.TheViews.{out-Memo}
 use Rattle.kept_results.proofs.Lists.{all_then}
 use Rattle.kept_results.proofs.Sealing.{seal_law}
+use Rattle.kept_edits.proofs.Tidying.{blank_tidy}
 use Rattle.kept_edits.proofs.Unlaid.{blank_law}
 use Rattle.kept_sweep.proofs.Starting.{kept_sealed}
 use Rattle.kept_sweep.proofs.Totals.{count_blank, count_sealed, kept_many}
@@ -15,6 +17,11 @@ use Rattle.kept_sweep.proofs.start.start_layout.Goals as goal
 pub relay_element-requires-clause-agrees : goal.relay_element-requires-clause-agrees
 relay_element-requires-clause-agrees g c =
     subst (Agrees c.args.metrics.now c.args.node.now) (sym (c.in_ok-memo.ensures {u = tt})) (blank_law c.args.metrics.now c.args.node.now).0.agrees
+
+pub seal-requires : goal.seal-requires
+seal-requires g c = record {
+  tidy = (c.in_ok-relay_element.ensures {u = tt}).tidy (subst IsTidy (sym (c.in_ok-memo.ensures {u = tt})) (blank_tidy c.args.metrics.now c.args.node.now));
+}
 
 pub sweep_layouts-requires-clause-agrees : goal.sweep_layouts-requires-clause-agrees
 sweep_layouts-requires-clause-agrees g c =

@@ -1,10 +1,12 @@
 use Rattle.std.proofs.Common.{◌∙◌, sym, ap, subst, arith}
 use Rattle.kept_results.specs.Ends.{kept_count}
 use Rattle.kept_results.specs.Kept.{Agrees, IsKept}
+use Rattle.kept_results.specs.Tidy.{IsTidy}
 use Rattle.kept_results.specs.declared.memo.Memo.{Memo}
 use Rattle.kept_results.specs.declared.memo.Memo.TheViews.{out-Memo}
 use Rattle.kept_sweep.specs.Flagged.{IsFlagged, cleared}
 use Rattle.kept_sweep.specs.Swept.{IsPartOf, KeepsNeeded}
+use Rattle.kept_sweep.proofs.Clearing.{marked_tidy}
 use Rattle.kept_sweep.proofs.Sweeping.{agrees_marked, cleared_before, swept, swept_part}
 use Rattle.kept_sweep.proofs.Totals.{count_cleared, count_sealed}
 use Rattle.kept_sweep.proofs.sweep.sweep_layouts.Goals as goal
@@ -20,6 +22,9 @@ flag_needed-requires-clause-whole c =
 pub flag_needed-requires-clause-kept : goal.flag_needed-requires-clause-kept
 flag_needed-requires-clause-kept c =
     subst (λ (memo : Memo). IsKept (out-Memo memo) c.args.context.now) (sym (ap cleared c.mark_all.ensures ∙ cleared_before c.args.memo.now c.requires.plain c.requires.unmarked)) c.requires.kept
+
+pub seal-requires : goal.seal-requires
+seal-requires c = record { tidy = c.flag_needed.ensures.tidy (subst IsTidy (sym c.mark_all.ensures) (marked_tidy c.args.memo.now)) }
 
 pub returns-clause-swept : goal.returns-clause-swept
 returns-clause-swept c =

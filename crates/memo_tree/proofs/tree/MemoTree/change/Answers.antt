@@ -2,7 +2,7 @@ use Rattle.std.proofs.Common.{sym, subst}
 use Rattle.memo_tree.specs.Counted.{MissingIsCounted}
 use Rattle.memo_tree.specs.Reversing.{ReversalValue, Reverses}
 use Rattle.memo_tree.specs.Trees.{IsLaidOut, MemoTreeValue}
-use Rattle.memo_tree.proofs.Changes.{before, counted, ready_now, reverses}
+use Rattle.memo_tree.proofs.Changes.{before, counted, changed_now, reverses}
 use Rattle.memo_tree.proofs.tree.MemoTree.change.Goals as goal
 
 pub returns-in-Ok-clause-changed : goal.returns-in-Ok-clause-changed
@@ -13,7 +13,7 @@ returns-in-Ok-clause-changed c =
     let way = c.in-Some.way in
     let is = c.in-Some.ensures done.accepted in
     let root = c.root.result.now in
-    ready_now old c.args.edit way c.apply.new.tree root laid is done.tree c.root.ensures.exact c.follow.new.memo c.in-Ok.back
+    changed_now old c.args.edit way c.apply.new.tree root laid is done.tree c.root.ensures.exact c.follow.new.memo c.in-Ok.back
     ((c.in-Ok.ensures {u = tt}).followed (before old c.args.edit way c.apply.new.tree root laid is done.tree c.root.ensures.exact))
 
 pub returns-in-Ok-clause-counted : goal.returns-in-Ok-clause-counted

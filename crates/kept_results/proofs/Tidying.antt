@@ -1,0 +1,198 @@
+-- Tidy memos: how they stay so, and that a calm one is sealed already.
+use Rattle.std.proofs.Common.{◌≡◌, ◌∙◌, inl, inr, refl, sym, ap, subst, ℕ, zero, suc, Bool, true, false, true≢false, cond, not, ◌&&◌, List, [], ◌∷◌, filter, length, map, set, Option, None, Some, slice_get, is_some}
+use Rattle.std.proofs.lemmas.Option.{none-some, same_Some, slice_get-map}
+use Rattle.std.specs.List.{list_all}
+use Rattle.std.specs.Option.{option_map}
+use Rattle.embellished.specs.declared.facts.Facts.{Facts}
+use Rattle.kept_results.specs.Ends.{not_fresh, sealed, settled, settled_all, stripped}
+use Rattle.kept_results.specs.Kept.{is_marked}
+use Rattle.kept_results.specs.Laws.{is_unmarked, unmarked_layer}
+use Rattle.kept_results.specs.Tidy.{AreTidy, StaysCalm, IsTidy, IsMemoAt, has_none_fresh, is_calm}
+use Rattle.kept_results.specs.declared.memo.Entry.{Entry}
+use Rattle.kept_results.specs.declared.memo.Memo.{Memo}
+use Rattle.kept_results.specs.declared.memo.Memo.TheFolds.{fold_out-Memo, ind-Memo}
+use Rattle.kept_results.specs.declared.memo.Memo.TheOpen.{Memo-F}
+use Rattle.kept_results.specs.declared.memo.Memo.TheViews.{out-Memo, out-roll-Memo, roll-Memo, roll-out-Memo}
+use Rattle.kept_results.proofs.Agreement.{added, renewed}
+use Rattle.kept_results.proofs.Counts.{sealed_out, stripped_out}
+use Rattle.kept_results.proofs.Lists.{pushed, set_cases}
+
+-- ---- two tests
+
+first_holds : (a b : Bool) → (a && b) ≡ true → a ≡ true
+first_holds true b h = refl
+first_holds false b h = h
+
+second_holds : (a b : Bool) → (a && b) ≡ true → b ≡ true
+second_holds true b h = h
+second_holds false b h = absurd (true≢false (sym h))
+
+both_hold : (a b : Bool) → a ≡ true → b ≡ true → (a && b) ≡ true
+both_hold a b h k = ap (λ (x : Bool). x && b) h ∙ k
+
+not_true : (b : Bool) → not b ≡ true → b ≡ false
+not_true true h = sym h
+not_true false h = refl
+
+-- ---- a layer
+
+calm_mark : (layer : Memo-F Memo) → is_calm layer ≡ true → is_marked layer ≡ false
+calm_mark layer h = not_true (is_marked layer) (first_holds (not (is_marked layer)) (has_none_fresh layer.entries) h)
+
+calm_entries : (layer : Memo-F Memo) → is_calm layer ≡ true → has_none_fresh layer.entries ≡ true
+calm_entries layer h = second_holds (not (is_marked layer)) (has_none_fresh layer.entries) h
+
+not_fresh_at : (entries : List Entry) (place : ℕ) (entry : Entry) → has_none_fresh entries ≡ true → slice_get entries place ≡ Some entry → entry.fresh ≡ false
+not_fresh_at [] place entry h at = absurd (none-some entry at)
+not_fresh_at (x ∷ entries) zero entry h at =
+    ap (λ (e : Entry). e.fresh) (sym (same_Some x entry at)) ∙ not_true x.fresh (first_holds (not x.fresh) (has_none_fresh entries) h)
+not_fresh_at (x ∷ entries) (suc place) entry h at = not_fresh_at entries place entry (second_holds (not x.fresh) (has_none_fresh entries) h) at
+
+-- an element with a fresh entry isn't calm
+pub fresh_calms : (layer : Memo-F Memo) (place : ℕ) (entry : Entry) → slice_get layer.entries place ≡ Some entry → entry.fresh ≡ true → StaysCalm layer
+fresh_calms layer place entry at fresh calm = absurd (true≢false (sym fresh ∙ not_fresh_at layer.entries place entry (calm_entries layer calm) at))
+
+-- a marked one isn't
+pub mark_calms : (layer : Memo-F Memo) → is_marked layer ≡ true → StaysCalm layer
+mark_calms layer mark calm = absurd (true≢false (sym mark ∙ calm_mark layer calm))
+
+-- ---- memos made of others
+
+pub tidy_below : (memo : Memo) → IsTidy memo → AreTidy (out-Memo memo).below
+tidy_below memo h place below at = record { at = λ path kept s. h.at (place ∷ path) kept (below, at, s) }
+
+tidy_at : (path : List ℕ) (layer : Memo-F Memo) → StaysCalm layer → AreTidy layer.below → (kept : Memo) → IsMemoAt path (roll-Memo layer) kept → StaysCalm (out-Memo kept)
+tidy_at [] layer own below kept s = subst (λ (z : Memo). StaysCalm (out-Memo z)) (sym s) (subst StaysCalm (sym (out-roll-Memo layer)) own)
+tidy_at (place ∷ path) layer own below kept s =
+    (below place s.0 (ap (λ (l : Memo-F Memo). slice_get l.below place) (sym (out-roll-Memo layer)) ∙ s.1)).at path kept s.2
+
+pub tidy_made : (layer : Memo-F Memo) → StaysCalm layer → AreTidy layer.below → IsTidy (roll-Memo layer)
+tidy_made layer own below = record { at = λ path. tidy_at path layer own below }
+
+pub tidy_set : (memos : List Memo) (place : ℕ) (new : Memo) → AreTidy memos → IsTidy new → AreTidy (set memos place new)
+tidy_set memos place new h k j memo at = elim (set_cases memos place j new memo at) [ inl p ↦ subst IsTidy (sym p.1) k | inr q ↦ h j memo q ]
+
+-- one memo below is renewed
+pub tidy_renewed : (memo : Memo) (place : ℕ) (old new : Memo) → slice_get (out-Memo memo).below place ≡ Some old → AreTidy (out-Memo memo).below → (IsTidy old → IsTidy new)
+    → AreTidy (out-Memo (roll-Memo (renewed memo place new))).below
+tidy_renewed memo place old new at h f =
+    subst (λ (l : Memo-F Memo). AreTidy l.below) (sym (out-roll-Memo (renewed memo place new))) (tidy_set (out-Memo memo).below place new h (f (h place old at)))
+
+-- one fresh entry more
+pub tidy_added : (memo : Memo) (more : Entry) → more.fresh ≡ true → AreTidy (out-Memo memo).below → IsTidy (roll-Memo (added memo more))
+tidy_added memo more fresh h =
+    tidy_made (added memo more) (fresh_calms (added memo more) (length (out-Memo memo).entries) more (pushed (out-Memo memo).entries more) fresh) h
+
+-- ---- a calm memo is sealed already
+
+settled_same : (entry : Entry) → entry.fresh ≡ false → settled entry ≡ entry
+settled_same entry h = λ i. record {
+  context = entry.context;
+  outcome = entry.outcome;
+  ones = entry.ones;
+  twos = entry.twos;
+  fresh = sym h i;
+}
+
+settled_none : (entries : List Entry) → has_none_fresh entries ≡ true → settled_all false entries ≡ entries
+settled_none [] h = refl
+settled_none (x ∷ entries) h =
+    ap (λ (e : Entry). e ∷ settled_all false entries) (settled_same x (not_true x.fresh (first_holds (not x.fresh) (has_none_fresh entries) h)))
+    ∙ ap (λ (l : List Entry). x ∷ l) (settled_none entries (second_holds (not x.fresh) (has_none_fresh entries) h))
+
+former_none : (former : Option Facts) → is_some former ≡ false → None ≡ former
+former_none None h = refl
+former_none (Some facts) h = absurd (true≢false h)
+
+abbrev IsSealedCalm : Memo → Type 0
+IsSealedCalm memo = IsTidy memo → is_calm (out-Memo memo) ≡ true → sealed memo ≡ memo
+
+all_sealed : (ys : List ((memo : Memo) × IsSealedCalm memo)) → AreTidy (map (λ y. y.0) ys)
+    → ((place : ℕ) (below : Memo) → slice_get (map (λ y. y.0) ys) place ≡ Some below → is_calm (out-Memo below) ≡ true)
+    → map sealed (map (λ y. y.0) ys) ≡ map (λ y. y.0) ys
+all_sealed [] h k = refl
+all_sealed (y ∷ ys) h k =
+    ap (λ (z : Memo). z ∷ map sealed (map (λ y. y.0) ys)) (y.1 (h 0 y.0 refl) (k 0 y.0 refl))
+    ∙ ap (λ (l : List Memo). y.0 ∷ l) (all_sealed ys (λ n. h (suc n)) (λ n. k (suc n)))
+
+pub calm_sealed : (memo : Memo) → IsTidy memo → is_calm (out-Memo memo) ≡ true → sealed memo ≡ memo
+calm_sealed = ind-Memo IsSealedCalm (λ x y is tidy calm.
+    let memo = roll-Memo x in
+    let layer : Memo-F Memo = out-Memo memo in
+    let below : layer.below ≡ map (λ e. e.0) y.below = ap (λ (l : Memo-F Memo). l.below) (out-roll-Memo x ∙ sym is) in
+    let children : AreTidy (map (λ e. e.0) y.below) = subst AreTidy below (tidy_below memo tidy) in
+    let calms : (place : ℕ) (kept : Memo) → slice_get (map (λ e. e.0) y.below) place ≡ Some kept → is_calm (out-Memo kept) ≡ true =
+    λ place kept at. tidy.at [] memo refl calm place kept (ap (λ (l : List Memo). slice_get l place) below ∙ at) in
+    let same : map sealed layer.below ≡ layer.below = ap (map sealed) below ∙ all_sealed y.below children calms ∙ sym below in
+    let mark = calm_mark layer calm in
+    let entries : settled_all (is_marked layer) layer.entries ≡ layer.entries =
+    ap (λ (b : Bool). settled_all b layer.entries) mark ∙ settled_none layer.entries (calm_entries layer calm) in
+    sealed_out memo
+    ∙ (λ i. roll-Memo record {
+      former = former_none layer.former mark i;
+      facts = layer.facts;
+      entries = entries i;
+      below = same i;
+    }) ∙ roll-out-Memo memo)
+
+-- ---- a memo without marks and flags is tidy
+
+passed_all : {X : Type 0} (test : X → Bool) (xs : List X) → list_all test (filter test xs) ≡ true
+passed_all test [] = refl
+passed_all {X} test (x ∷ xs) = by (passed_all test xs) (test x) refl
+  where
+    by : list_all test (filter test xs) ≡ true → (b : Bool) → test x ≡ b → list_all test (cond b (x ∷ filter test xs) (filter test xs)) ≡ true
+    by rest true e = both_hold (test x) (list_all test (filter test xs)) e rest
+    by rest false e = rest
+
+-- an unmarked element without fresh entries, and so are all below it
+pub record IsClean (memo : Memo) : Type 0 where
+  pub unmarked : is_unmarked memo ≡ true
+  pub plain : stripped memo ≡ memo
+
+abbrev stripped_layers : Memo → Memo-F Memo
+stripped_layers memo = record {
+  former = (out-Memo memo).former;
+  facts = (out-Memo memo).facts;
+  entries = not_fresh (out-Memo memo).entries;
+  below = map stripped (out-Memo memo).below;
+}
+
+plain_parts : (memo : Memo) → stripped memo ≡ memo → stripped_layers memo ≡ out-Memo memo
+plain_parts memo h = sym (out-roll-Memo (stripped_layers memo)) ∙ ap out-Memo (sym (stripped_out memo) ∙ h)
+
+unmarked_parts : (memo : Memo) → is_unmarked memo ≡ true → (not (is_marked (out-Memo memo)) && list_all (λ b. b) (map is_unmarked (out-Memo memo).below)) ≡ true
+unmarked_parts memo h = sym (fold_out-Memo Bool unmarked_layer memo) ∙ h
+
+each_holds : (tests : List Bool) (place : ℕ) (b : Bool) → list_all (λ b. b) tests ≡ true → slice_get tests place ≡ Some b → b ≡ true
+each_holds [] place b h at = absurd (none-some b at)
+each_holds (x ∷ tests) zero b h at = sym (same_Some x b at) ∙ first_holds x (list_all (λ b. b) tests) h
+each_holds (x ∷ tests) (suc place) b h at = each_holds tests place b (second_holds x (list_all (λ b. b) tests) h) at
+
+clean_calm : (memo : Memo) → IsClean memo → is_calm (out-Memo memo) ≡ true
+clean_calm memo h =
+    let layer : Memo-F Memo = out-Memo memo in
+    let entries : not_fresh layer.entries ≡ layer.entries = ap (λ (l : Memo-F Memo). l.entries) (plain_parts memo h.plain) in
+    both_hold (not (is_marked layer)) (has_none_fresh layer.entries)
+    (first_holds (not (is_marked layer)) (list_all (λ b. b) (map is_unmarked layer.below)) (unmarked_parts memo h.unmarked))
+    (ap has_none_fresh (sym entries) ∙ passed_all (λ entry. not entry.fresh) layer.entries)
+
+clean_below : (memo : Memo) → IsClean memo → (place : ℕ) (below : Memo) → slice_get (out-Memo memo).below place ≡ Some below → IsClean below
+clean_below memo h place below at =
+    let memos : List Memo = (out-Memo memo).below in
+    let tests = second_holds (not (is_marked (out-Memo memo))) (list_all (λ b. b) (map is_unmarked memos)) (unmarked_parts memo h.unmarked) in
+    record {
+      unmarked = each_holds (map is_unmarked memos) place (is_unmarked below) tests (slice_get-map is_unmarked memos place ∙ ap (option_map is_unmarked) at);
+      plain = same_Some (stripped below) below
+          (sym (slice_get-map stripped memos place ∙ ap (option_map stripped) at)
+          ∙ ap (λ (l : Memo-F Memo). slice_get l.below place) (plain_parts memo h.plain) ∙ at);
+    }
+
+clean_at : (path : List ℕ) (memo kept : Memo) → IsClean memo → IsMemoAt path memo kept → IsClean kept
+clean_at [] memo kept h s = subst IsClean (sym s) h
+clean_at (place ∷ path) memo kept h s = clean_at path s.0 kept (clean_below memo h place s.0 s.1) s.2
+
+pub clean_tidy : (memo : Memo) → is_unmarked memo ≡ true → stripped memo ≡ memo → IsTidy memo
+clean_tidy memo unmarked plain = record {
+  at = λ path kept s _ place below at. clean_calm below (clean_below kept (clean_at path memo kept record { unmarked = unmarked; plain = plain } s) place below at);
+}

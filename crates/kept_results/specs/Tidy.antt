@@ -1,0 +1,32 @@
+-- Where the end of a pass may stop: what the edit and the pass left alone.
+use Rattle.std.specs.Prelude.{◌≡◌, ℕ, Bool, true, not, ◌&&◌, List, [], ◌∷◌, Some, slice_get}
+use Rattle.std.specs.List.{list_all}
+use Rattle.kept_results.specs.Kept.{is_marked}
+use Rattle.kept_results.specs.declared.memo.Entry.{Entry}
+use Rattle.kept_results.specs.declared.memo.Memo.{Memo}
+use Rattle.kept_results.specs.declared.memo.Memo.TheOpen.{Memo-F}
+use Rattle.kept_results.specs.declared.memo.Memo.TheViews.{out-Memo}
+
+abbrev pub has_none_fresh : List Entry → Bool
+has_none_fresh entries = list_all (λ entry. not entry.fresh) entries
+
+-- the edit and the pass left an element alone: it is unmarked, and none of its own entries is fresh
+abbrev pub is_calm : {X : Type 0} → Memo-F X → Bool
+is_calm layer = not (is_marked layer) && has_none_fresh layer.entries
+
+-- where an element is calm, so are its children
+abbrev pub StaysCalm : Memo-F Memo → Type 0
+StaysCalm layer = is_calm layer ≡ true → (place : ℕ) (below : Memo) → slice_get layer.below place ≡ Some below → is_calm (out-Memo below) ≡ true
+
+-- an element's memo, by the places of children down to it
+abbrev pub IsMemoAt : List ℕ → Memo → Memo → Type 0
+IsMemoAt [] memo kept = kept ≡ memo
+IsMemoAt (place ∷ path) memo kept = (below : Memo) × (slice_get (out-Memo memo).below place ≡ Some below) × IsMemoAt path below kept
+
+-- this holds of each element: so nothing below a calm element is marked or fresh
+pub record IsTidy (memo : Memo) : Type 0 where
+  pub at : (path : List ℕ) (kept : Memo) → IsMemoAt path memo kept → StaysCalm (out-Memo kept)
+
+-- each of these memos is tidy
+abbrev pub AreTidy : List Memo → Type 0
+AreTidy memos = (place : ℕ) (memo : Memo) → slice_get memos place ≡ Some memo → IsTidy memo
