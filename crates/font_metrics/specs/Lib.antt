@@ -2,10 +2,11 @@ pub mod Faults
 pub mod Words
 pub mod Constants
 pub mod Metrics
-pub mod Taken
+pub mod Ranges
 pub mod Fields
 pub mod Texts
 pub mod Tables
+pub mod Taken
 pub mod Lines
 pub mod Reading
 pub mod Reads

@@ -11,7 +11,7 @@ use Rattle.font_metrics.specs.declared.table.Tables.{Tables}
 use Rattle.font_metrics.specs.Faults.{Step}
 use Rattle.font_metrics.specs.Fields.{Words, variant_in, part_in}
 use Rattle.font_metrics.specs.Metrics.{NamedGlyph, MetricsValue, ByGlyph, along, with_along, with_item, name_in_list}
-use Rattle.font_metrics.specs.Taken.{IsTable, IsVariant, IsPart, most_variants, most_parts}
+use Rattle.font_metrics.specs.Ranges.{IsTable, IsVariant, IsPart, most_variants, most_parts}
 use Rattle.font_metrics.specs.Texts.{extender_text, variant_keyword, part_keyword}
 
 -- a table: how many entries a glyph may have, which they are where there are so many glyphs, their

@@ -15,7 +15,15 @@ pub enum Table {
     Parts(Axis),
 }
 
-/// All tables by glyph.
+/// Each table, in the order in which a glyph's lines are printed.
+pub const TABLES: [Table; 4] = [
+    Table::Variants(Axis::Block),
+    Table::Variants(Axis::Inline),
+    Table::Parts(Axis::Block),
+    Table::Parts(Axis::Inline),
+];
+
+/// What all tables by glyph have.
 #[derive(Drop)]
 pub struct Tables {
     pub variants: ByAxis<Variant>,

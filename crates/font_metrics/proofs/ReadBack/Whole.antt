@@ -1,15 +1,13 @@
 -- Reading the print of metrics gives the same metrics.
 use Rattle.std.proofs.Common.{◌≡◌, ◌∙◌, ap, sym, refl, ℕ, ◌≤◌, ◌+◌, true, List, [], ◌∷◌, ◌++◌, length, map, flat_map, codes, Option, Some, None, IfSome, IsSome, Ok, arith, zero-add}
 use Rattle.std.specs.List.{join_with_byte, range_with_len}
-use Rattle.op_dictionary.specs.declared.operator.Axis.TheVariants.{Block, Inline}
 use Rattle.font_metrics.specs.declared.given.Given.{Given}
-use Rattle.font_metrics.specs.declared.table.Table.TheVariants.{Variants, Parts}
 use Rattle.font_metrics.specs.Faults.{step_map}
 use Rattle.font_metrics.specs.Lines.{Words}
 use Rattle.font_metrics.specs.Metrics.{MetricsValue, place_of_name}
 use Rattle.font_metrics.specs.Print.{version_words, upem_words, line_words, x_height_words, overlap_lines, constant_words, glyph_words, character_words, growth_lines, operator_words, line_text, print_of, PrintReadsBack}
 use Rattle.font_metrics.specs.Reading.{lines_of, nothing, is_foreign, words_of, after, after_first, kept, given_from, given_by, fault_or, first_fault_behind, needed_of, metrics_with, finished, numbered, metrics_or, metrics_of}
-use Rattle.font_metrics.specs.Tables.{no_tables, tables_of, AreFilled}
+use Rattle.font_metrics.specs.Tables.{no_tables, tables_of}
 use Rattle.font_metrics.specs.Taken.{IsTaken}
 use Rattle.font_metrics.proofs.Forward.{given_from-push}
 use Rattle.font_metrics.proofs.ReadBack.Feeds.{are_words, lines-printed}
@@ -101,18 +99,12 @@ overlap-follows given (Some least) h =
 are-named : (m : MetricsValue) → IsTaken m → AreNamed m.glyphs
 are-named m h = record { distinct = h.names; names = λ place low. (h.glyphs place _ low).name }
 
-are-filled : (m : MetricsValue) → IsTaken m → AreFilled (length m.glyphs) (tables_of m)
-are-filled m h (Variants Block) = h.variants.0
-are-filled m h (Variants Inline) = h.variants.1
-are-filled m h (Parts Block) = h.parts.0
-are-filled m h (Parts Inline) = h.parts.1
-
 growth-none : (given : Given) (m : MetricsValue) → grown given m no_tables ≡ grown_to given m 0
 growth-none given m = ap (grown given m) (sym (tables-below-zero (tables_of m)))
 
 growth-all : (given : Given) (m : MetricsValue) → IsTaken m
     → grown_to given m (length m.glyphs) ≡ grown given m (tables_of m)
-growth-all given m h = ap (grown given m) (tables-below-all (length m.glyphs) (tables_of m) (are-filled m h))
+growth-all given m h = ap (grown given m) (tables-below-all (length m.glyphs) (tables_of m) h.tables)
 
 growth-follows : (given : Given) (m : MetricsValue) → IsTaken m
     → Follows (grown given m no_tables)
@@ -120,7 +112,7 @@ growth-follows : (given : Given) (m : MetricsValue) → IsTaken m
     (grown given m (tables_of m))
 growth-follows given m h =
     let count = length m.glyphs in
-    let grows = grows-from given m 0 count (are-named m h) (are-filled m h) (omega arith) in
+    let grows = grows-from given m 0 count (are-named m h) h.tables (omega arith) in
     rw (growth-none given m)
     (follows-to (grown_to given m 0) (grown_to given m (0 + count)) _ _
     (ap (grown_to given m) (zero-add count) ∙ growth-all given m h) grows)
