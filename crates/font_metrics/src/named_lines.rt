@@ -116,7 +116,7 @@ fn part_with(
 }
 
 /// The place of a glyph that a line before has named.
-fn named(glyphs: &GlyphTable, word: &[u8]) -> Result<u16, LineFault>
+pub fn named(glyphs: &GlyphTable, word: &[u8]) -> Result<u16, LineFault>
     requires { length glyphs.now ≤ 65535 }
     ensures { result ≡ named_in glyphs.now word.now }
 {
