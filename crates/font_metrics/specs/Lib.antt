@@ -5,6 +5,7 @@ pub mod Metrics
 pub mod Ranges
 pub mod Fields
 pub mod Texts
+pub mod Slot
 pub mod Tables
 pub mod Taken
 pub mod Lines
