@@ -49,7 +49,7 @@ impl<T: Copy> ByAxis<T> {
         }
     }
 
-    /// Adds an item to those of the glyph at a place, which may have so many. Where memory is
+    /// Adds an item to those of the glyph at a place, of which there may be `most`. Where memory is
     /// refused, nothing is known of the tables.
     pub fn take(
         &mut self,
