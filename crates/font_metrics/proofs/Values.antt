@@ -16,19 +16,19 @@ use Rattle.font_metrics.specs.declared.table.Table.{Table}
 use Rattle.font_metrics.specs.declared.table.Table.TheVariants.{Variants, Parts}
 use Rattle.font_metrics.specs.Constants.{place_of_constant, is_scale_down}
 use Rattle.font_metrics.specs.Metrics.{MetricsValue, given_constant, or_default, percent_of, IsPercent, IsScaleDown, items_of, variants_of, parts_of}
-use Rattle.font_metrics.specs.Tables.{slot, entries, tables_of}
+use Rattle.font_metrics.specs.Tables.{slot, entries}
 use Rattle.font_metrics.specs.Taken.{IsTaken, IsReach, IsVariant, IsPart, IsConstant}
 use Rattle.font_metrics.proofs.Ordered.{all_items, few_items}
 
 -- what a glyph has in a table
 module _ (m : MetricsValue) (place : ℕ) (h : IsTaken m) where
-  pub entries_in : (t : Table) → All ((slot t).Is (length m.glyphs)) (items_of (entries t (tables_of m)) place)
+  pub entries_in : (t : Table) → All ((slot t).Is (length m.glyphs)) (items_of (entries t m.tables) place)
   entries_in t =
-      all_items ((slot t).Is (length m.glyphs)) (length m.glyphs) (slot t).most (entries t (tables_of m)) place (h.tables t).entries
+      all_items ((slot t).Is (length m.glyphs)) (length m.glyphs) (slot t).most (entries t m.tables) place (h.tables t).entries
 
-  pub entries_few : (t : Table) → length (items_of (entries t (tables_of m)) place) ≤ (slot t).most
+  pub entries_few : (t : Table) → length (items_of (entries t m.tables) place) ≤ (slot t).most
   entries_few t =
-      few_items ((slot t).Is (length m.glyphs)) (length m.glyphs) (slot t).most (entries t (tables_of m)) place (h.tables t).entries
+      few_items ((slot t).Is (length m.glyphs)) (length m.glyphs) (slot t).most (entries t m.tables) place (h.tables t).entries
 
 pub variants_in : (m : MetricsValue) (place : ℕ) (axis : Axis) → IsTaken m
     → All (IsVariant (length m.glyphs)) (variants_of m place axis)

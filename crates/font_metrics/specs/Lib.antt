@@ -1,6 +1,7 @@
 pub mod Faults
 pub mod Words
 pub mod Constants
+pub mod Listed
 pub mod Metrics
 pub mod Ranges
 pub mod Fields

@@ -219,8 +219,7 @@ metrics_with needs given = record {
   constants = given.constants;
   glyphs = given.glyphs;
   characters = given.characters;
-  variants = given.tables.variants;
-  parts = given.tables.parts;
+  tables = given.tables;
   operators = given.operators;
 }
 

@@ -9,7 +9,7 @@ use Rattle.font_metrics.specs.declared.table.Table.{Table}
 use Rattle.font_metrics.specs.declared.table.Table.TheVariants.{Variants, Parts}
 use Rattle.font_metrics.specs.declared.table.Tables.{Tables}
 use Rattle.font_metrics.specs.Fields.{variant_in, part_in}
-use Rattle.font_metrics.specs.Metrics.{MetricsValue, ByGlyph, along, with_along, with_item, name_in_list}
+use Rattle.font_metrics.specs.Metrics.{ByGlyph, along, with_along, with_item, name_in_list}
 use Rattle.font_metrics.specs.Ranges.{IsTable, IsVariant, IsPart, most_variants, most_parts}
 use Rattle.font_metrics.specs.Slot.{Slot}
 use Rattle.font_metrics.specs.Texts.{extender_text, variant_keyword, part_keyword}
@@ -63,10 +63,6 @@ with_entry t tables place x = (slot t).put tables (with_item (entries t tables) 
 -- before any line
 abbrev pub no_tables : Tables
 no_tables = record { variants = ([], []); parts = ([], []) }
-
--- the tables of metrics
-abbrev pub tables_of : MetricsValue → Tables
-tables_of m = record { variants = m.variants; parts = m.parts }
 
 -- tables of so many glyphs
 abbrev pub AreFilled : ℕ → Tables → Type 0

@@ -7,7 +7,7 @@ use Rattle.std.specs.Ordering.{nat_cmp}
 use Rattle.std.specs.Str.{bytes_eq}
 use Rattle.op_dictionary.specs.Dictionary.{AreDistinct}
 use Rattle.font_metrics.specs.Metrics.{MetricsValue, place_of_name}
-use Rattle.font_metrics.specs.Tables.{tables_of, AreFilled}
+use Rattle.font_metrics.specs.Tables.{AreFilled}
 pub use Rattle.font_metrics.specs.Ranges.{most_glyphs, most_variants, most_parts, IsLength, IsReach, IsInDesign, IsMeasured, IsGlyph, IsConstant, IsCharacter, IsVariant, IsPart, IsEntry, IsTable, IsOperatorText, names_of}
 
 -- Every number is in its range, every place is that of a glyph, and what may be given once is.
@@ -26,6 +26,6 @@ pub record IsTaken (m : MetricsValue) : Type 0 where
   pub missing : IsSome (place_of_name m.glyphs (codes "missing"))
   pub characters : All (IsCharacter (length m.glyphs)) m.characters
   pub characters_ordered : IsStrictlySortedBy nat_cmp (keys_of m.characters)
-  pub tables : AreFilled (length m.glyphs) (tables_of m)
+  pub tables : AreFilled (length m.glyphs) m.tables
   pub operators : All (λ line. IsOperatorText line.text) m.operators
   pub operators_distinct : AreDistinct m.operators

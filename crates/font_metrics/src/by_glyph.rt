@@ -20,7 +20,7 @@ pub struct ByGlyph<T> {
 impl<T> Model for ByGlyph<T> {
     ghost use Rattle.std.specs.Prelude.{List, ℕ};
     ghost use Rattle.std.specs.Coded.{coded_list, coded×, coded_ℕ};
-    ghost use Rattle.font_metrics.specs.Kept.{lists_of_entries};
+    ghost use Rattle.font_metrics.specs.Listed.{lists_of_entries};
 
     ghost Value = { List (ℕ × List T) };
 

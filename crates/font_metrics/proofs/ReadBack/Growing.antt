@@ -8,7 +8,7 @@ use Rattle.font_metrics.specs.declared.table.Tables.{Tables}
 use Rattle.font_metrics.specs.Metrics.{MetricsValue, ByGlyph, items_of, with_item}
 use Rattle.font_metrics.specs.Print.{entry_words, table_lines, growth_lines}
 use Rattle.font_metrics.specs.declared.given.Given.{Given}
-use Rattle.font_metrics.specs.Tables.{EntryOf, slot, entries, no_tables, all_tables, tables_of, AreFilled}
+use Rattle.font_metrics.specs.Tables.{EntryOf, slot, entries, no_tables, all_tables, AreFilled}
 use Rattle.font_metrics.specs.Taken.{IsEntry, IsTable}
 use Rattle.font_metrics.proofs.ReadBack.Fields.{AreNamed}
 use Rattle.font_metrics.proofs.ReadBack.Following.{Follows, follows-append, follows-to, items-follow}
@@ -89,18 +89,18 @@ tables-below-all count tables h =
     (λ t. table-all count (slot t).most ((slot t).Is count) (entries t tables) (h t))
 
 abbrev pub grown_to : Given → MetricsValue → ℕ → Given
-grown_to given m place = grown given m (tables-below place (tables_of m))
+grown_to given m place = grown given m (tables-below place m.tables)
 
 -- the lines of a place in a table take it to the next place, and leave the others
 table-grows : (given : Given) (m : MetricsValue) (t : Table) (place : ℕ) (tables : Tables) → AreNamed m.glyphs
-    → AreFilled (length m.glyphs) (tables_of m) → place < length m.glyphs
-    → Follows (grown given m ((slot t).put tables (below place (entries t (tables_of m)))))
+    → AreFilled (length m.glyphs) m.tables → place < length m.glyphs
+    → Follows (grown given m ((slot t).put tables (below place (entries t m.tables))))
     (table_lines m place t)
-    (grown given m ((slot t).put tables (below (place + 1) (entries t (tables_of m)))))
+    (grown given m ((slot t).put tables (below (place + 1) (entries t m.tables))))
 table-grows given m t place tables n h low =
     let count = length m.glyphs in
     at-place (λ table. grown given m ((slot t).put tables table)) (entry_words t m.glyphs place) count (slot t).most
-    ((slot t).Is count) (entries t (tables_of m)) place (h t)
+    ((slot t).Is count) (entries t m.tables) place (h t)
     (λ had x is room.
     let given' = grown given m ((slot t).put tables had) in
     takes-to given' (entry_words t m.glyphs place x) _ _ (ap (grown given m) ((kind t).stands.entry-at-put tables had place x))
@@ -109,14 +109,14 @@ table-grows given m t place tables n h low =
 
 -- the lines of a place in these tables in turn take them to the next place
 tables-grow : (given : Given) (m : MetricsValue) (place : ℕ) (ts : List Table) (tables : Tables) → AreNamed m.glyphs
-    → AreFilled (length m.glyphs) (tables_of m) → place < length m.glyphs → are_distinct ts ≡ true
-    → AreAt ts (λ t. below place (entries t (tables_of m))) tables
+    → AreFilled (length m.glyphs) m.tables → place < length m.glyphs → are_distinct ts ≡ true
+    → AreAt ts (λ t. below place (entries t m.tables)) tables
     → Follows (grown given m tables) (flat_map (table_lines m place) ts)
-    (grown given m (put_each ts (λ t. below (place + 1) (entries t (tables_of m))) tables))
+    (grown given m (put_each ts (λ t. below (place + 1) (entries t m.tables)) tables))
 tables-grow given m place [] tables n h low distinct at = refl
 tables-grow given m place (t ∷ ts) tables n h low distinct at =
-    let next = λ (t : Table). below (place + 1) (entries t (tables_of m)) in
-    let now = λ (t : Table). below place (entries t (tables_of m)) in
+    let next = λ (t : Table). below (place + 1) (entries t m.tables) in
+    let now = λ (t : Table). below place (entries t m.tables) in
     let one = (slot t).put tables (next t) in
     let p = and_parts (are_other t ts) (are_distinct ts) distinct in
     let same : (slot t).put tables (now t) ≡ tables =
@@ -129,15 +129,15 @@ tables-grow given m place (t ∷ ts) tables n h low distinct at =
 
 -- the lines of a place take all tables to the next place
 grows-at : (given : Given) (m : MetricsValue) (place : ℕ) → AreNamed m.glyphs
-    → AreFilled (length m.glyphs) (tables_of m) → place < length m.glyphs
+    → AreFilled (length m.glyphs) m.tables → place < length m.glyphs
     → Follows (grown_to given m place) (growth_lines m place) (grown_to given m (place + 1))
 grows-at given m place n h low =
-    let now = λ (t : Table). below place (entries t (tables_of m)) in
-    tables-grow given m place all_tables (tables-below place (tables_of m)) n h low all-distinct
+    let now = λ (t : Table). below place (entries t m.tables) in
+    tables-grow given m place all_tables (tables-below place m.tables) n h low all-distinct
     (put_each-at all_tables now no_tables all-distinct)
 
 pub grows-from : (given : Given) (m : MetricsValue) (from count : ℕ) → AreNamed m.glyphs
-    → AreFilled (length m.glyphs) (tables_of m) → from + count ≤ length m.glyphs
+    → AreFilled (length m.glyphs) m.tables → from + count ≤ length m.glyphs
     → Follows (grown_to given m from) (flat_map (growth_lines m) (range_with_len from count))
     (grown_to given m (from + count))
 grows-from given m from zero n h few = ap (grown_to given m) (sym (add-zero from))
