@@ -5,6 +5,7 @@ use Rattle.std.specs.Fmt.{digits}
 use Rattle.fixed_units.specs.declared.boxes.MathBox.{MathBox}
 use Rattle.op_dictionary.specs.declared.operator.Axis.TheVariants.{Block, Inline}
 use Rattle.font_metrics.specs.Metrics.{MetricsValue, NamedGlyph, name_at}
+use Rattle.font_metrics.specs.Tables.{no_tables}
 use Rattle.font_metrics.specs.declared.glyph.GlyphId.{GlyphId}
 use Rattle.font_metrics.specs.declared.mark.Mark.TheVariants.{Glyph, Rule, Built}
 use Rattle.box_writer.specs.Items.{moved}
@@ -32,8 +33,7 @@ font = record {
   constants = [];
   glyphs = glyph_named (codes "one") ∷ glyph_named (codes "parenleft") ∷ [];
   characters = [];
-  variants = ([], []);
-  parts = ([], []);
+  tables = no_tables;
   operators = [];
 }
 

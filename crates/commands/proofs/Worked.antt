@@ -10,6 +10,7 @@ use Rattle.font_metrics.specs.Words.{value_of_digits, numeral_of, number_of, num
 use Rattle.font_metrics.specs.Lines.{keyword_of}
 use Rattle.font_metrics.specs.Reading.{words_of, is_foreign, after, after_first, finished, metrics_of}
 use Rattle.font_metrics.specs.Metrics.{MetricsValue, NamedGlyph}
+use Rattle.font_metrics.specs.Tables.{no_tables}
 use Rattle.math_tree.proofs.OnLiterals.{math_tree_on_literals}
 use Rattle.math_tree.specs.Trees.{TreeValue}
 use Rattle.math_tree.specs.declared.kind.Kind.{Kind}
@@ -76,8 +77,7 @@ font = record {
   constants = [];
   glyphs = glyph_named (codes "missing") 600 ∷ glyph_named (codes "one") 680 ∷ [];
   characters = (0x31, 1) ∷ [];
-  variants = ([], []);
-  parts = ([], []);
+  tables = no_tables;
   operators = [];
 }
 

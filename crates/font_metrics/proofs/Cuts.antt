@@ -95,7 +95,7 @@ next_line (b ∷ bs) i h =
 
 -- the most fields of a kind of line
 abbrev pub most_fields : ℕ
-most_fields = 6
+most_fields = 36
 
 refused : Keyword → Step Item
 refused Unknown = Err UnknownWord

@@ -14,7 +14,7 @@ use Rattle.font_metrics.specs.Laws.{upem_said, line_said, x_height_said, glyph_s
 use Rattle.font_metrics.specs.Lines.{Words, Item, keyword_of, item_in}
 use Rattle.font_metrics.specs.Metrics.{NamedGlyph, MetricsValue, place_of_name, items_of}
 use Rattle.font_metrics.specs.Reading.{Fault, fault_at, nothing, allowed, put, is_foreign, is_comment, first_in, words_of, after_words, after, after_first, needed_of, needed, metrics_with, finished, numbered, lines_of, metrics_of}
-use Rattle.font_metrics.specs.Tables.{entries, tables_of}
+use Rattle.font_metrics.specs.Tables.{entries}
 use Rattle.font_metrics.specs.Taken.{IsTaken}
 use Rattle.font_metrics.specs.Whole.{IsGiven}
 use Rattle.font_metrics.proofs.Cuts.{is_feed, last_line, next_line}
@@ -135,7 +135,7 @@ ended number (Ok n) m h = ap (λ m. Ok m) (same_metrics n m h)
 ended number (Err fault) m h = no_metrics (fault_at number fault) m h
 
 tables-said : (n : Needed) (g : Given) (t : Table) (place : ℕ)
-    → items_of (entries t (tables_of (metrics_with n g))) place ≡ items_of (entries t g.tables) place
+    → items_of (entries t (metrics_with n g).tables) place ≡ items_of (entries t g.tables) place
 tables-said n g t place = refl
 
 are_said : (items : List Item) (g : Given) (n : Needed) → IsSaid items g → needed g ≡ Ok n

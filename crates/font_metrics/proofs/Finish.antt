@@ -6,8 +6,6 @@ use Rattle.font_metrics.specs.declared.fault.LineFault.TheVariants.{NoUpem, NoLi
 use Rattle.font_metrics.specs.declared.given.Given.{Given}
 use Rattle.font_metrics.specs.declared.given.Needed.{Needed}
 use Rattle.font_metrics.specs.declared.metrics.Metrics.TheInside.{Inside}
-use Rattle.font_metrics.specs.declared.table.Table.TheVariants.{Variants, Parts}
-use Rattle.op_dictionary.specs.declared.operator.Axis.TheVariants.{Block, Inline}
 use Rattle.font_metrics.specs.Faults.{Step, step_map, or_fault}
 use Rattle.font_metrics.specs.Metrics.{MetricsValue, place_of_name}
 use Rattle.font_metrics.specs.Reading.{needed, metrics_with, finished}
@@ -60,8 +58,7 @@ taken_of g n h e =
       missing = subst IsSome (sym there.missing) refl;
       characters = h.characters.ranges;
       characters_ordered = h.characters.ordered;
-      variants = (h.tables (Variants Block), h.tables (Variants Inline));
-      parts = (h.tables (Parts Block), h.tables (Parts Inline));
+      tables = h.tables;
       operators = h.operators.texts;
       operators_distinct = h.operators.distinct;
     }

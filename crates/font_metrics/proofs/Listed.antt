@@ -11,7 +11,7 @@ use Rattle.std.specs.List.Sorted.{IsStrictlySortedBy}
 use Rattle.std.specs.Map.{keys_of, lookup, set_value}
 use Rattle.std.specs.Option.{option_map, unwrap_or}
 use Rattle.std.specs.Ordering.{nat_cmp, is_eq, match_ordering}
-use Rattle.font_metrics.specs.Kept.{lists_of_entries}
+use Rattle.font_metrics.specs.Listed.{lists_of_entries}
 use Rattle.font_metrics.specs.Metrics.{ByGlyph, items_of, with_item}
 
 -- the test of a map of numbers is equality

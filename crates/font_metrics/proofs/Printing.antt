@@ -6,11 +6,9 @@ use Rattle.std.specs.List.{range_with_len, join_with_byte}
 use Rattle.std.proofs.lemmas.List.{map_push}
 use Rattle.std.proofs.lemmas.List.Elements.{All-head, All-same}
 use Rattle.std.proofs.lemmas.List.Concat.{flat_map-append}
-use Rattle.op_dictionary.specs.declared.operator.Axis.TheVariants.{Block, Inline}
-use Rattle.font_metrics.specs.declared.table.Table.TheVariants.{Variants, Parts}
 use Rattle.font_metrics.specs.Lines.{Words}
 use Rattle.font_metrics.specs.Metrics.{MetricsValue}
-use Rattle.font_metrics.specs.Print.{constant_words, accent_words, accent_text, measures_words, glyph_words, character_words, table_lines, growth_lines, operator_words, header_lines, line_text, print_of}
+use Rattle.font_metrics.specs.Print.{constant_words, accent_words, accent_text, measures_words, glyph_words, character_words, growth_lines, operator_words, header_lines, line_text, print_of}
 
 -- the bytes of lines
 abbrev texts : List Words → List ℕ
@@ -50,21 +48,25 @@ range-more from (suc count) =
     ap (λ more. from ∷ more)
     (range-more (from + 1) count ∙ ap (λ n. range_with_len (from + 1) count ++ n ∷ []) same)
 
--- the places before are printed: one place more, by its four lists in turn
-pub growth-more : (m : MetricsValue) (place : ℕ) (old now one two three four : List ℕ)
+-- the lines of the front are printed: those of one item more
+pub lines-more : {X : Type 0} (lines : X → List Words) (xs : List X) (i : ℕ) (x : X) (old now new : List ℕ)
+    → slice_get xs i ≡ Some x → now ≡ old ++ texts (flat_map lines (take i xs)) → new ≡ now ++ texts (lines x)
+    → new ≡ old ++ texts (flat_map lines (take (i + 1) xs))
+lines-more lines xs i x old now new at h k =
+    let front : take (i + 1) xs ≡ take i xs ++ x ∷ [] = rw add-one (take-more xs i x at) in
+    rw (front, flat_map-append, append-nil (lines x), flat_map-append)
+    (k ∙ ap (λ t. t ++ texts (lines x)) h ∙ append_assoc old (texts (flat_map lines (take i xs))) (texts (lines x)))
+
+-- the places before are printed: one place more
+pub growth-more : (m : MetricsValue) (place : ℕ) (old now new : List ℕ)
     → now ≡ old ++ texts (flat_map (growth_lines m) (range_with_len 0 place))
-    → one ≡ now ++ texts (table_lines m place (Variants Block))
-    → two ≡ one ++ texts (table_lines m place (Variants Inline))
-    → three ≡ two ++ texts (table_lines m place (Parts Block))
-    → four ≡ three ++ texts (table_lines m place (Parts Inline))
-    → four ≡ old ++ texts (flat_map (growth_lines m) (range_with_len 0 (place + 1)))
-growth-more m place old now one two three four h a b c d =
+    → new ≡ now ++ texts (growth_lines m place)
+    → new ≡ old ++ texts (flat_map (growth_lines m) (range_with_len 0 (place + 1)))
+growth-more m place old now new h k =
     let range : range_with_len 0 (place + 1) ≡ range_with_len 0 place ++ place ∷ [] =
     rw add-one (range-more 0 place ∙ ap (λ n. range_with_len 0 place ++ n ∷ []) (zero-add place)) in
-    let joined : four ≡ now ++ texts (growth_lines m place) =
-    simp (flat_map-append, append-nil) (rw (d, c, b, a) (simp append_assoc)) in
     rw (range, flat_map-append, append-nil (growth_lines m place), flat_map-append)
-    (joined ∙ ap (λ t. t ++ texts (growth_lines m place)) h
+    (k ∙ ap (λ t. t ++ texts (growth_lines m place)) h
     ∙ append_assoc old (texts (flat_map (growth_lines m) (range_with_len 0 place))) (texts (growth_lines m place)))
 
 texts-six : (a b c d e f : List Words)

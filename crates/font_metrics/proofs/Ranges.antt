@@ -16,7 +16,7 @@ use Rattle.font_metrics.specs.Tables.{slot, entries, AreFilled}
 use Rattle.font_metrics.specs.Taken.{IsGlyph, IsConstant, IsCharacter, IsTable, IsOperatorText}
 use Rattle.font_metrics.specs.Whole.{IsUpem, IsLine, IsGiven, AreConstants, AreGlyphs, AreCharacters, AreOperators}
 use Rattle.font_metrics.proofs.TableKinds.Each.{kind}
-use Rattle.font_metrics.proofs.Slots.{stands, put-filled}
+use Rattle.font_metrics.proofs.Slots.{put-filled}
 use Rattle.font_metrics.proofs.Steps.{same_Ok, no_value, had, free, mapped}
 use Rattle.font_metrics.proofs.EachKind.{upem_range, line_range, one_length_range, constant_range, glyph_range, character_range, operator_range}
 use Rattle.font_metrics.proofs.Ordered.{ordered-insert, all-insert, table-item, table-wider, glyphs-push, operators-push}
@@ -195,7 +195,7 @@ nothing_given = record {
   constants = record { ranges = All-nil IsConstant; ordered = tt };
   glyphs = record { count = omega arith; ranges = All-nil IsGlyph; names = tt };
   characters = record { ranges = All-nil (IsCharacter 0); ordered = tt };
-  tables = λ t. subst (IsTable 0 (slot t).most ((slot t).Is 0)) (sym (stands t).none) (record { ordered = tt; entries = All-nil _ });
+  tables = λ t. subst (IsTable 0 (slot t).most ((slot t).Is 0)) (sym (kind t).stands.none) (record { ordered = tt; entries = All-nil _ });
   operators = record { texts = All-nil _; distinct = tt };
 }
 

@@ -6,39 +6,47 @@ use Rattle.std.proofs.lemmas.Map.Views.{IfSome-lookup}
 use Rattle.std.specs.List.{All}
 use Rattle.std.specs.Option.{unwrap_or, IfSome}
 use Rattle.op_dictionary.specs.declared.operator.Axis.{Axis}
-use Rattle.op_dictionary.specs.declared.operator.Axis.TheVariants.{Block, Inline}
 use Rattle.fixed_units.specs.Numbers.{IsWithin}
 use Rattle.std.specs.Ordering.{int_eq}
 use Rattle.fixed_units.proofs.Signed.{signed}
 use Rattle.fixed_units.proofs.Within.{natural_in, widened}
 use Rattle.font_metrics.specs.declared.constants.ConstName.{ConstName}
 use Rattle.font_metrics.specs.declared.constants.ConstName.TheVariants.{ScriptPercentScaleDown, ScriptScriptPercentScaleDown}
+use Rattle.font_metrics.specs.declared.table.Table.{Table}
+use Rattle.font_metrics.specs.declared.table.Table.TheVariants.{Variants, Parts}
 use Rattle.font_metrics.specs.Constants.{place_of_constant, is_scale_down}
-use Rattle.font_metrics.specs.Metrics.{MetricsValue, given_constant, or_default, percent_of, IsPercent, IsScaleDown, variants_of, parts_of}
-use Rattle.font_metrics.specs.Taken.{IsTaken, IsReach, IsVariant, IsPart, IsConstant, most_variants, most_parts}
+use Rattle.font_metrics.specs.Metrics.{MetricsValue, given_constant, or_default, percent_of, IsPercent, IsScaleDown, items_of, variants_of, parts_of}
+use Rattle.font_metrics.specs.Tables.{slot, entries}
+use Rattle.font_metrics.specs.Taken.{IsTaken, IsReach, IsVariant, IsPart, IsConstant}
 use Rattle.font_metrics.proofs.Ordered.{all_items, few_items}
+
+-- what a glyph has in a table
+module _ (m : MetricsValue) (place : ℕ) (h : IsTaken m) where
+  pub entries_in : (t : Table) → All ((slot t).Is (length m.glyphs)) (items_of (entries t m.tables) place)
+  entries_in t =
+      all_items ((slot t).Is (length m.glyphs)) (length m.glyphs) (slot t).most (entries t m.tables) place (h.tables t).entries
+
+  pub entries_few : (t : Table) → length (items_of (entries t m.tables) place) ≤ (slot t).most
+  entries_few t =
+      few_items ((slot t).Is (length m.glyphs)) (length m.glyphs) (slot t).most (entries t m.tables) place (h.tables t).entries
 
 pub variants_in : (m : MetricsValue) (place : ℕ) (axis : Axis) → IsTaken m
     → All (IsVariant (length m.glyphs)) (variants_of m place axis)
 unfolding variants_of
-variants_in m place Block h = all_items (IsVariant (length m.glyphs)) (length m.glyphs) most_variants m.variants.0 place h.variants.0.entries
-variants_in m place Inline h = all_items (IsVariant (length m.glyphs)) (length m.glyphs) most_variants m.variants.1 place h.variants.1.entries
+variants_in m place axis h = entries_in m place h (Variants axis)
 
 pub variants_few : (m : MetricsValue) (place : ℕ) (axis : Axis) → IsTaken m → length (variants_of m place axis) ≤ 64
 unfolding variants_of
-variants_few m place Block h = few_items (IsVariant (length m.glyphs)) (length m.glyphs) most_variants m.variants.0 place h.variants.0.entries
-variants_few m place Inline h = few_items (IsVariant (length m.glyphs)) (length m.glyphs) most_variants m.variants.1 place h.variants.1.entries
+variants_few m place axis h = entries_few m place h (Variants axis)
 
 pub parts_in : (m : MetricsValue) (place : ℕ) (axis : Axis) → IsTaken m
     → All (IsPart (length m.glyphs)) (parts_of m place axis)
 unfolding parts_of
-parts_in m place Block h = all_items (IsPart (length m.glyphs)) (length m.glyphs) most_parts m.parts.0 place h.parts.0.entries
-parts_in m place Inline h = all_items (IsPart (length m.glyphs)) (length m.glyphs) most_parts m.parts.1 place h.parts.1.entries
+parts_in m place axis h = entries_in m place h (Parts axis)
 
 pub parts_few : (m : MetricsValue) (place : ℕ) (axis : Axis) → IsTaken m → length (parts_of m place axis) ≤ 16
 unfolding parts_of
-parts_few m place Block h = few_items (IsPart (length m.glyphs)) (length m.glyphs) most_parts m.parts.0 place h.parts.0.entries
-parts_few m place Inline h = few_items (IsPart (length m.glyphs)) (length m.glyphs) most_parts m.parts.1 place h.parts.1.entries
+parts_few m place axis h = entries_few m place h (Parts axis)
 
 -- ---- constants
 

@@ -5,6 +5,7 @@ use Rattle.font_metrics.specs.Words.{value_of_digits, numeral_of, number_of, num
 use Rattle.font_metrics.specs.Constants.{place_of_text}
 use Rattle.font_metrics.specs.Lines.{keyword_of}
 use Rattle.font_metrics.specs.Metrics.{MetricsValue}
+use Rattle.font_metrics.specs.Tables.{no_tables}
 use Rattle.font_metrics.specs.Reading.{fault_at, words_of, is_foreign, after, after_first, finished, metrics_of}
 
 -- metrics that say little: each file here says more
@@ -18,8 +19,7 @@ bare = record {
   constants = [];
   glyphs = [];
   characters = [];
-  variants = ([], []);
-  parts = ([], []);
+  tables = no_tables;
   operators = [];
 }
 

@@ -2,6 +2,7 @@
 use Rattle.std.proofs.Common.{◌≡◌, refl, ℕ, ℤ, pos, negsuc, List, [], ◌∷◌, codes, None}
 use Rattle.fixed_units.specs.Numbers.{rounded}
 use Rattle.font_metrics.specs.Metrics.{MetricsValue, NamedGlyph, missing_place, place_of_letter, glyph_at, name_at, variants_of, scale_of, constant_of, percent_of, overlap_of, line_ascent_of, ex_of}
+use Rattle.font_metrics.specs.Tables.{no_tables}
 use Rattle.font_metrics.specs.declared.constants.ConstName.TheVariants.{ScriptPercentScaleDown, ScriptScriptPercentScaleDown, RadicalDegreeBottomRaisePercent, MathLeading, AxisHeight, RadicalKernAfterDegree}
 use Rattle.font_metrics.specs.declared.growth.Variant.{Variant}
 use Rattle.op_dictionary.specs.declared.operator.Axis.TheVariants.{Block, Inline}
@@ -22,7 +23,7 @@ small = record bare {
   constants = (0, pos 0) ∷ (5, pos 256) ∷ (54, negsuc 599) ∷ [];
   glyphs = named (codes "missing") (pos 500) ∷ named (codes "one") (pos 512) ∷ [];
   characters = (0x31, 1) ∷ [];
-  variants = ((1, measured 0 (pos 9) ∷ measured 1 (pos 3) ∷ []) ∷ [], []);
+  tables = record no_tables { variants = ((1, measured 0 (pos 9) ∷ measured 1 (pos 3) ∷ []) ∷ [], []) };
 }
 
 -- ---- lengths

@@ -7,6 +7,7 @@ use Rattle.op_dictionary.specs.declared.operator.Form.TheVariants.{Infix, Postfi
 use Rattle.op_dictionary.specs.declared.text.OpText.TheVariants.{One, Two}
 use Rattle.font_metrics.specs.declared.glyph.Glyph.{Glyph}
 use Rattle.font_metrics.specs.Metrics.{MetricsValue}
+use Rattle.font_metrics.specs.Tables.{no_tables}
 use Rattle.font_metrics.proofs.Worked.{bare}
 use Rattle.font_metrics.specs.Print.{print_of, line_text, printed_lines}
 
@@ -33,8 +34,10 @@ rich = record small {
   constants = (0, pos 0) ∷ (5, negsuc 255) ∷ [];
   glyphs = small.glyphs ++ record { name = codes "bar.v"; glyph = glyph_of (pos 0) } ∷ [];
   characters = (0x7C, 1) ∷ (0x1D400, 0) ∷ [];
-  variants = ((1, record { glyph = record { 0 = 0 }; measure = pos 900 } ∷ []) ∷ [], (0, record { glyph = record { 0 = 1 }; measure = pos 9 } ∷ []) ∷ (1, record { glyph = record { 0 = 1 }; measure = pos 0 } ∷ []) ∷ []);
-  parts = ((1, record { glyph = record { 0 = 1 }; extender = true; start = pos 1; end = pos 2; full = pos 3 } ∷ record { glyph = record { 0 = 0 }; extender = false; start = pos 4; end = pos 5; full = pos 6 } ∷ []) ∷ [], []);
+  tables = record no_tables {
+    variants = ((1, record { glyph = record { 0 = 0 }; measure = pos 900 } ∷ []) ∷ [], (0, record { glyph = record { 0 = 1 }; measure = pos 9 } ∷ []) ∷ (1, record { glyph = record { 0 = 1 }; measure = pos 0 } ∷ []) ∷ []);
+    parts = ((1, record { glyph = record { 0 = 1 }; extender = true; start = pos 1; end = pos 2; full = pos 3 } ∷ record { glyph = record { 0 = 0 }; extender = false; start = pos 4; end = pos 5; full = pos 6 } ∷ []) ∷ [], []);
+  };
   operators = record { text = Two 0x3D 0x338; form = Infix; category = B; axis = Block } ∷ record { text = One 0x27F6; form = Postfix; category = Default; axis = Inline } ∷ [];
 }
 

@@ -1,5 +1,5 @@
 -- What the maps of a reader stand for.
-use Rattle.std.specs.Prelude.{ℕ, pos, List, map, String, string_bytes, Vec}
+use Rattle.std.specs.Prelude.{ℕ, pos, List, map, String, string_bytes}
 use Rattle.std.specs.declared.alloc.Global.{Global}
 use Rattle.font_metrics.specs.declared.glyph.Glyph.{Glyph}
 use Rattle.font_metrics.specs.declared.glyph.Measures.{Measures}
@@ -21,7 +21,3 @@ named_glyph name m = record { name = name; glyph = glyph_of_measures m }
 -- the entries of the map of glyphs, in order
 abbrev pub named_glyphs : List (String Global × Measures) → List NamedGlyph
 named_glyphs entries = map (λ e. named_glyph (string_bytes e.0) e.1) entries
-
--- the entries of a map of lists, in order
-abbrev pub lists_of_entries : {X : Type 0} → List (ℕ × Vec X Global) → List (ℕ × List X)
-lists_of_entries entries = map (λ e. (e.0, e.1.items)) entries

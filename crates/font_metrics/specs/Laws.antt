@@ -15,7 +15,7 @@ use Rattle.font_metrics.specs.Lines.{Words, Item, SaysUpem, SaysLine, SaysXHeigh
 use Rattle.font_metrics.specs.Metrics.{NamedGlyph, MetricsValue, place_of_name, place_of_code, items_of}
 use Rattle.font_metrics.specs.Print.{constant_text}
 use Rattle.font_metrics.specs.Reading.{Fault, is_foreign, is_comment, first_in, words_of, lines_of, metrics_of}
-use Rattle.font_metrics.specs.Tables.{slot, EntryOf, entries, tables_of}
+use Rattle.font_metrics.specs.Tables.{slot, EntryOf, entries}
 use Rattle.font_metrics.specs.Taken.{IsTaken, most_glyphs}
 
 -- ---- what items say of one matter, in file order
@@ -145,7 +145,7 @@ pub record AreSaid (items : List Item) (m : MetricsValue) : Type 0 where
   pub constants : (place : ℕ) → listed (lookup (nat_eq place) m.constants) ≡ said (constant_said place) items
   pub glyphs : m.glyphs ≡ said glyph_said items
   pub characters : (code : ℕ) → listed (place_of_code m.characters code) ≡ said (character_said code) items
-  pub tables : (t : Table) (place : ℕ) → items_of (entries t (tables_of m)) place ≡ said (entry_said t place) items
+  pub tables : (t : Table) (place : ℕ) → items_of (entries t m.tables) place ≡ said (entry_said t place) items
   pub operators : m.operators ≡ said operator_said items
 
 -- a file that gives metrics has no faulty line, and they are what its lines say

@@ -1,11 +1,14 @@
 pub mod Faults
 pub mod Words
 pub mod Constants
+pub mod Listed
 pub mod Metrics
-pub mod Taken
+pub mod Ranges
 pub mod Fields
 pub mod Texts
+pub mod Slot
 pub mod Tables
+pub mod Taken
 pub mod Lines
 pub mod Reading
 pub mod Reads

@@ -1,17 +1,24 @@
 -- What a line of a metrics file says: by its first word, and then by its fields from left to right.
-use Rattle.std.specs.Prelude.{ℕ, ℤ, if◌then◌else◌, List, codes, Err}
+use Rattle.std.specs.Prelude.{ℕ, ℤ, if◌then◌else◌, List, codes, Option, Some, None, Err}
+use Rattle.std.specs.List.{find}
 use Rattle.std.specs.Str.{bytes_eq}
 use Rattle.op_dictionary.specs.declared.extra.OperatorLine.{OperatorLine}
-use Rattle.op_dictionary.specs.declared.operator.Axis.TheVariants.{Block, Inline}
 use Rattle.font_metrics.specs.declared.fault.LineFault.TheVariants.{UnknownWord}
 use Rattle.font_metrics.specs.declared.keyword.Keyword.{Keyword}
 use Rattle.font_metrics.specs.declared.keyword.Keyword.TheVariants.{Upem, Line, XHeight, Overlap, Constant, Glyph, Char, Table as TableOf, Operator, Unknown}
 use Rattle.font_metrics.specs.declared.table.Table.{Table}
-use Rattle.font_metrics.specs.declared.table.Table.TheVariants.{Variants, Parts}
 use Rattle.font_metrics.specs.Faults.{Step, step_map}
 use Rattle.font_metrics.specs.Metrics.{NamedGlyph}
-use Rattle.font_metrics.specs.Tables.{EntryOf, slot}
+use Rattle.font_metrics.specs.Tables.{EntryOf, slot, all_tables}
 pub use Rattle.font_metrics.specs.Fields.{Words, lent, lent_if, length_in, reach_in, reach_if_given, named_in, upem_in, line_with, line_in, one_length_in, constant_with, constant_in, glyph_with, glyph_in, character_with, character_in, variant_with, variant_in, part_with, based_on, part_in, operator_with, operator_in}
+
+-- the table whose lines have this first word
+abbrev pub table_of : List ℕ → Option Table
+table_of word = find (λ t. bytes_eq word (slot t).keyword) all_tables
+
+abbrev pub table_or_unknown : Option Table → Keyword
+table_or_unknown None = Unknown
+table_or_unknown (Some t) = TableOf t
 
 -- what the first word of a line says of the fields behind it; words are compared exactly
 unfoldable pub keyword_of : List ℕ → Keyword
@@ -23,12 +30,8 @@ keyword_of word =
     else if bytes_eq word (codes "const") then Constant
     else if bytes_eq word (codes "glyph") then Glyph
     else if bytes_eq word (codes "char") then Char
-    else if bytes_eq word (codes "vvariant") then TableOf (Variants Block)
-    else if bytes_eq word (codes "hvariant") then TableOf (Variants Inline)
-    else if bytes_eq word (codes "vassembly") then TableOf (Parts Block)
-    else if bytes_eq word (codes "hassembly") then TableOf (Parts Inline)
     else if bytes_eq word (codes "operator") then Operator
-    else Unknown
+    else table_or_unknown (table_of word)
 
 -- ---- what a line says
 

@@ -13,6 +13,7 @@ use Rattle.font_metrics.specs.declared.constants.ConstName.TheVariants.{ScriptPe
 use Rattle.font_metrics.specs.declared.glyph.Glyph.{Glyph}
 use Rattle.font_metrics.specs.declared.growth.Variant.{Variant}
 use Rattle.font_metrics.specs.declared.growth.Part.{Part}
+use Rattle.font_metrics.specs.declared.table.Tables.{Tables}
 use Rattle.font_metrics.specs.Constants.{place_of_constant}
 
 -- a glyph with the name that the file gives it
@@ -49,8 +50,7 @@ pub record MetricsValue : Type 0 where
   pub constants : List (ℕ × ℤ)
   pub glyphs : List NamedGlyph
   pub characters : List (ℕ × ℕ)
-  pub variants : ByAxis Variant
-  pub parts : ByAxis Part
+  pub tables : Tables
   pub operators : List OperatorLine
 
 -- ---- what is looked up
@@ -107,11 +107,11 @@ name_at m place = name_in_list m.glyphs place
 
 -- the variants of a glyph along an axis, in file order
 unfoldable pub variants_of : MetricsValue → ℕ → Axis → List Variant
-variants_of m place axis = items_of (along axis m.variants) place
+variants_of m place axis = items_of (along axis m.tables.variants) place
 
 -- the parts of a glyph's assembly along an axis, in file order
 unfoldable pub parts_of : MetricsValue → ℕ → Axis → List Part
-parts_of m place axis = items_of (along axis m.parts) place
+parts_of m place axis = items_of (along axis m.tables.parts) place
 
 -- ---- values at a font size
 

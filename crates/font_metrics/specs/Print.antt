@@ -8,7 +8,7 @@ use Rattle.font_metrics.specs.declared.table.Table.{Table}
 use Rattle.font_metrics.specs.Lines.{Words}
 use Rattle.font_metrics.specs.Metrics.{NamedGlyph, MetricsValue, name_in_list, items_of}
 use Rattle.font_metrics.specs.Reading.{metrics_of}
-use Rattle.font_metrics.specs.Tables.{EntryOf, slot, entries, tables_of, all_tables}
+use Rattle.font_metrics.specs.Tables.{EntryOf, slot, entries, all_tables}
 use Rattle.font_metrics.specs.Taken.{IsTaken}
 pub use Rattle.font_metrics.specs.Texts.{code_text, operator_text, constant_text, extender_text, form_text, category_text, axis_text, variant_keyword, part_keyword}
 
@@ -66,7 +66,7 @@ entry_words t glyphs place x = (slot t).keyword ∷ name_in_list glyphs place �
 -- the lines of what the glyph at a place has in a table, in file order
 abbrev pub table_lines : MetricsValue → ℕ → Table → List Words
 table_lines m place t =
-    map (entry_words t m.glyphs place) (items_of (entries t (tables_of m)) place)
+    map (entry_words t m.glyphs place) (items_of (entries t m.tables) place)
 
 -- the lines of what the glyph at a place grows by
 abbrev pub growth_lines : MetricsValue → ℕ → List Words

@@ -6,6 +6,7 @@ use Rattle.std.specs.BTreeMap.{insert_entry}
 use Rattle.std.specs.Ordering.{nat_cmp}
 use Rattle.std.specs.Str.{bytes_eq}
 use Rattle.std.specs.Str.Lines.{lines}
+use Rattle.op_dictionary.specs.declared.operator.Axis.{Axis}
 use Rattle.op_dictionary.specs.Dictionary.{is_named}
 use Rattle.font_metrics.specs.declared.fault.LineFault.{LineFault}
 use Rattle.font_metrics.specs.declared.fault.LineFault.TheVariants.{ForeignByte, WrongFirstLine, Repeated, TooMany, NoUpem, NoLine, NoXHeight, NoMissing}
@@ -14,7 +15,7 @@ use Rattle.font_metrics.specs.declared.given.Needed.{Needed}
 use Rattle.font_metrics.specs.declared.keyword.Keyword.{Keyword}
 use Rattle.font_metrics.specs.Faults.{Step, ◌>>=◌, step_map, or_fault, fault_if}
 use Rattle.font_metrics.specs.Lines.{Words, Item, SaysUpem, SaysLine, SaysXHeight, SaysOverlap, SaysConstant, SaysGlyph, SaysCharacter, SaysEntry, SaysOperator, keyword_of, item_in}
-use Rattle.font_metrics.specs.Metrics.{MetricsValue, is_full, place_of_name}
+use Rattle.font_metrics.specs.Metrics.{MetricsValue, ByGlyph, ByAxis, along, with_item, with_item_along, is_full, place_of_name}
 use Rattle.font_metrics.specs.Tables.{slot, entries, with_entry, no_tables}
 use Rattle.font_metrics.specs.Taken.{most_glyphs}
 
@@ -101,6 +102,18 @@ put given (SaysCharacter c) =
     record given { characters = insert_entry nat_cmp given.characters c.0 c.1 }
 put given (SaysEntry t x) = record given { tables = with_entry t given.tables x.0 x.1 }
 put given (SaysOperator line) = record given { operators = given.operators ++ line ∷ [] }
+
+-- a table with one more entry of a glyph, or that the glyph has as many as it may have
+abbrev pub taken_into : {X : Type 0} → ℕ → ByGlyph X → ℕ → X → Step (ByGlyph X)
+taken_into most table place item = do
+  free ← fault_if (is_full most table place) TooMany
+  Ok (with_item table place item)
+
+-- tables along each axis with one more entry of a glyph
+abbrev pub taken_along : {X : Type 0} → Axis → ℕ → ByAxis X → ℕ → X → Step (ByAxis X)
+taken_along axis most tables place item = do
+  free ← fault_if (is_full most (along axis tables) place) TooMany
+  Ok (with_item_along axis tables place item)
 
 -- what is given after the fields of a line: what they say, whether it may follow, and then with it
 abbrev pub after_fields : Given → Keyword → Words → Step Given
@@ -206,8 +219,7 @@ metrics_with needs given = record {
   constants = given.constants;
   glyphs = given.glyphs;
   characters = given.characters;
-  variants = given.tables.variants;
-  parts = given.tables.parts;
+  tables = given.tables;
   operators = given.operators;
 }
 

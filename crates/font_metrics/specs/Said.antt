@@ -1,11 +1,17 @@
--- What the reader makes of a line, and what the line says.
+-- What the reader makes of a line of no table, and what the line says.
 use Rattle.std.specs.Prelude.{⊤}
 use Rattle.op_dictionary.specs.Pairs.{IsLineText}
+use Rattle.font_metrics.specs.declared.keyword.Keyword.{Keyword}
+use Rattle.font_metrics.specs.declared.keyword.Keyword.TheVariants.{Table as TableOf}
 use Rattle.font_metrics.specs.declared.said.Said.{Said}
-use Rattle.font_metrics.specs.declared.said.Said.TheVariants.{Upem, Line, XHeight, Overlap, Constant, Glyph, Character, Variant, Part, Operator}
-use Rattle.font_metrics.specs.declared.table.Table.TheVariants.{Variants, Parts}
+use Rattle.font_metrics.specs.declared.said.Said.TheVariants.{Upem, Line, XHeight, Overlap, Constant, Glyph, Character, Operator}
 use Rattle.font_metrics.specs.Kept.{named_glyph}
-use Rattle.font_metrics.specs.Lines.{Item, SaysUpem, SaysLine, SaysXHeight, SaysOverlap, SaysConstant, SaysGlyph, SaysCharacter, SaysEntry, SaysOperator}
+use Rattle.font_metrics.specs.Lines.{Item, SaysUpem, SaysLine, SaysXHeight, SaysOverlap, SaysConstant, SaysGlyph, SaysCharacter, SaysOperator}
+
+-- the first word of a line that is no entry of a table
+abbrev pub IsOfNoTable : Keyword → Type 0
+IsOfNoTable (TableOf t) = ⊥
+IsOfNoTable keyword = ⊤
 
 abbrev pub item_of : Said → Item
 item_of (Upem n) = SaysUpem n
@@ -15,8 +21,6 @@ item_of (Overlap n) = SaysOverlap n
 item_of (Constant c) = SaysConstant c
 item_of (Glyph g) = SaysGlyph (named_glyph g.0.now g.1)
 item_of (Character c) = SaysCharacter c
-item_of (Variant axis v) = SaysEntry (Variants axis) v
-item_of (Part axis p) = SaysEntry (Parts axis) p
 item_of (Operator line) = SaysOperator line
 
 -- the text of an operator is one that the dictionary takes

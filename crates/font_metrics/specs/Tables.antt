@@ -1,4 +1,4 @@
--- The tables by glyph of a metrics file, in one form: what holds of one is said of each.
+-- The tables by glyph of a metrics file, each in its slot: what holds of one is said of each.
 use Rattle.std.specs.Prelude.{ℕ, List, [], ◌∷◌}
 use Rattle.std.specs.Fmt.{signed_decimal}
 use Rattle.op_dictionary.specs.declared.operator.Axis.{Axis}
@@ -8,23 +8,11 @@ use Rattle.font_metrics.specs.declared.growth.Part.{Part}
 use Rattle.font_metrics.specs.declared.table.Table.{Table}
 use Rattle.font_metrics.specs.declared.table.Table.TheVariants.{Variants, Parts}
 use Rattle.font_metrics.specs.declared.table.Tables.{Tables}
-use Rattle.font_metrics.specs.Faults.{Step}
-use Rattle.font_metrics.specs.Fields.{Words, variant_in, part_in}
-use Rattle.font_metrics.specs.Metrics.{NamedGlyph, MetricsValue, ByGlyph, along, with_along, with_item, name_in_list}
-use Rattle.font_metrics.specs.Taken.{IsTable, IsVariant, IsPart, most_variants, most_parts}
+use Rattle.font_metrics.specs.Fields.{variant_in, part_in}
+use Rattle.font_metrics.specs.Metrics.{ByGlyph, along, with_along, with_item, name_in_list}
+use Rattle.font_metrics.specs.Ranges.{IsTable, IsVariant, IsPart, most_variants, most_parts}
+use Rattle.font_metrics.specs.Slot.{Slot}
 use Rattle.font_metrics.specs.Texts.{extender_text, variant_keyword, part_keyword}
-
--- a table: how many entries a glyph may have, which they are where there are so many glyphs, their
--- lines, read behind the keyword and printed behind the base glyph, and where the table stands
-pub record Slot : Type 1 where
-  pub Entry : Type 0
-  pub most : ℕ
-  pub Is : ℕ → Entry → Type 0
-  pub keyword : List ℕ
-  pub read : List NamedGlyph → Words → Step (ℕ × Entry)
-  pub fields : List NamedGlyph → Entry → Words
-  pub at : Tables → ByGlyph Entry
-  pub put : Tables → ByGlyph Entry → Tables
 
 -- the variants along an axis
 abbrev pub variants_slot : Axis → Slot
@@ -75,10 +63,6 @@ with_entry t tables place x = (slot t).put tables (with_item (entries t tables) 
 -- before any line
 abbrev pub no_tables : Tables
 no_tables = record { variants = ([], []); parts = ([], []) }
-
--- the tables of metrics
-abbrev pub tables_of : MetricsValue → Tables
-tables_of m = record { variants = m.variants; parts = m.parts }
 
 -- tables of so many glyphs
 abbrev pub AreFilled : ℕ → Tables → Type 0

@@ -1,102 +1,14 @@
 -- What holds of all metrics that a file gives.
-use Rattle.std.specs.Prelude.{ℕ, ◌≤◌, ◌<◌, ◌^◌, ℤ, pos, negsuc, ◌≤ℤ◌, IsTrue, List, length, map, codes, IfSome, IsSome}
+use Rattle.std.specs.Prelude.{◌≤◌, length, codes, IfSome, IsSome}
 use Rattle.std.specs.List.{All, IsDistinct}
 use Rattle.std.specs.List.Sorted.{IsStrictlySortedBy}
 use Rattle.std.specs.Map.{keys_of}
 use Rattle.std.specs.Ordering.{nat_cmp}
 use Rattle.std.specs.Str.{bytes_eq}
-use Rattle.fixed_units.specs.Numbers.{IsWithin}
-use Rattle.op_dictionary.specs.declared.text.OpText.{OpText}
-use Rattle.op_dictionary.specs.declared.text.OpText.TheVariants.{Empty, One, Two, Other}
 use Rattle.op_dictionary.specs.Dictionary.{AreDistinct}
-use Rattle.font_metrics.specs.declared.glyph.Glyph.{Glyph}
-use Rattle.font_metrics.specs.declared.growth.Variant.{Variant}
-use Rattle.font_metrics.specs.declared.growth.Part.{Part}
-use Rattle.font_metrics.specs.Constants.{lowest_of, highest_of}
-use Rattle.font_metrics.specs.Metrics.{NamedGlyph, MetricsValue, ByGlyph, ByAxis, place_of_name}
-use Rattle.font_metrics.specs.Words.{is_scalar, is_in_pair, is_name}
-
--- a glyph's number has 16 bits, and the last of them isn't given
-abbrev pub most_glyphs : ℕ
-most_glyphs = 65535
-
-abbrev pub most_variants : ℕ
-most_variants = 64
-
-abbrev pub most_parts : ℕ
-most_parts = 16
-
--- a number of design units that isn't negative
-abbrev pub IsLength : ℤ → Type 0
-IsLength z = (pos 0 ≤ℤ z) × (z ≤ℤ pos 65535)
-
--- a number of design units to either side
-abbrev pub IsReach : ℤ → Type 0
-IsReach z = (negsuc 32767 ≤ℤ z) × (z ≤ℤ pos 65535)
-
--- each number of a glyph lies within 2^16 design units
-pub record IsInDesign (g : Glyph) : Type 0 where
-  pub advance : IsWithin (2 ^ 16) g.advance
-  pub ink_ascent : IsWithin (2 ^ 16) g.ink_ascent
-  pub ink_descent : IsWithin (2 ^ 16) g.ink_descent
-  pub italic : IsWithin (2 ^ 16) g.italic
-  pub accent : IfSome g.accent (IsWithin (2 ^ 16))
-
--- how far a glyph reaches, and where an accent goes on it
-pub record IsMeasured (g : Glyph) : Type 0 where
-  pub advance : IsLength g.advance
-  pub ink_ascent : IsReach g.ink_ascent
-  pub ink_descent : IsReach g.ink_descent
-  pub italic : IsReach g.italic
-  pub accent : IfSome g.accent IsReach
-
-pub record IsGlyph (g : NamedGlyph) : Type 0 where
-  pub name : IsTrue (is_name g.name)
-  pub measures : IsMeasured g.glyph
-
--- a constant in its range
-abbrev pub IsConstant : ℕ × ℤ → Type 0
-IsConstant c = (c.0 < 56) × (lowest_of c.0 ≤ℤ c.1) × (c.1 ≤ℤ highest_of c.0)
-
--- a character that has one of these many glyphs
-abbrev pub IsCharacter : ℕ → ℕ × ℕ → Type 0
-IsCharacter count c = IsTrue (is_scalar c.0) × (c.1 < count)
-
-pub record IsVariant (count : ℕ) (v : Variant) : Type 0 where
-  pub glyph : v.glyph.0 < count
-  pub measure : IsLength v.measure
-
-pub record IsPart (count : ℕ) (p : Part) : Type 0 where
-  pub glyph : p.glyph.0 < count
-  pub start : IsLength p.start
-  pub end : IsLength p.end
-  pub full : IsLength p.full
-
--- the items of one of these many glyphs: at least one and at most so many
-pub record IsEntry {X : Type 0} (count most : ℕ) (Is : X → Type 0) (entry : ℕ × List X) : Type 0 where
-  pub glyph : entry.0 < count
-  pub some : 1 ≤ length entry.1
-  pub few : length entry.1 ≤ most
-  pub items : All Is entry.1
-
--- a table in order of its glyphs
-pub record IsTable {X : Type 0} (count most : ℕ) (Is : X → Type 0) (table : ByGlyph X) : Type 0 where
-  pub ordered : IsStrictlySortedBy nat_cmp (keys_of table)
-  pub entries : All (IsEntry count most Is) table
-
--- those along both axes
-abbrev pub AreTables : {X : Type 0} → ℕ → ℕ → (X → Type 0) → ByAxis X → Type 0
-AreTables count most Is tables = IsTable count most Is tables.0 × IsTable count most Is tables.1
-
--- the text of an operator line, of one character or two
-abbrev pub IsOperatorText : OpText → Type 0
-IsOperatorText Empty = ⊥
-IsOperatorText (One letter) = IsTrue (is_scalar letter)
-IsOperatorText (Two first second) = IsTrue (is_in_pair first) × IsTrue (is_in_pair second)
-IsOperatorText Other = ⊥
-
-abbrev pub names_of : List NamedGlyph → List (List ℕ)
-names_of glyphs = map (λ g. g.name) glyphs
+use Rattle.font_metrics.specs.Metrics.{MetricsValue, place_of_name}
+use Rattle.font_metrics.specs.Tables.{AreFilled}
+pub use Rattle.font_metrics.specs.Ranges.{most_glyphs, most_variants, most_parts, IsLength, IsReach, IsInDesign, IsMeasured, IsGlyph, IsConstant, IsCharacter, IsVariant, IsPart, IsEntry, IsTable, IsOperatorText, names_of}
 
 -- Every number is in its range, every place is that of a glyph, and what may be given once is.
 pub record IsTaken (m : MetricsValue) : Type 0 where
@@ -114,7 +26,6 @@ pub record IsTaken (m : MetricsValue) : Type 0 where
   pub missing : IsSome (place_of_name m.glyphs (codes "missing"))
   pub characters : All (IsCharacter (length m.glyphs)) m.characters
   pub characters_ordered : IsStrictlySortedBy nat_cmp (keys_of m.characters)
-  pub variants : AreTables (length m.glyphs) most_variants (IsVariant (length m.glyphs)) m.variants
-  pub parts : AreTables (length m.glyphs) most_parts (IsPart (length m.glyphs)) m.parts
+  pub tables : AreFilled (length m.glyphs) m.tables
   pub operators : All (λ line. IsOperatorText line.text) m.operators
   pub operators_distinct : AreDistinct m.operators

@@ -1,6 +1,10 @@
 ghost use Rattle.std.specs.Prelude.{◌≡◌, [], ◌∷◌, ◌++◌, OnOk};
 ghost use Rattle.font_metrics.specs.Metrics.{items_of, with_item};
+ghost use Rattle.font_metrics.specs.Reading.{taken_into};
+ghost use Rattle.font_metrics.specs.Reads.{Takes};
 
+use crate::fault::{LineFault, fault_if};
+use crate::refusal::LineRefusal;
 use fixed_units::Memory;
 use std::alloc::Global;
 use std::collections::BTreeMap;
@@ -16,7 +20,7 @@ pub struct ByGlyph<T> {
 impl<T> Model for ByGlyph<T> {
     ghost use Rattle.std.specs.Prelude.{List, ℕ};
     ghost use Rattle.std.specs.Coded.{coded_list, coded×, coded_ℕ};
-    ghost use Rattle.font_metrics.specs.Kept.{lists_of_entries};
+    ghost use Rattle.font_metrics.specs.Listed.{lists_of_entries};
 
     ghost Value = { List (ℕ × List T) };
 
@@ -45,9 +49,25 @@ impl<T: Copy> ByGlyph<T> {
         }
     }
 
+    /// Adds an item to those of the glyph at a place, of which there may be `most`. Where memory is
+    /// refused, nothing is known of the table.
+    pub fn take(
+        &mut self,
+        alloc: Global,
+        most: usize,
+        place: u16,
+        item: T,
+    ) -> Result<(), LineRefusal>
+        ensures { Takes (taken_into most self.old place item) self.new result }
+    {
+        fault_if(self.items(place).len() >= most, LineFault::TooMany)?;
+        self.add(alloc, place, item)?;
+        Ok(())
+    }
+
     /// Adds an item to those of the glyph at a place. Where memory is refused, nothing is known of
     /// the table.
-    pub fn add(&mut self, alloc: Global, place: u16, item: T) -> Result<(), Memory>
+    fn add(&mut self, alloc: Global, place: u16, item: T) -> Result<(), Memory>
         ensures { OnOk result (self.new ≡ with_item self.old place item) }
     {
         match self.items.get_mut(&place) {

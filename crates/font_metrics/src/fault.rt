@@ -23,7 +23,7 @@ pub enum LineFault {
     NotNamed,
     /// A line before gives it already.
     Repeated,
-    /// One glyph too many, or one variant or part too many of a glyph.
+    /// One glyph too many, or one entry too many of a glyph in a table.
     TooMany,
     /// The file ended without `upem`.
     NoUpem,

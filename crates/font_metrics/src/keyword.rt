@@ -1,9 +1,8 @@
 ghost use Rattle.std.specs.Prelude.{◌≡◌};
-ghost use Rattle.font_metrics.specs.Lines.{keyword_of};
+ghost use Rattle.font_metrics.specs.Lines.{keyword_of, table_of, table_or_unknown};
 
-use crate::table::Table;
+use crate::table::{Table, table_of};
 use crate::texts::is_text;
-use op_dictionary::Axis;
 
 /// The first word of a line, which says what its fields are.
 #[derive(Clone, Copy)]
@@ -22,7 +21,7 @@ pub enum Keyword {
     Glyph,
     /// `char`
     Char,
-    /// `vvariant`, `hvariant`, `vassembly`, or `hassembly`
+    /// The first word of a table by glyph.
     Table(Table),
     /// `operator`
     Operator,
@@ -49,17 +48,18 @@ pub fn keyword_of(word: &[u8]) -> Keyword
         Keyword::Glyph
     } else if is_text(word, "char") {
         Keyword::Char
-    } else if is_text(word, "vvariant") {
-        Keyword::Table(Table::Variants(Axis::Block))
-    } else if is_text(word, "hvariant") {
-        Keyword::Table(Table::Variants(Axis::Inline))
-    } else if is_text(word, "vassembly") {
-        Keyword::Table(Table::Parts(Axis::Block))
-    } else if is_text(word, "hassembly") {
-        Keyword::Table(Table::Parts(Axis::Inline))
     } else if is_text(word, "operator") {
         Keyword::Operator
     } else {
-        Keyword::Unknown
+        table_or_unknown(word)
+    }
+}
+
+fn table_or_unknown(word: &[u8]) -> Keyword
+    ensures { result ≡ table_or_unknown (table_of word.now) }
+{
+    match table_of(word) {
+        None => Keyword::Unknown,
+        Some(table) => Keyword::Table(table),
     }
 }

@@ -2,8 +2,8 @@
 //!
 //! `read_metrics` reads a file's bytes, and answers the first fault where the file has one. A
 //! `Metrics` then gives lengths at a font size in units, a character's glyph, and of each glyph its
-//! measures, its larger variants and the parts that it is built of; `extra` gives the file's lines
-//! for the operator dictionary. `print` gives a file that says the same, in one form and one order.
+//! measures and what it has in each table by glyph; `extra` gives the file's lines for the operator
+//! dictionary. `print` gives a file that says the same, in one form and one order.
 //!
 //! - Models: the metrics file of docs/FORMATS.md; its words are those of OpenType MATH.
 //! - Proved: `read_metrics` answers `metrics_of` (`specs/Reading.antt`), exactly, or that memory was
@@ -15,7 +15,9 @@
 //!   fault is told; whatever is given is in its range. Bounds for crates above: `proofs/Bounds.antt`.
 //! - Change a line of the format: `specs/Fields.antt`, `specs/Reading.antt` and `specs/Print.antt`,
 //!   then `src/lines.rt`, `src/said.rt`, `src/taking.rt` and the mirror `src/printed.rt`.
-//! - Add a table by glyph: a `Slot` of `specs/Tables.antt`; what is proved of tables is proved of each.
+//! - Add a table by glyph: a case of `Table` and a field of `Tables` (`src/table.rt`), its `Slot` in
+//!   `specs/Tables.antt`, how its lines are taken and printed (`Given::take_entry`, `print_table`), and
+//!   what is proved of its kind (`IsKind`, `proofs/TableKinds`). The rest is proved of all tables.
 #![tactic(auto)]
 
 mod by_axis; // ByAxis: such lists for each axis

@@ -178,7 +178,7 @@ pub fn length(word: &[u8]) -> Result<u16, LineFault>
 }
 
 /// Design units to either side.
-fn reach(word: &[u8]) -> Result<i32, LineFault>
+pub fn reach(word: &[u8]) -> Result<i32, LineFault>
     ensures { result ≡ reach_in word.now }
 {
     number_in(-32768, 65535, word)

@@ -1,9 +1,7 @@
 ghost use Rattle.std.specs.Prelude.{◌≡◌, ◌≤◌, length};
 ghost use Rattle.font_metrics.specs.Faults.{step_map};
-ghost use Rattle.font_metrics.specs.Lines.{lent, named_in, character_with, character_in, variant_with, variant_in, based_on, part_with, part_in, SaysCharacter, SaysEntry};
+ghost use Rattle.font_metrics.specs.Lines.{lent, named_in, character_with, character_in, variant_with, variant_in, based_on, part_with, part_in, SaysCharacter};
 ghost use Rattle.font_metrics.specs.Said.{item_of};
-ghost use Rattle.font_metrics.specs.Tables.{slot};
-ghost use Rattle.font_metrics.specs.declared.table.Table.TheVariants.{Variants, Parts};
 
 use crate::choices::extender;
 use crate::fault::LineFault;
@@ -12,9 +10,7 @@ use crate::glyphs::GlyphTable;
 use crate::growth::{Part, Variant};
 use crate::lines::length;
 use crate::said::Said;
-use crate::table::Table;
 use crate::words::{glyph_name, letter};
-use op_dictionary::Axis;
 
 /// `char CODE NAME`: a character, and the place of the glyph of that name.
 pub fn character_line<'a>(glyphs: &GlyphTable, fields: &[&'a [u8]]) -> Result<Said<'a>, LineFault>
@@ -40,84 +36,58 @@ fn character_with<'a>(
     Ok(Said::Character((letter, place)))
 }
 
-/// A base, and the fields of an entry of the table.
-pub fn entry_line<'a>(
-    glyphs: &GlyphTable,
-    table: Table,
-    fields: &[&'a [u8]],
-) -> Result<Said<'a>, LineFault>
+/// `BASE VARIANT MEASURE`: the base's place, and its variant.
+pub fn variant_line(glyphs: &GlyphTable, fields: &[&[u8]]) -> Result<(u16, Variant), LineFault>
     requires { length glyphs.now ≤ 65535 }
-    ensures { step_map item_of result ≡ step_map (SaysEntry table) ((slot table).read glyphs.now (lent fields.now)) }
-{
-    match table {
-        Table::Variants(axis) => variant_line(glyphs, axis, fields),
-        Table::Parts(axis) => part_line(glyphs, axis, fields),
-    }
-}
-
-/// `BASE VARIANT MEASURE`: the base's place, and its variant along the axis.
-fn variant_line<'a>(
-    glyphs: &GlyphTable,
-    axis: Axis,
-    fields: &[&'a [u8]],
-) -> Result<Said<'a>, LineFault>
-    requires { length glyphs.now ≤ 65535 }
-    ensures { step_map item_of result ≡ step_map (SaysEntry (Variants axis)) (variant_in glyphs.now (lent fields.now)) }
+    ensures { result ≡ variant_in glyphs.now (lent fields.now) }
 {
     match fields {
-        [base, variant, measure] => variant_with(glyphs, axis, base, variant, measure),
+        [base, variant, measure] => variant_with(glyphs, base, variant, measure),
         _ => Err(LineFault::FieldCount),
     }
 }
 
-fn variant_with<'a>(
+fn variant_with(
     glyphs: &GlyphTable,
-    axis: Axis,
-    base: &'a [u8],
-    variant: &'a [u8],
-    measure: &'a [u8],
-) -> Result<Said<'a>, LineFault>
+    base: &[u8],
+    variant: &[u8],
+    measure: &[u8],
+) -> Result<(u16, Variant), LineFault>
     requires { length glyphs.now ≤ 65535 }
-    ensures { step_map item_of result ≡ step_map (SaysEntry (Variants axis))
-        (variant_with glyphs.now base.now variant.now measure.now) }
+    ensures { result ≡ variant_with glyphs.now base.now variant.now measure.now }
 {
     let place = named(glyphs, base)?;
     let glyph = GlyphId(named(glyphs, variant)?);
     let measure = i64::from(length(measure)?);
-    Ok(Said::Variant(axis, (place, Variant { glyph, measure })))
+    Ok((place, Variant { glyph, measure }))
 }
 
-/// `BASE PART FIX|EXT START END FULL`: the base's place, and a part of its assembly along the axis.
-fn part_line<'a>(
-    glyphs: &GlyphTable,
-    axis: Axis,
-    fields: &[&'a [u8]],
-) -> Result<Said<'a>, LineFault>
+/// `BASE PART FIX|EXT START END FULL`: the base's place, and a part of its assembly.
+pub fn part_line(glyphs: &GlyphTable, fields: &[&[u8]]) -> Result<(u16, Part), LineFault>
     requires { length glyphs.now ≤ 65535 }
-    ensures { step_map item_of result ≡ step_map (SaysEntry (Parts axis)) (part_in glyphs.now (lent fields.now)) }
+    ensures { result ≡ part_in glyphs.now (lent fields.now) }
 {
     match fields {
         [base, part, role, start, end, full] => {
             let part = part_with(glyphs, part, role, start, end, full);
-            based_on(glyphs, axis, base, part)
+            based_on(glyphs, base, part)
         }
         _ => Err(LineFault::FieldCount),
     }
 }
 
 /// The base is looked for first.
-fn based_on<'a>(
+fn based_on(
     glyphs: &GlyphTable,
-    axis: Axis,
-    base: &'a [u8],
+    base: &[u8],
     part: Result<Part, LineFault>,
-) -> Result<Said<'a>, LineFault>
+) -> Result<(u16, Part), LineFault>
     requires { length glyphs.now ≤ 65535 }
-    ensures { step_map item_of result ≡ step_map (SaysEntry (Parts axis)) (based_on glyphs.now base.now part) }
+    ensures { result ≡ based_on glyphs.now base.now part }
 {
     let place = named(glyphs, base)?;
     let part = part?;
-    Ok(Said::Part(axis, (place, part)))
+    Ok((place, part))
 }
 
 fn part_with(
@@ -146,7 +116,7 @@ fn part_with(
 }
 
 /// The place of a glyph that a line before has named.
-fn named(glyphs: &GlyphTable, word: &[u8]) -> Result<u16, LineFault>
+pub fn named(glyphs: &GlyphTable, word: &[u8]) -> Result<u16, LineFault>
     requires { length glyphs.now ≤ 65535 }
     ensures { result ≡ named_in glyphs.now word.now }
 {

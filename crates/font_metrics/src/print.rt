@@ -1,8 +1,7 @@
 ghost use Rattle.std.specs.Prelude.{◌≡◌, ◌<◌, [], ◌++◌, All, length, map, flat_map, IfOk, OnOk, Ok};
 ghost use Rattle.std.specs.List.{range_with_len};
 ghost use Rattle.op_dictionary.specs.Pairs.{IsLineText};
-ghost use Rattle.font_metrics.specs.Metrics.{variants_of, parts_of};
-ghost use Rattle.font_metrics.specs.Print.{constant_words, glyph_words, character_words, entry_words, growth_lines, operator_words, header_lines, line_text, print_of};
+ghost use Rattle.font_metrics.specs.Print.{constant_words, glyph_words, character_words, table_lines, growth_lines, operator_words, header_lines, line_text, print_of};
 ghost use Rattle.font_metrics.specs.Reading.{metrics_of};
 ghost use Rattle.font_metrics.specs.declared.table.Table.TheVariants.{Variants, Parts};
 
@@ -11,6 +10,7 @@ use crate::glyph::GlyphId;
 use crate::glyphs::GlyphTable;
 use crate::metrics::Metrics;
 use crate::printed::PrintedLines;
+use crate::table::{TABLES, Table};
 use crate::texts::{part_keyword, variant_keyword};
 use fixed_units::{List, Memory};
 use op_dictionary::{Axis, Extra};
@@ -68,13 +68,36 @@ impl Metrics {
             (flat_map (growth_lines self.now) (range_with_len 0 (length self.now.glyphs)))) }
     {
         for place in 0..self.glyph_count() as u16 {
-            let glyph = GlyphId(place);
-            self.print_variants(glyph, Axis::Block, lines)?;
-            self.print_variants(glyph, Axis::Inline, lines)?;
-            self.print_parts(glyph, Axis::Block, lines)?;
-            self.print_parts(glyph, Axis::Inline, lines)?;
+            self.print_place(GlyphId(place), lines)?;
         }
         Ok(())
+    }
+
+    /// What a glyph grows by, table after table.
+    fn print_place(&self, base: GlyphId, lines: &mut PrintedLines) -> Result<(), Memory>
+        requires { base.0 < length self.now.glyphs }
+        ensures { OnOk result (lines.new ≡ lines.old ++ flat_map line_text (growth_lines self.now base.0)) }
+    {
+        for table in &TABLES {
+            self.print_table(base, *table, lines)?;
+        }
+        Ok(())
+    }
+
+    /// What a glyph has in a table.
+    fn print_table(
+        &self,
+        base: GlyphId,
+        table: Table,
+        lines: &mut PrintedLines,
+    ) -> Result<(), Memory>
+        requires { base.0 < length self.now.glyphs }
+        ensures { OnOk result (lines.new ≡ lines.old ++ flat_map line_text (table_lines self.now base.0 table)) }
+    {
+        match table {
+            Table::Variants(axis) => self.print_variants(base, axis, lines),
+            Table::Parts(axis) => self.print_parts(base, axis, lines),
+        }
     }
 
     fn print_variants(
@@ -84,8 +107,7 @@ impl Metrics {
         lines: &mut PrintedLines,
     ) -> Result<(), Memory>
         requires { base.0 < length self.now.glyphs }
-        ensures { OnOk result (lines.new ≡ lines.old ++ flat_map line_text
-            (map (entry_words (Variants axis) self.now.glyphs base.0) (variants_of self.now base.0 axis))) }
+        ensures { OnOk result (lines.new ≡ lines.old ++ flat_map line_text (table_lines self.now base.0 (Variants axis))) }
     {
         let keyword = variant_keyword(axis);
         let name = self.name(base);
@@ -97,8 +119,7 @@ impl Metrics {
 
     fn print_parts(&self, base: GlyphId, axis: Axis, lines: &mut PrintedLines) -> Result<(), Memory>
         requires { base.0 < length self.now.glyphs }
-        ensures { OnOk result (lines.new ≡ lines.old ++ flat_map line_text
-            (map (entry_words (Parts axis) self.now.glyphs base.0) (parts_of self.now base.0 axis))) }
+        ensures { OnOk result (lines.new ≡ lines.old ++ flat_map line_text (table_lines self.now base.0 (Parts axis))) }
     {
         let keyword = part_keyword(axis);
         let name = self.name(base);

@@ -209,7 +209,7 @@ impl PrintedLines {
     }
 
     /// A word behind a space.
-    fn add_word(&mut self, word: &str) -> Result<(), Memory>
+    pub fn add_word(&mut self, word: &str) -> Result<(), Memory>
         ensures { OnOk result (self.new ≡ self.old ++ 32 ∷ word.now) }
     {
         self.add_text(" ")?;
@@ -217,7 +217,7 @@ impl PrintedLines {
     }
 
     /// Two words, each behind a space.
-    fn add_words(&mut self, first: &str, second: &str) -> Result<(), Memory>
+    pub fn add_words(&mut self, first: &str, second: &str) -> Result<(), Memory>
         ensures { OnOk result (self.new ≡ (self.old ++ 32 ∷ first.now) ++ 32 ∷ second.now) }
     {
         self.add_word(first)?;
@@ -225,7 +225,7 @@ impl PrintedLines {
     }
 
     /// A number behind a space.
-    fn add_number(&mut self, number: i64) -> Result<(), Memory>
+    pub fn add_number(&mut self, number: i64) -> Result<(), Memory>
         ensures { OnOk result (self.new ≡ self.old ++ 32 ∷ signed_decimal number) }
     {
         write!(self.text, " {number}")?;
@@ -233,14 +233,15 @@ impl PrintedLines {
     }
 
     /// Two numbers, each behind a space.
-    fn add_numbers(&mut self, first: i64, second: i64) -> Result<(), Memory>
+    pub fn add_numbers(&mut self, first: i64, second: i64) -> Result<(), Memory>
         ensures { OnOk result (self.new ≡ (self.old ++ 32 ∷ signed_decimal first) ++ 32 ∷ signed_decimal second) }
     {
         self.add_number(first)?;
         self.add_number(second)
     }
 
-    fn add_text(&mut self, text: &str) -> Result<(), Memory>
+    /// A text as it stands.
+    pub fn add_text(&mut self, text: &str) -> Result<(), Memory>
         ensures { OnOk result (self.new ≡ self.old ++ text.now) }
     {
         self.text.push_str(text)?;

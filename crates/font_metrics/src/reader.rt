@@ -3,6 +3,7 @@ ghost use Rattle.font_metrics.specs.Taken.{most_glyphs};
 ghost use Rattle.font_metrics.specs.Lines.{lent};
 ghost use Rattle.font_metrics.specs.Reading.{after, after_first, after_words, after_fields, first_in, is_first, is_version, needed, lines_of, metrics_of, most_file_bytes};
 ghost use Rattle.font_metrics.specs.Reads.{Takes, Begins, Ends};
+ghost use Rattle.font_metrics.specs.Said.{IsOfNoTable};
 
 use crate::fault::{LineFault, fault_if};
 use crate::given::{Given, Needed};
@@ -78,6 +79,23 @@ impl Given {
         fields: &[&[u8]],
     ) -> Result<(), LineRefusal>
         requires { length self.old.glyphs ≤ most_glyphs }
+        ensures { Takes (after_fields self.old keyword (lent fields.now)) self.new result }
+    {
+        match keyword {
+            Keyword::Table(table) => self.take_entry(alloc, table, fields),
+            _ => self.take_said(alloc, keyword, fields),
+        }
+    }
+
+    /// Takes the fields of a line of no table.
+    fn take_said(
+        &mut self,
+        alloc: Global,
+        keyword: Keyword,
+        fields: &[&[u8]],
+    ) -> Result<(), LineRefusal>
+        requires few { length self.old.glyphs ≤ most_glyphs }
+        requires word { IsOfNoTable keyword }
         ensures { Takes (after_fields self.old keyword (lent fields.now)) self.new result }
     {
         let said = line_says(&self.glyphs, keyword, fields)?;

@@ -1,20 +1,19 @@
 ghost use Rattle.std.specs.Prelude.{◌≡◌, ◌≤◌, length, IfOk};
 ghost use Rattle.font_metrics.specs.Faults.{step_map};
 ghost use Rattle.font_metrics.specs.Lines.{lent, item_in};
-ghost use Rattle.font_metrics.specs.Said.{item_of, HasLineText};
+ghost use Rattle.font_metrics.specs.Said.{item_of, HasLineText, IsOfNoTable};
 
 use crate::fault::LineFault;
 use crate::glyph::Measures;
 use crate::glyphs::GlyphTable;
-use crate::growth::{Part, Variant};
 use crate::keyword::Keyword;
 use crate::lines::{
     constant_line, extent_line, glyph_line, operator_line, overlap_line, upem_line, x_height_line,
 };
-use crate::named_lines::{character_line, entry_line};
-use op_dictionary::{Axis, OperatorLine};
+use crate::named_lines::character_line;
+use op_dictionary::OperatorLine;
 
-/// What a line behind the first says. A glyph is given by its place.
+/// What a line of no table behind the first says. A glyph is given by its place.
 #[derive(Clone, Copy)]
 pub enum Said<'a> {
     /// The design units of an em.
@@ -29,20 +28,17 @@ pub enum Said<'a> {
     Glyph((&'a str, Measures)),
     /// A character, and its glyph.
     Character((char, u16)),
-    /// A glyph, and its variant along an axis.
-    Variant(Axis, (u16, Variant)),
-    /// A glyph, and a part of its assembly along an axis.
-    Part(Axis, (u16, Part)),
     Operator(OperatorLine),
 }
 
-/// What a line says, by its first word and its fields.
+/// What a line of no table says, by its first word and its fields.
 pub fn line_says<'a>(
     glyphs: &GlyphTable,
     keyword: Keyword,
     fields: &[&'a [u8]],
 ) -> Result<Said<'a>, LineFault>
-    requires { length glyphs.now ≤ 65535 }
+    requires few { length glyphs.now ≤ 65535 }
+    requires word { IsOfNoTable keyword }
     ensures value { step_map item_of result ≡ item_in glyphs.now keyword (lent fields.now) }
     ensures text { IfOk result HasLineText }
 {
@@ -54,7 +50,7 @@ pub fn line_says<'a>(
         Keyword::Constant => constant_line(fields),
         Keyword::Glyph => glyph_line(fields),
         Keyword::Char => character_line(glyphs, fields),
-        Keyword::Table(table) => entry_line(glyphs, table, fields),
+        Keyword::Table(_) => unreachable!(),
         Keyword::Operator => operator_line(fields),
         Keyword::Unknown => Err(LineFault::UnknownWord),
     }

@@ -1,8 +1,10 @@
 ghost use Rattle.std.specs.Prelude.{◌≡◌};
-ghost use Rattle.font_metrics.specs.Tables.{no_tables};
+ghost use Rattle.font_metrics.specs.Lines.{table_of};
+ghost use Rattle.font_metrics.specs.Tables.{slot, no_tables};
 
 use crate::by_axis::ByAxis;
 use crate::growth::{Part, Variant};
+use crate::texts::{is_text, part_keyword, variant_keyword};
 use op_dictionary::Axis;
 use std::alloc::Global;
 
@@ -15,7 +17,39 @@ pub enum Table {
     Parts(Axis),
 }
 
-/// All tables by glyph.
+/// Each table, in the order in which a glyph's lines are printed.
+pub const TABLES: [Table; 4] = [
+    Table::Variants(Axis::Block),
+    Table::Variants(Axis::Inline),
+    Table::Parts(Axis::Block),
+    Table::Parts(Axis::Inline),
+];
+
+impl Table {
+    /// The first word of its lines.
+    pub fn keyword(self) -> &'static str
+        ensures { result.now ≡ (slot self).keyword }
+    {
+        match self {
+            Table::Variants(axis) => variant_keyword(axis),
+            Table::Parts(axis) => part_keyword(axis),
+        }
+    }
+}
+
+/// The table whose lines have this first word; words are compared exactly.
+pub fn table_of(word: &[u8]) -> Option<Table>
+    ensures { result ≡ table_of word.now }
+{
+    for table in &TABLES {
+        if is_text(word, table.keyword()) {
+            return Some(*table);
+        }
+    }
+    None
+}
+
+/// What all tables by glyph have.
 #[derive(Drop)]
 pub struct Tables {
     pub variants: ByAxis<Variant>,

@@ -1,18 +1,25 @@
-ghost use Rattle.std.specs.Prelude.{◌≡◌, [], ◌∷◌, ◌++◌, false, Ok, OnOk};
+ghost use Rattle.std.specs.Prelude.{◌≡◌, ◌≤◌, [], ◌∷◌, ◌++◌, length, false, Ok, OnOk};
 ghost use Rattle.op_dictionary.specs.Dictionary.{is_named};
 ghost use Rattle.op_dictionary.specs.Pairs.{IsLineText};
-ghost use Rattle.font_metrics.specs.Reading.{nothing, allowed, put};
+ghost use Rattle.font_metrics.specs.Lines.{lent};
+ghost use Rattle.font_metrics.specs.Ranges.{most_glyphs};
+ghost use Rattle.font_metrics.specs.Reading.{nothing, allowed, put, after_fields};
+ghost use Rattle.font_metrics.specs.Reads.{Takes};
 ghost use Rattle.font_metrics.specs.Said.{item_of, HasLineText};
+ghost use Rattle.font_metrics.specs.declared.keyword.Keyword.TheVariants.{Table as TableOf};
+ghost use Rattle.font_metrics.specs.declared.table.Table.TheVariants.{Variants, Parts};
 
 use crate::characters::CharacterMap;
 use crate::constant_table::ConstantTable;
 use crate::fault::{LineFault, fault_if};
 use crate::given::Given;
 use crate::glyphs::GlyphTable;
+use crate::named_lines::{part_line, variant_line};
+use crate::refusal::LineRefusal;
 use crate::said::Said;
-use crate::table::Tables;
+use crate::table::{Table, Tables};
 use fixed_units::Memory;
-use op_dictionary::{Extra, OperatorLine};
+use op_dictionary::{Axis, Extra, OperatorLine};
 use std::alloc::Global;
 
 /// The most glyphs of a file, so that a glyph's number fits a `u16` of OpenType.
@@ -59,14 +66,6 @@ impl Given {
             Said::Character((letter, _)) => {
                 fault_if(self.characters.place(letter).is_some(), LineFault::Repeated)
             },
-            Said::Variant(axis, (place, _)) => {
-                let count = self.tables.variants.items(axis, place).len();
-                fault_if(count >= MOST_VARIANTS, LineFault::TooMany)
-            }
-            Said::Part(axis, (place, _)) => {
-                let count = self.tables.parts.items(axis, place).len();
-                fault_if(count >= MOST_PARTS, LineFault::TooMany)
-            }
             Said::Operator(line) => {
                 fault_if(
                     self.operators.has(line.text, line.form),
@@ -102,12 +101,49 @@ impl Given {
             Said::Constant((place, value)) => self.constants.add(place, value),
             Said::Glyph((name, measures)) => self.glyphs.add(alloc, name, measures),
             Said::Character((letter, place)) => self.characters.add(letter, place),
-            Said::Variant(axis, (place, variant)) => {
-                self.tables.variants.add(alloc, axis, place, variant)
-            }
-            Said::Part(axis, (place, part)) => self.tables.parts.add(alloc, axis, place, part),
             Said::Operator(line) => add_operator(&mut self.operators, line),
         }
+    }
+}
+
+impl Given {
+    /// Takes the fields of a line of a table.
+    pub fn take_entry(
+        &mut self,
+        alloc: Global,
+        table: Table,
+        fields: &[&[u8]],
+    ) -> Result<(), LineRefusal>
+        requires { length self.old.glyphs ≤ most_glyphs }
+        ensures { Takes (after_fields self.old (TableOf table) (lent fields.now)) self.new result }
+    {
+        match table {
+            Table::Variants(axis) => self.take_variant(alloc, axis, fields),
+            Table::Parts(axis) => self.take_part(alloc, axis, fields),
+        }
+    }
+
+    fn take_variant(
+        &mut self,
+        alloc: Global,
+        axis: Axis,
+        fields: &[&[u8]],
+    ) -> Result<(), LineRefusal>
+        requires { length self.old.glyphs ≤ most_glyphs }
+        ensures { Takes (after_fields self.old (TableOf (Variants axis)) (lent fields.now)) self.new result }
+    {
+        let (place, variant) = variant_line(&self.glyphs, fields)?;
+        self.tables
+            .variants
+            .take(alloc, axis, MOST_VARIANTS, place, variant)
+    }
+
+    fn take_part(&mut self, alloc: Global, axis: Axis, fields: &[&[u8]]) -> Result<(), LineRefusal>
+        requires { length self.old.glyphs ≤ most_glyphs }
+        ensures { Takes (after_fields self.old (TableOf (Parts axis)) (lent fields.now)) self.new result }
+    {
+        let (place, part) = part_line(&self.glyphs, fields)?;
+        self.tables.parts.take(alloc, axis, MOST_PARTS, place, part)
     }
 }
 

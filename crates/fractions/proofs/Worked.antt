@@ -5,6 +5,7 @@ use Rattle.fixed_units.specs.Boxes.{raised, joined}
 use Rattle.fixed_units.specs.Numbers.{rounded, halved}
 use Rattle.fixed_units.specs.declared.boxes.MathBox.{MathBox}
 use Rattle.font_metrics.specs.Metrics.{MetricsValue, scale_of, constant_of}
+use Rattle.font_metrics.specs.Tables.{no_tables}
 use Rattle.font_metrics.specs.declared.mark.Mark.TheVariants.{Rule}
 use Rattle.fractions.specs.Lengths.{rule_lengths_of, stack_lengths_of}
 use Rattle.fractions.specs.Equation.{clear_shift_of, rule_shifts_of, lack_of, stack_shifts_of}
@@ -24,8 +25,7 @@ sample = record {
       ∷ (35, pos 700) ∷ (36, pos 64) ∷ (37, pos 100) ∷ (38, pos 40) ∷ (39, pos 64) ∷ (40, pos 100) ∷ [];
   glyphs = [];
   characters = [];
-  variants = ([], []);
-  parts = ([], []);
+  tables = no_tables;
   operators = [];
 }
 

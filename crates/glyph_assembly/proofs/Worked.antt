@@ -4,6 +4,7 @@ use Rattle.std.proofs.Common.{◌≡◌, refl, ℕ, ℤ, pos, negsuc, true, fals
 use Rattle.fixed_units.specs.Numbers.{rounded, halved}
 use Rattle.fixed_units.specs.declared.pull.Pull.TheVariants.{Block as Upward, Inline as Sideways}
 use Rattle.font_metrics.specs.Metrics.{NamedGlyph, MetricsValue, scale_of, constant_of, glyph_at, variants_of, parts_of}
+use Rattle.font_metrics.specs.Tables.{no_tables}
 use Rattle.font_metrics.specs.Constants.{place_of_constant}
 use Rattle.font_metrics.specs.declared.constants.ConstName.TheVariants.{DisplayOperatorMinHeight}
 use Rattle.font_metrics.specs.declared.growth.Part.{Part}
@@ -60,16 +61,18 @@ sample = record {
       ∷ inked (pos 640) (pos 720) (negsuc 499) (pos 0)  -- 13, a wider one
       ∷ [];
   characters = [];
-  variants = (
-    (0, variant 1 (pos 1536) ∷ []) ∷ (8, variant 9 (pos 1600) ∷ []) ∷ (10, variant 11 (pos 2288) ∷ []) ∷ [],
-    (12, variant 13 (pos 640) ∷ []) ∷ [],
-  );
-  parts = (
-    (0, fixed 2 (pos 0) (pos 200) (pos 600) ∷ extender 3 (pos 200) (pos 200) (pos 400) ∷ fixed 2 (pos 200) (pos 0) (pos 600) ∷ [])
-        ∷ (4, fixed 5 (pos 80) (pos 80) (pos 300) ∷ extender 6 (pos 80) (pos 80) (pos 200) ∷ [])
-        ∷ [],
-    [],
-  );
+  tables = record no_tables {
+    variants = (
+      (0, variant 1 (pos 1536) ∷ []) ∷ (8, variant 9 (pos 1600) ∷ []) ∷ (10, variant 11 (pos 2288) ∷ []) ∷ [],
+      (12, variant 13 (pos 640) ∷ []) ∷ [],
+    );
+    parts = (
+      (0, fixed 2 (pos 0) (pos 200) (pos 600) ∷ extender 3 (pos 200) (pos 200) (pos 400) ∷ fixed 2 (pos 200) (pos 0) (pos 600) ∷ [])
+          ∷ (4, fixed 5 (pos 80) (pos 80) (pos 300) ∷ extender 6 (pos 80) (pos 80) (pos 200) ∷ [])
+          ∷ [],
+      [],
+    );
+  };
   operators = [];
 }
 

@@ -8,6 +8,7 @@ use Rattle.fixed_units.specs.Sums.{list_to, sum_to}
 use Rattle.fixed_units.specs.declared.boxes.MathBox.{MathBox}
 use Rattle.font_metrics.specs.Constants.{place_of_constant}
 use Rattle.font_metrics.specs.Metrics.{MetricsValue, constant_of, glyph_at, percent_of, place_of_letter, scale_of}
+use Rattle.font_metrics.specs.Tables.{no_tables}
 use Rattle.font_metrics.specs.declared.constants.ConstName.TheVariants.{AxisHeight, FractionDenominatorGapMin, FractionDenominatorShiftDown, FractionNumeratorGapMin, FractionNumeratorShiftUp, FractionRuleThickness, LowerLimitBaselineDropMin, LowerLimitGapMin, RadicalDegreeBottomRaisePercent, RadicalExtraAscender, RadicalKernAfterDegree, RadicalKernBeforeDegree, RadicalRuleThickness, RadicalVerticalGap, SpaceAfterScript, SubSuperscriptGapMin, SubscriptBaselineDropMin, SubscriptShiftDown, SubscriptTopMax, SuperscriptBaselineDropMax, SuperscriptBottomMaxWithSubscript, SuperscriptBottomMin, SuperscriptShiftUp}
 use Rattle.font_metrics.specs.declared.mark.Mark.TheVariants.{Glyph, Rule}
 use Rattle.math_tree.specs.declared.attributes.Attribute.{Attribute}
@@ -100,8 +101,7 @@ sample = record {
     glyph = record { advance = pos 820; ink_ascent = pos 800; ink_descent = pos 224; italic = pos 0; accent = None };
   } ∷ [];
   characters = (0x221A, 0) ∷ [];
-  variants = ([], []);
-  parts = ([], []);
+  tables = no_tables;
   operators = [];
 }
 

@@ -5,6 +5,7 @@ use Rattle.fixed_units.specs.Numbers.{rounded, halved}
 use Rattle.fixed_units.specs.Sums.{sum_to, list_to}
 use Rattle.fixed_units.specs.declared.boxes.MathBox.{MathBox}
 use Rattle.font_metrics.specs.Metrics.{MetricsValue, scale_of, constant_of}
+use Rattle.font_metrics.specs.Tables.{no_tables}
 use Rattle.math_tables.specs.Cells.{cell_start_of, cell_rise_of, cell_of}
 use Rattle.math_tables.specs.Columns.{columns_of}
 use Rattle.math_tables.specs.Placing.{start_of, cell_x_of, row_of_cells_of, top_of, table_ascent_of, baseline_of, row_offsets_of, table_width_of, table_frame_of}
@@ -20,8 +21,7 @@ sample = record {
   constants = (5, pos 256) ∷ [];
   glyphs = [];
   characters = [];
-  variants = ([], []);
-  parts = ([], []);
+  tables = no_tables;
   operators = [];
 }
 

@@ -6,6 +6,7 @@ use Rattle.fixed_units.specs.Numbers.{rounded, halved}
 use Rattle.fixed_units.specs.Sums.{sum_to, list_to}
 use Rattle.fixed_units.specs.declared.boxes.MathBox.{MathBox}
 use Rattle.font_metrics.specs.Metrics.{MetricsValue, scale_of, constant_of}
+use Rattle.font_metrics.specs.Tables.{no_tables}
 use Rattle.multiscripts.specs.Along.{base_lean_of, sub_start_of, sup_start_of, room_of, lean_at, ahead_of, behind_of, room_x_of}
 use Rattle.multiscripts.specs.Heights.{larger_of}
 use Rattle.multiscripts.specs.Laws.{behind}
@@ -27,8 +28,7 @@ sample = record {
       ∷ (15, pos 200) ∷ (16, pos 400) ∷ (17, pos 50) ∷ [];
   glyphs = [];
   characters = [];
-  variants = ([], []);
-  parts = ([], []);
+  tables = no_tables;
   operators = [];
 }
 

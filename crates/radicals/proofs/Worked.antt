@@ -6,6 +6,7 @@ use Rattle.fixed_units.specs.Numbers.{rounded, halved}
 use Rattle.fixed_units.specs.declared.boxes.MathBox.{MathBox}
 use Rattle.font_metrics.specs.Constants.{place_of_constant}
 use Rattle.font_metrics.specs.Metrics.{MetricsValue, scale_of, constant_of, percent_of, glyph_at, place_of_letter}
+use Rattle.font_metrics.specs.Tables.{no_tables}
 use Rattle.font_metrics.specs.declared.constants.ConstName.TheVariants.{RadicalVerticalGap, RadicalRuleThickness, RadicalExtraAscender, RadicalKernBeforeDegree, RadicalKernAfterDegree, RadicalDegreeBottomRaisePercent}
 use Rattle.font_metrics.specs.declared.mark.Mark.TheVariants.{Glyph, Rule}
 use Rattle.glyph_assembly.specs.Glyphs.{glyph_frame, glyph_reach}
@@ -34,8 +35,7 @@ sample = record {
     glyph = record { advance = pos 820; ink_ascent = pos 800; ink_descent = pos 224; italic = pos 0; accent = None };
   } ∷ [];
   characters = (0x221A, 0) ∷ [];
-  variants = ([], []);
-  parts = ([], []);
+  tables = no_tables;
   operators = [];
 }
 

@@ -6,6 +6,7 @@ use Rattle.fixed_units.specs.Numbers.{rounded, halved}
 use Rattle.fixed_units.specs.declared.boxes.MathBox.{MathBox}
 use Rattle.fixed_units.specs.declared.pull.Pull.TheVariants.{Free, Block, Inline}
 use Rattle.font_metrics.specs.Metrics.{MetricsValue, scale_of, constant_of}
+use Rattle.font_metrics.specs.Tables.{no_tables}
 use Rattle.op_dictionary.specs.declared.operator.Axis.TheVariants.{Inline as Sideways}
 use Rattle.row_stretch.specs.declared.parts.KidPull.{KidPull}
 use Rattle.row_stretch.specs.Questions.{planned, asks_from}
@@ -29,8 +30,7 @@ sample = record {
       ∷ (15, pos 200) ∷ (16, pos 400) ∷ (17, pos 50) ∷ [];
   glyphs = [];
   characters = [];
-  variants = ([], []);
-  parts = ([], []);
+  tables = no_tables;
   operators = [];
 }
 

@@ -10,6 +10,7 @@ use Rattle.fixed_units.specs.declared.boxes.MathBox.{MathBox}
 use Rattle.fixed_units.specs.declared.pull.Pull.TheVariants.{Free, Block as Upward, Inline as Sideways}
 use Rattle.font_metrics.specs.Constants.{place_of_constant}
 use Rattle.font_metrics.specs.Metrics.{NamedGlyph, MetricsValue, scale_of, constant_of, glyph_at, variants_of, parts_of, place_of_letter, missing_place}
+use Rattle.font_metrics.specs.Tables.{no_tables}
 use Rattle.font_metrics.specs.declared.constants.ConstName.TheVariants.{AxisHeight, DisplayOperatorMinHeight}
 use Rattle.font_metrics.specs.declared.glyph.GlyphId.{GlyphId}
 use Rattle.font_metrics.specs.declared.growth.Part.{Part}
@@ -77,14 +78,16 @@ sample = record {
       ∷ [];
   characters =
       (0x28, 3) ∷ (0x31, 1) ∷ (0x5E, 10) ∷ (0x7C, 7) ∷ (0x2211, 12) ∷ (0x222B, 13) ∷ (0x1D465, 2) ∷ [];
-  variants = (
-    (3, variant 4 (pos 1536) ∷ []) ∷ (12, variant 8 (pos 1600) ∷ []) ∷ (13, variant 9 (pos 2288) ∷ []) ∷ [],
-    (10, variant 11 (pos 640) ∷ []) ∷ [],
-  );
-  parts = (
-    (3, part false 5 (pos 0) (pos 200) (pos 600) ∷ part true 6 (pos 200) (pos 200) (pos 400) ∷ part false 5 (pos 200) (pos 0) (pos 600) ∷ []) ∷ [],
-    [],
-  );
+  tables = record no_tables {
+    variants = (
+      (3, variant 4 (pos 1536) ∷ []) ∷ (12, variant 8 (pos 1600) ∷ []) ∷ (13, variant 9 (pos 2288) ∷ []) ∷ [],
+      (10, variant 11 (pos 640) ∷ []) ∷ [],
+    );
+    parts = (
+      (3, part false 5 (pos 0) (pos 200) (pos 600) ∷ part true 6 (pos 200) (pos 200) (pos 400) ∷ part false 5 (pos 200) (pos 0) (pos 600) ∷ []) ∷ [],
+      [],
+    );
+  };
   operators = [];
 }
 

@@ -1,22 +1,21 @@
 -- The printed variants and parts, glyph by glyph.
-use Rattle.std.proofs.Common.{◌≡◌, ◌∙◌, ap, sym, refl, subst, ℕ, ◌≤◌, ◌<◌, ◌+◌, zero, suc, List, [], ◌∷◌, length, map, flat_map, All, nat_eq, arith, inl, inr, add-zero}
+use Rattle.std.proofs.Common.{◌≡◌, ◌∙◌, ap, sym, refl, subst, ℕ, ◌≤◌, ◌<◌, ◌+◌, zero, suc, true, List, [], ◌∷◌, length, map, flat_map, All, nat_eq, arith, inl, inr, add-zero}
 use Rattle.std.specs.List.{AllByRecursion, range_with_len}
-use Rattle.std.proofs.lemmas.Bool.{cases_Bool}
+use Rattle.std.proofs.lemmas.Bool.{and_parts, cases_Bool}
 use Rattle.std.proofs.lemmas.List.Elements.{recursion_from_All, All-nil}
-use Rattle.op_dictionary.specs.declared.operator.Axis.TheVariants.{Block, Inline}
 use Rattle.font_metrics.specs.declared.table.Table.{Table}
-use Rattle.font_metrics.specs.declared.table.Table.TheVariants.{Variants, Parts}
 use Rattle.font_metrics.specs.declared.table.Tables.{Tables}
 use Rattle.font_metrics.specs.Metrics.{MetricsValue, ByGlyph, items_of, with_item}
 use Rattle.font_metrics.specs.Print.{entry_words, table_lines, growth_lines}
 use Rattle.font_metrics.specs.declared.given.Given.{Given}
-use Rattle.font_metrics.specs.Tables.{EntryOf, slot, entries, no_tables, all_tables, tables_of, AreFilled}
+use Rattle.font_metrics.specs.Tables.{EntryOf, slot, entries, no_tables, all_tables, AreFilled}
 use Rattle.font_metrics.specs.Taken.{IsEntry, IsTable}
 use Rattle.font_metrics.proofs.ReadBack.Fields.{AreNamed}
 use Rattle.font_metrics.proofs.ReadBack.Following.{Follows, follows-append, follows-to, items-follow}
 use Rattle.font_metrics.proofs.ReadBack.Tables.{AreBelow, with_items, below, below-keys, below-more, below-all, below-zero}
 use Rattle.font_metrics.proofs.ReadBack.Taking.{Takes, takes-to, entry-taken}
-use Rattle.font_metrics.proofs.Slots.{stands}
+use Rattle.font_metrics.proofs.Slots.{put_each, put_each-same, are_other, are_distinct, all-distinct, AreAt, others-stay, put_each-at}
+use Rattle.font_metrics.proofs.TableKinds.Each.{kind}
 
 -- ---- what a table has at a place
 
@@ -76,18 +75,6 @@ at-place put words count most Is table place h adds =
 abbrev pub grown : Given → MetricsValue → Tables → Given
 grown given m tables = record given { glyphs = m.glyphs; tables = tables }
 
--- the tables in which these tables are put in turn
-abbrev put_each : List Table → ((t : Table) → ByGlyph (EntryOf t)) → Tables → Tables
-put_each [] new tables = tables
-put_each (t ∷ ts) new tables = put_each ts new ((slot t).put tables (new t))
-
-put_each-same : (ts : List Table) (new other : (t : Table) → ByGlyph (EntryOf t)) (tables : Tables)
-    → ((t : Table) → new t ≡ other t) → put_each ts new tables ≡ put_each ts other tables
-put_each-same [] new other tables h = refl
-put_each-same (t ∷ ts) new other tables h =
-    ap (λ (table : ByGlyph (EntryOf t)). put_each ts new ((slot t).put tables table)) (h t)
-    ∙ put_each-same ts new other ((slot t).put tables (other t)) h
-
 -- what the tables have at the places below a place
 abbrev pub tables-below : ℕ → Tables → Tables
 tables-below place tables = put_each all_tables (λ t. below place (entries t tables)) no_tables
@@ -102,47 +89,55 @@ tables-below-all count tables h =
     (λ t. table-all count (slot t).most ((slot t).Is count) (entries t tables) (h t))
 
 abbrev pub grown_to : Given → MetricsValue → ℕ → Given
-grown_to given m place = grown given m (tables-below place (tables_of m))
+grown_to given m place = grown given m (tables-below place m.tables)
 
 -- the lines of a place in a table take it to the next place, and leave the others
 table-grows : (given : Given) (m : MetricsValue) (t : Table) (place : ℕ) (tables : Tables) → AreNamed m.glyphs
-    → AreFilled (length m.glyphs) (tables_of m) → place < length m.glyphs
-    → Follows (grown given m ((slot t).put tables (below place (entries t (tables_of m)))))
+    → AreFilled (length m.glyphs) m.tables → place < length m.glyphs
+    → Follows (grown given m ((slot t).put tables (below place (entries t m.tables))))
     (table_lines m place t)
-    (grown given m ((slot t).put tables (below (place + 1) (entries t (tables_of m)))))
+    (grown given m ((slot t).put tables (below (place + 1) (entries t m.tables))))
 table-grows given m t place tables n h low =
     let count = length m.glyphs in
     at-place (λ table. grown given m ((slot t).put tables table)) (entry_words t m.glyphs place) count (slot t).most
-    ((slot t).Is count) (entries t (tables_of m)) place (h t)
+    ((slot t).Is count) (entries t m.tables) place (h t)
     (λ had x is room.
     let given' = grown given m ((slot t).put tables had) in
-    takes-to given' (entry_words t m.glyphs place x) _ _ (ap (grown given m) ((stands t).entry-at-put tables had place x))
+    takes-to given' (entry_words t m.glyphs place x) _ _ (ap (grown given m) ((kind t).stands.entry-at-put tables had place x))
     (entry-taken given' t place x n low is
-    (subst (λ (table : ByGlyph (EntryOf t)). length (items_of table place) < (slot t).most) (sym ((stands t).at-put tables had)) room)))
+    (subst (λ (table : ByGlyph (EntryOf t)). length (items_of table place) < (slot t).most) (sym ((kind t).stands.at-put tables had)) room)))
 
--- the lists of a place in turn take all tables to the next place
+-- the lines of a place in these tables in turn take them to the next place
+tables-grow : (given : Given) (m : MetricsValue) (place : ℕ) (ts : List Table) (tables : Tables) → AreNamed m.glyphs
+    → AreFilled (length m.glyphs) m.tables → place < length m.glyphs → are_distinct ts ≡ true
+    → AreAt ts (λ t. below place (entries t m.tables)) tables
+    → Follows (grown given m tables) (flat_map (table_lines m place) ts)
+    (grown given m (put_each ts (λ t. below (place + 1) (entries t m.tables)) tables))
+tables-grow given m place [] tables n h low distinct at = refl
+tables-grow given m place (t ∷ ts) tables n h low distinct at =
+    let next = λ (t : Table). below (place + 1) (entries t m.tables) in
+    let now = λ (t : Table). below place (entries t m.tables) in
+    let one = (slot t).put tables (next t) in
+    let p = and_parts (are_other t ts) (are_distinct ts) distinct in
+    let same : (slot t).put tables (now t) ≡ tables =
+    ap (λ (table : ByGlyph (EntryOf t)). (slot t).put tables table) (sym at.0) ∙ (kind t).stands.put-at tables in
+    follows-append (grown given m tables) (grown given m one) (grown given m (put_each ts next one)) (table_lines m place t)
+    (flat_map (table_lines m place) ts)
+    (subst (λ (before : Tables). Follows (grown given m before) (table_lines m place t) (grown given m one)) same
+    (table-grows given m t place tables n h low))
+    (tables-grow given m place ts one n h low p.1 (others-stay t (next t) ts now tables p.0 at.1))
+
+-- the lines of a place take all tables to the next place
 grows-at : (given : Given) (m : MetricsValue) (place : ℕ) → AreNamed m.glyphs
-    → AreFilled (length m.glyphs) (tables_of m) → place < length m.glyphs
+    → AreFilled (length m.glyphs) m.tables → place < length m.glyphs
     → Follows (grown_to given m place) (growth_lines m place) (grown_to given m (place + 1))
 grows-at given m place n h low =
-    let all = tables_of m in
-    let none = tables-below place all in
-    let next = λ (t : Table). below (place + 1) (entries t all) in
-    let one = (slot (Variants Block)).put none (next (Variants Block)) in
-    let two = (slot (Variants Inline)).put one (next (Variants Inline)) in
-    let three = (slot (Parts Block)).put two (next (Parts Block)) in
-    let four = (slot (Parts Inline)).put three (next (Parts Inline)) in
-    follows-append (grown given m none) (grown given m one) (grown given m four) (table_lines m place (Variants Block)) _
-    (table-grows given m (Variants Block) place none n h low)
-    (follows-append (grown given m one) (grown given m two) (grown given m four) (table_lines m place (Variants Inline)) _
-    (table-grows given m (Variants Inline) place one n h low)
-    (follows-append (grown given m two) (grown given m three) (grown given m four) (table_lines m place (Parts Block)) _
-    (table-grows given m (Parts Block) place two n h low)
-    (follows-append (grown given m three) (grown given m four) (grown given m four) (table_lines m place (Parts Inline)) []
-    (table-grows given m (Parts Inline) place three n h low) refl)))
+    let now = λ (t : Table). below place (entries t m.tables) in
+    tables-grow given m place all_tables (tables-below place m.tables) n h low all-distinct
+    (put_each-at all_tables now no_tables all-distinct)
 
 pub grows-from : (given : Given) (m : MetricsValue) (from count : ℕ) → AreNamed m.glyphs
-    → AreFilled (length m.glyphs) (tables_of m) → from + count ≤ length m.glyphs
+    → AreFilled (length m.glyphs) m.tables → from + count ≤ length m.glyphs
     → Follows (grown_to given m from) (flat_map (growth_lines m) (range_with_len from count))
     (grown_to given m (from + count))
 grows-from given m from zero n h few = ap (grown_to given m) (sym (add-zero from))

@@ -1,15 +1,13 @@
 -- Reading the print of metrics gives the same metrics.
 use Rattle.std.proofs.Common.{◌≡◌, ◌∙◌, ap, sym, refl, ℕ, ◌≤◌, ◌+◌, true, List, [], ◌∷◌, ◌++◌, length, map, flat_map, codes, Option, Some, None, IfSome, IsSome, Ok, arith, zero-add}
 use Rattle.std.specs.List.{join_with_byte, range_with_len}
-use Rattle.op_dictionary.specs.declared.operator.Axis.TheVariants.{Block, Inline}
 use Rattle.font_metrics.specs.declared.given.Given.{Given}
-use Rattle.font_metrics.specs.declared.table.Table.TheVariants.{Variants, Parts}
 use Rattle.font_metrics.specs.Faults.{step_map}
 use Rattle.font_metrics.specs.Lines.{Words}
 use Rattle.font_metrics.specs.Metrics.{MetricsValue, place_of_name}
 use Rattle.font_metrics.specs.Print.{version_words, upem_words, line_words, x_height_words, overlap_lines, constant_words, glyph_words, character_words, growth_lines, operator_words, line_text, print_of, PrintReadsBack}
 use Rattle.font_metrics.specs.Reading.{lines_of, nothing, is_foreign, words_of, after, after_first, kept, given_from, given_by, fault_or, first_fault_behind, needed_of, metrics_with, finished, numbered, metrics_or, metrics_of}
-use Rattle.font_metrics.specs.Tables.{no_tables, tables_of, AreFilled}
+use Rattle.font_metrics.specs.Tables.{no_tables}
 use Rattle.font_metrics.specs.Taken.{IsTaken}
 use Rattle.font_metrics.proofs.Forward.{given_from-push}
 use Rattle.font_metrics.proofs.ReadBack.Feeds.{are_words, lines-printed}
@@ -69,7 +67,7 @@ given_for m = record {
   constants = m.constants;
   glyphs = m.glyphs;
   characters = m.characters;
-  tables = tables_of m;
+  tables = m.tables;
   operators = m.operators;
 }
 
@@ -101,26 +99,20 @@ overlap-follows given (Some least) h =
 are-named : (m : MetricsValue) → IsTaken m → AreNamed m.glyphs
 are-named m h = record { distinct = h.names; names = λ place low. (h.glyphs place _ low).name }
 
-are-filled : (m : MetricsValue) → IsTaken m → AreFilled (length m.glyphs) (tables_of m)
-are-filled m h (Variants Block) = h.variants.0
-are-filled m h (Variants Inline) = h.variants.1
-are-filled m h (Parts Block) = h.parts.0
-are-filled m h (Parts Inline) = h.parts.1
-
 growth-none : (given : Given) (m : MetricsValue) → grown given m no_tables ≡ grown_to given m 0
-growth-none given m = ap (grown given m) (sym (tables-below-zero (tables_of m)))
+growth-none given m = ap (grown given m) (sym (tables-below-zero m.tables))
 
 growth-all : (given : Given) (m : MetricsValue) → IsTaken m
-    → grown_to given m (length m.glyphs) ≡ grown given m (tables_of m)
-growth-all given m h = ap (grown given m) (tables-below-all (length m.glyphs) (tables_of m) (are-filled m h))
+    → grown_to given m (length m.glyphs) ≡ grown given m m.tables
+growth-all given m h = ap (grown given m) (tables-below-all (length m.glyphs) m.tables h.tables)
 
 growth-follows : (given : Given) (m : MetricsValue) → IsTaken m
     → Follows (grown given m no_tables)
     (flat_map (growth_lines m) (range_with_len 0 (length m.glyphs)))
-    (grown given m (tables_of m))
+    (grown given m m.tables)
 growth-follows given m h =
     let count = length m.glyphs in
-    let grows = grows-from given m 0 count (are-named m h) (are-filled m h) (omega arith) in
+    let grows = grows-from given m 0 count (are-named m h) h.tables (omega arith) in
     rw (growth-none given m)
     (follows-to (grown_to given m 0) (grown_to given m (0 + count)) _ _
     (ap (grown_to given m) (zero-add count) ∙ growth-all given m h) grows)
@@ -147,7 +139,7 @@ printed-follows m h =
     let constants = record overlap { constants = m.constants } in
     let glyphs = record constants { glyphs = m.glyphs } in
     let characters = record glyphs { characters = m.characters } in
-    let growth = grown characters m (tables_of m) in
+    let growth = grown characters m m.tables in
     let glyph_by_glyph = flat_map (growth_lines m) (range_with_len 0 (length m.glyphs)) in
     let first = upem_words m.upem ∷ line_words m.line_ascent m.line_descent ∷ x_height_words m.x_height ∷ [] in
     let front = first ++ overlap_lines m.overlap in

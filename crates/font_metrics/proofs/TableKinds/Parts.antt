@@ -15,7 +15,7 @@ use Rattle.font_metrics.proofs.ReadBack.Choices.{extender_in-text}
 use Rattle.font_metrics.proofs.ReadBack.Printed.{extender-word}
 use Rattle.font_metrics.specs.Taken.{IsPart}
 use Rattle.font_metrics.proofs.EachKind.{is_length, length_range, named_range}
-use Rattle.font_metrics.proofs.TableKinds.Kind.{IsKeyword, IsKind}
+use Rattle.font_metrics.proofs.TableKinds.Kind.{Stands, IsKeyword, IsKind}
 use Rattle.font_metrics.proofs.ReadBack.Fields.{AreNamed, named, length_in-signed, length-itself}
 use Rattle.font_metrics.proofs.ReadBack.FieldWords.{length-word, place-word}
 use Rattle.font_metrics.proofs.ReadBack.Joined.{is_word}
@@ -59,7 +59,7 @@ wider old new more p is = record {
   full = is.full;
 }
 
-part-many : (glyphs : List NamedGlyph) (fields : Words) → 6 < length fields → part_in glyphs fields ≡ Err FieldCount
+part-many : (glyphs : List NamedGlyph) (fields : Words) → 36 < length fields → part_in glyphs fields ≡ Err FieldCount
 part-many glyphs [] more = absurd (omega arith)
 part-many glyphs (a ∷ []) more = absurd (omega arith)
 part-many glyphs (a ∷ b ∷ []) more = absurd (omega arith)
@@ -105,8 +105,13 @@ unfolding keyword_of
 keyword Block = record { word = refl; names = refl; other = λ word words. refl }
 keyword Inline = record { word = refl; names = refl; other = λ word words. refl }
 
+stands : (axis : Axis) → Stands (Parts axis)
+stands Block = record { at-put = λ tables table. refl; put-at = λ tables. refl; entry-at-put = λ tables table place x. refl; none = refl; own = λ xs. refl }
+stands Inline = record { at-put = λ tables table. refl; put-at = λ tables. refl; entry-at-put = λ tables table place x. refl; none = refl; own = λ xs. refl }
+
 pub parts_kind : (axis : Axis) → IsKind (Parts axis)
 parts_kind axis = record {
+  stands = stands axis;
   keyword = keyword axis;
   range = part_range;
   wider = wider;

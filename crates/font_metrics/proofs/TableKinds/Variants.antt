@@ -11,7 +11,7 @@ use Rattle.font_metrics.specs.Lines.{Words, keyword_of, length_in, named_in, var
 use Rattle.font_metrics.specs.Metrics.{NamedGlyph, name_in_list}
 use Rattle.font_metrics.specs.Taken.{IsVariant}
 use Rattle.font_metrics.proofs.EachKind.{is_length, length_range, named_range}
-use Rattle.font_metrics.proofs.TableKinds.Kind.{IsKeyword, IsKind}
+use Rattle.font_metrics.proofs.TableKinds.Kind.{Stands, IsKeyword, IsKind}
 use Rattle.font_metrics.proofs.ReadBack.Fields.{AreNamed, named, length_in-signed, length-itself}
 use Rattle.font_metrics.proofs.ReadBack.FieldWords.{length-word, place-word}
 use Rattle.font_metrics.proofs.ReadBack.Joined.{is_word}
@@ -38,7 +38,7 @@ variant_range glyphs (a ∷ b ∷ c ∷ d ∷ more) v h = no_value FieldCount v 
 wider : (old new : ℕ) → old ≤ new → (v : Variant) → IsVariant old v → IsVariant new v
 wider old new more v is = record { glyph = let at = is.glyph in omega (arith, at, more); measure = is.measure }
 
-variant-many : (glyphs : List NamedGlyph) (fields : Words) → 6 < length fields → variant_in glyphs fields ≡ Err FieldCount
+variant-many : (glyphs : List NamedGlyph) (fields : Words) → 36 < length fields → variant_in glyphs fields ≡ Err FieldCount
 variant-many glyphs [] more = absurd (omega arith)
 variant-many glyphs (a ∷ []) more = absurd (omega arith)
 variant-many glyphs (a ∷ b ∷ []) more = absurd (omega arith)
@@ -66,8 +66,13 @@ unfolding keyword_of
 keyword Block = record { word = refl; names = refl; other = λ word words. refl }
 keyword Inline = record { word = refl; names = refl; other = λ word words. refl }
 
+stands : (axis : Axis) → Stands (Variants axis)
+stands Block = record { at-put = λ tables table. refl; put-at = λ tables. refl; entry-at-put = λ tables table place x. refl; none = refl; own = λ xs. refl }
+stands Inline = record { at-put = λ tables table. refl; put-at = λ tables. refl; entry-at-put = λ tables table place x. refl; none = refl; own = λ xs. refl }
+
 pub variants_kind : (axis : Axis) → IsKind (Variants axis)
 variants_kind axis = record {
+  stands = stands axis;
   keyword = keyword axis;
   range = variant_range;
   wider = wider;

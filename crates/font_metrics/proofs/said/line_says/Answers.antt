@@ -38,7 +38,3 @@ returns-in-Glyph-clause-value c =
 pub returns-in-Char-clause-value : goal.returns-in-Char-clause-value
 returns-in-Char-clause-value c =
     by_word c.args.glyphs.now (lent c.args.fields.now) c.args.keyword _ _ c.in-Char.is c.character_line.ensures
-
-pub returns-in-Table-clause-value : goal.returns-in-Table-clause-value
-returns-in-Table-clause-value c =
-    by_word c.args.glyphs.now (lent c.args.fields.now) c.args.keyword _ _ c.in-Table.is c.entry_line.ensures

@@ -1,6 +1,6 @@
 use Rattle.std.proofs.Common.{◌≡◌, ◌∙◌, ◌++◌, ◌∷◌, ap, sym, []}
 use Rattle.std.specs.Option.{option_copied_mut}
-use Rattle.font_metrics.specs.Kept.{lists_of_entries}
+use Rattle.font_metrics.specs.Listed.{lists_of_entries}
 use Rattle.font_metrics.specs.Metrics.{with_item}
 use Rattle.font_metrics.proofs.Listed.{added_to, begun_in}
 use Rattle.font_metrics.proofs.by_glyph.ByGlyph.add.Goals as goal

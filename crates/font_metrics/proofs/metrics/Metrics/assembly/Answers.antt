@@ -9,7 +9,7 @@ use Rattle.font_metrics.proofs.metrics.Metrics.assembly.Goals as goal
 pub returns-clause-value : goal.returns-clause-value
 unfolding parts_of
 returns-clause-value c =
-    c.items.ensures ∙ ap (λ (m : MetricsValue). items_of (along c.args.axis m.parts) c.args.glyph.0) c.self.view_is
+    c.items.ensures ∙ ap (λ (m : MetricsValue). items_of (along c.args.axis m.tables.parts) c.args.glyph.0) c.self.view_is
 
 pub returns-clause-items : goal.returns-clause-items
 returns-clause-items c =

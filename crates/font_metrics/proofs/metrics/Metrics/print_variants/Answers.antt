@@ -1,7 +1,10 @@
+use Rattle.std.proofs.Common.{◌∙◌, ◌++◌, ap, List, map, flat_map}
+use Rattle.std.proofs.lemmas.List.{take_all}
 use Rattle.std.proofs.lemmas.Option.{slice_get-get_or}
-use Rattle.font_metrics.specs.Metrics.{name_at}
+use Rattle.font_metrics.specs.declared.growth.Variant.{Variant}
+use Rattle.font_metrics.specs.Metrics.{name_at, variants_of}
 use Rattle.font_metrics.specs.declared.table.Table.TheVariants.{Variants}
-use Rattle.font_metrics.specs.Print.{entry_words}
+use Rattle.font_metrics.specs.Print.{entry_words, line_text}
 use Rattle.font_metrics.proofs.Printing.{front-more}
 use Rattle.font_metrics.proofs.metrics.Metrics.print_variants.Goals as goal
 
@@ -12,3 +15,11 @@ loop-variant-preserved c =
     c.variants-variant-items.result.now c.loop-variant.variant-index _ _ _ _
     (slice_get-get_or c.variants-variant-items.result.now c.loop-variant.variant-index _ c.loop-variant-test.true)
     c.loop-variant.invariant (rw (c.name-name.ensures, c.name.ensures, c.variant_keyword-keyword.ensures) at c.in_ok-add_variant.ensures)
+
+pub returns : goal.returns
+unfolding variants_of
+returns c =
+    let items = c.variants-variant-items.result.now in
+    c.loop-variant.invariant
+    ∙ ap (λ (items : List Variant). c.args.lines.now ++ flat_map line_text (map (entry_words (Variants c.args.axis) c.args.self.now.glyphs c.args.base.0) items))
+    (take_all c.loop-variant.variant-index items c.loop-variant-test.false ∙ c.variants-variant-items.ensures.value)

@@ -9,7 +9,7 @@ use Rattle.font_metrics.proofs.metrics.Metrics.variants.Goals as goal
 pub returns-clause-value : goal.returns-clause-value
 unfolding variants_of
 returns-clause-value c =
-    c.items.ensures ∙ ap (λ (m : MetricsValue). items_of (along c.args.axis m.variants) c.args.glyph.0) c.self.view_is
+    c.items.ensures ∙ ap (λ (m : MetricsValue). items_of (along c.args.axis m.tables.variants) c.args.glyph.0) c.self.view_is
 
 pub returns-clause-items : goal.returns-clause-items
 returns-clause-items c =
