@@ -1,4 +1,4 @@
-ghost use Rattle.std.specs.Prelude.{◌≡◌, ◌≤◌, ◌<◌, ◌+◌, ◌∷◌, ◌++◌, [], length, is_some, true, Some};
+ghost use Rattle.std.specs.Prelude.{◌≡◌, ◌≤◌, ◌<◌, ◌+◌, ◌∷◌, ◌++◌, [], length, is_some, true, false, Some, None};
 ghost use Rattle.std.specs.List.{AllByRecursion};
 ghost use Rattle.math_tree.specs.Forms.{most_levels};
 ghost use Rattle.math_tree.specs.Trees.{listed};
@@ -33,13 +33,12 @@ impl Path {
         }
     }
 
-    /// The way from one level higher, where this one begins at the child at a place.
-    fn under(mut self, place: usize) -> Path
-        requires { length self < 59 }
-        ensures { result ≡ place ∷ self }
+    /// The way from one level higher, where it begins at the child at a place.
+    fn begin_at(&mut self, place: usize)
+        requires { length self.old < 59 }
+        ensures { self.new ≡ place ∷ self.old }
     {
         self.places.insert(0, place);
-        self
     }
 
     /// The level of the element that it leads to, where it begins at the root, which has level 1.
@@ -67,21 +66,40 @@ impl Path {
 }
 
 /// The way to the element of an id, from an element at that level down.
-#[tactic(auto, using(crate::proofs::Paths::leads_here, crate::proofs::Paths::leads_further, crate::proofs::Paths::level_within, crate::proofs::Paths::in_child, crate::proofs::Paths::none_more, crate::proofs::Paths::none_in))]
 pub fn path_to(node: &Node, id: NodeId, level: usize) -> Option<Path>
     requires shallow { AllByRecursion (λ e. e.level ≤ most_levels) (listed level node.now) }
     requires level { 1 ≤ level }
     ensures { Finds id.0 level node.now result }
 {
+    let mut path = Path::here();
+    if find(node, id, level, &mut path) {
+        Some(path)
+    } else {
+        None
+    }
+}
+
+/// The same, written where it is wanted. All elements are looked at for most ids, so none of them makes
+/// room for a way of its own.
+#[tactic(auto, using(crate::proofs::Paths::leads_here, crate::proofs::Paths::leads_further, crate::proofs::Paths::level_within, crate::proofs::Paths::in_child, crate::proofs::Paths::none_more, crate::proofs::Paths::none_in))]
+fn find(node: &Node, id: NodeId, level: usize, path: &mut Path) -> bool
+    requires shallow { AllByRecursion (λ e. e.level ≤ most_levels) (listed level node.now) }
+    requires level { 1 ≤ level }
+    requires empty { path.old ≡ [] }
+    ensures found { result ≡ true → Finds id.0 level node.now (Some path.new) }
+    ensures nowhere { result ≡ false → Finds id.0 level node.now None }
+    ensures still { result ≡ false → path.new ≡ [] }
+{
     if node.head.id.0 == id.0 {
-        return Some(Path::here());
+        return true;
     }
     for (place, child) in node.children.as_slice().iter().enumerate() {
-        if let Some(path) = path_to(child, id, level + 1) {
-            return Some(path.under(place));
+        if find(child, id, level + 1, path) {
+            path.begin_at(place);
+            return true;
         }
     }
-    None
+    false
 }
 
 /// The element at the end of a way.
