@@ -8,10 +8,12 @@ from .values import Fields
 
 OUT_OF_RANGE = "range"
 REFUSED = "refused"
+FRESH_SAME = "fresh same"
 
 
 def steps(reference, known, value):
-    """How many layouts are made at the start and by each edit of a script, and how many are kept after each."""
+    """How many layouts are made at the start and by each edit of a script, and how many are kept after each. What is kept
+    in the end is what a fresh layout gives."""
     fields = Fields(value, "metrics", "tree", "script")
     script = fields.items("script", lambda _line: True)
     tree = tree_of(reference, fields.value("tree"))
@@ -20,7 +22,7 @@ def steps(reference, known, value):
     if not layouts.is_in_range(tree):
         return OUT_OF_RANGE
     held = Held(reference, layouts, tree)
-    return "; ".join([made(len(held.kept), held.kept), *(held.answer(text_of(line)) for line in script)])
+    return "; ".join([made(len(held.kept), held.kept), *(held.answer(text_of(line)) for line in script), FRESH_SAME])
 
 
 def tree_of(reference, value):

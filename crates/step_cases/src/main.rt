@@ -1,5 +1,6 @@
 //! The program `step_cases`: it lays trees out, edits them and sweeps what is kept, as lines of its
-//! standard input say, and writes how many layouts were made each time and how many are kept.
+//! standard input say, and writes how many layouts were made each time, how many are kept, and whether
+//! the kept layout is in the end the one that is made afresh.
 //!
 //! `stdin` has the cases, and `stdout` what must come of them, which was found out by a second
 //! program (docs/CASES.md has the format and says how). The gate runs this program and compares.

@@ -1,4 +1,5 @@
-//! `steps`: how many layouts are made of a tree, at the start and by each edit of a script.
+//! `steps`: how many layouts are made of a tree, at the start and by each edit of a script, and whether what
+//! is kept in the end is what a fresh layout gives.
 //!
 //! A step is a layout that is made. How many were taken can't be read, since they take no bytes; but a pass
 //! that is done keeps as many layouts more as it made, so what is kept is counted before it and after it.
@@ -9,6 +10,7 @@ ghost use Rattle.tree_edits.specs.Applying.{IsProperEdit};
 use case_format::{Case, Fault, Fields};
 use fixed_units::{LayRefusal, Steps};
 use font_metrics::Metrics;
+use layout_core::{Laid, lay_fresh};
 use math_tree::{Tree, TreeRefusal, read_tree};
 use memo_tree::MemoTree;
 use serde_json::Value;
@@ -20,6 +22,10 @@ use tree_edits::{Command, CommandRefusal, Edit, EditRefusal, read_command};
 const REFUSED: &str = "refused";
 
 const OUT_OF_RANGE: &str = "range";
+
+const FRESH_SAME: &str = "; fresh same";
+
+const FRESH_OTHER: &str = "; fresh other";
 
 /// Adds the words of the answer.
 pub fn answer(case: Case, words: &mut String) -> Result<(), Fault> {
@@ -72,7 +78,8 @@ fn add_counted<L: Ledger>(
         Ok(mut laid) => {
             let made = laid.kept();
             add_made(made, made, words)?;
-            add_lines(alloc, &mut laid, script, words, &mut steps)
+            add_lines(alloc, &mut laid, script, words, &mut steps)?;
+            add_fresh(alloc, &laid, words, &mut steps)
         }
         Err(refusal) => add_refusal(refusal, words),
     }
@@ -95,6 +102,7 @@ fn add_lines<L: Ledger>(
     steps: &mut Steps<L>,
 ) -> Result<(), Fault>
     requires { IsIn Sealed laid.old }
+    ensures { OnOk result (IsIn Sealed laid.new) }
 {
     for value in script {
         words.push_str("; ")?;
@@ -154,6 +162,29 @@ fn add_edit<L: Ledger>(
             add_refusal(refusal, words)
         }
     }
+}
+
+/// Adds whether the layout that is kept is the one that is made afresh of a copy of the tree.
+fn add_fresh<L: Ledger>(
+    alloc: Global,
+    laid: &MemoTree,
+    words: &mut String,
+    steps: &mut Steps<L>,
+) -> Result<(), Fault>
+    requires { IsIn Sealed laid.now }
+{
+    let kept = laid.laid(alloc)?;
+    let tree = laid.tree().copy(alloc)?;
+    match lay_fresh(alloc, &tree, laid.metrics(), steps) {
+        Ok(fresh) if is_same(alloc, &kept, &fresh)? => add_word(FRESH_SAME, words),
+        Ok(_) => add_word(FRESH_OTHER, words),
+        Err(refusal) => add_refusal(refusal, words),
+    }
+}
+
+/// Whether two layouts are the same, as they are printed.
+fn is_same(alloc: Global, one: &Laid, other: &Laid) -> Result<bool, Fault> {
+    Ok(format!(in alloc; "{one:?}")? == format!(in alloc; "{other:?}")?)
 }
 
 fn add_made(made: usize, kept: usize, words: &mut String) -> Result<(), Fault> {
