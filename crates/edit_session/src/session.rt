@@ -5,6 +5,7 @@ ghost use Rattle.layout_model.specs.Layout.{is_tree_in_range};
 ghost use Rattle.tree_edits.specs.Applying.{IsProperEdit};
 ghost use Rattle.tree_edits.specs.Edits.{refusal_of};
 ghost use Rattle.kept_results.specs.Ends.{kept_count};
+ghost use Rattle.kept_results.specs.Laws.{AllKept};
 ghost use Rattle.kept_edits.specs.ByIds.{TakesNeeded};
 ghost use Rattle.kept_sweep.specs.Swept.{CountsNeeded, IsPartOf};
 ghost use Rattle.memo_tree.specs.States.{IsIn, Sealed};
@@ -29,7 +30,13 @@ use tree_edits::Edit;
 #[derive(Drop)]
 pub struct Session {
     layouts: MemoTree,
+    /// How many edits were accepted since what isn't needed was dropped.
+    unswept: u32,
 }
+
+/// So many edits are accepted before layouts that aren't needed any more are dropped: few, since all that
+/// are kept of an element are looked through for one, and many, since dropping goes over the whole tree.
+const MOST_UNSWEPT: u32 = 64;
 
 impl Model for Session {
     ghost use Rattle.std.specs.Coded.{codes};
@@ -67,7 +74,8 @@ impl Session {
         ensures all { IfOk result (λ session. steps.new ≡ steps.old + kept_count session.memo) }
     {
         let layouts = MemoTree::start(alloc, tree, metrics, steps)?;
-        Ok(Session { layouts })
+        let unswept = 0;
+        Ok(Session { layouts, unswept })
     }
 
     /// Carries an edit out, and makes the layouts that the edited tree needs and that aren't kept, each of
@@ -92,6 +100,7 @@ impl Session {
         match self.layouts.relay(alloc, steps) {
             Ok(()) => {
                 self.layouts.seal();
+                self.drop_in_time();
                 Ok(())
             }
             Err(refusal) => {
@@ -100,6 +109,28 @@ impl Session {
                 Err(refusal.into())
             }
         }
+    }
+
+    /// Counts an accepted edit, and drops what isn't needed any more where there were many.
+    fn drop_in_time(&mut self)
+        ensures { self.new.held ≡ self.old.held }
+    {
+        if self.unswept < MOST_UNSWEPT {
+            self.unswept += 1;
+        } else {
+            self.drop_needless();
+        }
+    }
+
+    /// Drops all layouts but those that the one of the tree needs.
+    fn drop_needless(&mut self)
+        ensures held { self.new.held ≡ self.old.held }
+        ensures kept { IsSwept self.new }
+        ensures part { IsPartOf self.new.memo self.old.memo }
+        ensures few { kept_count self.new.memo ≤ 131_072 }
+    {
+        self.layouts.sweep();
+        self.unswept = 0;
     }
 
     /// Says where the boxes and the marks of the tree stand, in document order: the root's baseline
@@ -112,7 +143,7 @@ impl Session {
         ensures part { IsPartOf self.new.memo self.old.memo }
         ensures few { kept_count self.new.memo ≤ 131_072 }
     {
-        self.layouts.sweep();
+        self.drop_needless();
         self.placed(alloc)
     }
 
@@ -162,6 +193,7 @@ impl Session {
     pub fn layouts(&self) -> &MemoTree
         ensures exact { session_of result.now ≡ self.now }
         ensures agrees { IsIn Sealed result.now }
+        ensures needed { AllKept result.now.metrics result.now.tree.root (context_of result.now.metrics result.now.tree) result.now.memo }
     {
         &self.layouts
     }
