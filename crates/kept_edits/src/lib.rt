@@ -6,8 +6,9 @@
 //!
 //! - Models: this project's own; MathML Core says nothing of it.
 //! - Proved: after the same change of both, memos agree with the tree again, and taking the change back
-//!   gives the memos that were there before (`laws`).
-//! - Knows nothing of: which edits are refused, and layout.
+//!   gives the memos that were there before; each step of a pass after an edit is a layout that the
+//!   edit needs, told by ids, none twice (`laws`).
+//! - Knows nothing of: how an edit is carried out on the tree, and how an element is laid out.
 //! - Change what an edit does to memos: `specs/Changed.antt`, then `src/change.rt`.
 #![tactic(auto)]
 
@@ -15,9 +16,7 @@ mod blanks; // memos of elements that were never laid out
 mod change; // MemoChange, change_memo, undo_memo
 mod known; // known_on
 pub mod laws; // of the definitions
-mod passing; // a pass after an edit
 
 pub use blanks::blank;
 pub use change::{MemoChange, change_memo, undo_memo};
 pub use known::known_on;
-pub use passing::pass;
