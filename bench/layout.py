@@ -45,11 +45,13 @@ def tree(rows, group):
 
 
 def nested(pairs):
-    """Scripts of parentheses in rows, each in the script of the one before: a parenthesis is asked with a stretch, too."""
-    inside = ("mo", "(")
+    """Parentheses with a subscript, each in a row that stands in the subscript of the one before. A row asks the subscript
+    twice, the second time with a stretch, so that laid out afresh each time the work doubles with each row."""
+    inside = {"name": "mi", "text": "x"}
     for _ in range(pairs):
-        inside = ("mrow", (("msub", (("mo", "("), inside)),))
-    return element("math", (inside,))
+        parenthesis = {"name": "mo", "text": "(", "attributes": {"maxsize": "1em"}}
+        inside = {"name": "mrow", "children": [{"name": "msub", "children": [parenthesis, inside]}]}
+    return {"name": "math", "children": [inside]}
 
 
 def rows_of(value, first=1):

@@ -1,4 +1,4 @@
-ghost use Rattle.std.specs.Prelude.{◌≡◌, ◌≤◌, ◌≢◌, ◌+◌, false, None, All, Err, IfOk, OnOk, IfErr, OnErr};
+ghost use Rattle.std.specs.Prelude.{◌≡◌, ◌≤◌, ◌≢◌, ◌+◌, ◌-◌, ◌^◌, min, false, None, All, Err, IfOk, OnOk, IfErr, OnErr};
 ghost use Rattle.box_writer.specs.Items.{IsOfFont};
 ghost use Rattle.fixed_units.specs.declared.refusal.LayRefusal.TheVariants.{Range};
 ghost use Rattle.layout_model.specs.Layout.{is_tree_in_range};
@@ -113,6 +113,14 @@ impl Session {
         ensures few { kept_count self.new.memo ≤ 131_072 }
     {
         self.layouts.sweep();
+        self.placed(alloc)
+    }
+
+    /// The boxes and the marks of the tree where they stand.
+    fn placed(&self, alloc: Global) -> Result<Placed, Memory>
+        ensures page { IfOk result (λ items. items ≡ page self.now.held) }
+        ensures glyphs { IfOk result (All (IsOfFont self.now.held.metrics)) }
+    {
         let laid = self.layouts.laid(alloc)?;
         // What placing needs to know of the tree: the calls do nothing.
         let _root = self.layouts.tree().root();
@@ -141,6 +149,13 @@ impl Session {
         ensures fit { IsInRange self.now.held }
     {
         self.layouts.root_box()
+    }
+
+    /// How many layouts are kept, and 2^64 - 1 where there are more.
+    pub fn kept(&self) -> usize
+        ensures { result ≡ min (kept_count self.now.memo) (2 ^ 64 - 1) }
+    {
+        self.layouts.kept()
     }
 
     /// The tree with the layouts that are kept of it. They agree with it, and its own is among them.
