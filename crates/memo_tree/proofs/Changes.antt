@@ -13,7 +13,7 @@ use Rattle.kept_edits.specs.Laws.{IsReadyFor}
 use Rattle.kept_edits.specs.declared.change.MemoChange.{MemoChange}
 use Rattle.kept_edits.specs.Passed.{TakesMissing}
 use Rattle.kept_edits.proofs.ToldById.{missing_need}
-use Rattle.memo_tree.specs.Counted.{MissingIsCounted, StepsLaw}
+use Rattle.memo_tree.specs.Counted.{EntriesStay, MissingIsCounted, StepsLaw}
 use Rattle.memo_tree.specs.Followed.{IsBefore, IsFollowed}
 use Rattle.memo_tree.specs.Reversing.{Reverses}
 use Rattle.memo_tree.specs.States.{IsChanged}
@@ -57,6 +57,14 @@ module _ (old : MemoTreeValue) (edit : Edit) (way : Way) (tree : TreeValue) (roo
       counted = λ pair missing from came need.
           let one = kept_law old.metrics old.tree.root old.memo (context_of old.metrics old.tree) laid.sealed.ready.agrees laid.sealed.kept record { path = from; context = pair.context } need in
           missing record { entry = one.entry; held = h.stays from pair.path one.entry came one.held; in_context = one.in_context };
+    }
+
+    pub stays : IsWhole old.tree → IsWhole tree → EntriesStay old edit record { tree = tree; metrics = old.metrics; memo = now }
+    stays whole after = record {
+      path = way.path;
+      change = is.change;
+      is = record { whole = whole; whole_after = subst IsWhole made after; to_end = is.leads; is = is.is; new = is.new };
+      stays = h.stays;
     }
 
 -- ---- the steps of a pass after it

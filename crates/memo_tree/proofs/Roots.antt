@@ -12,7 +12,7 @@ use Rattle.layout_model.specs.Layout.{in_range, is_tree_in_range, root_context}
 use Rattle.layout_model.specs.declared.context.Context.{Context}
 use Rattle.layout_model.specs.declared.context.Stretch.TheVariants.{None as Unstretched}
 use Rattle.kept_results.specs.Contexts.{Suits}
-use Rattle.kept_results.specs.Ends.{kept_count, sealed, settled}
+use Rattle.kept_results.specs.Ends.{kept_count, sealed, settled, stripped}
 use Rattle.kept_results.specs.Kept.{Agrees, HoldsOne, IsKept}
 use Rattle.kept_results.specs.Passes.{Needs, Passes}
 use Rattle.kept_results.specs.Tidy.{IsTidy}
@@ -23,7 +23,7 @@ use Rattle.kept_laid.proofs.Few.{limit_law}
 use Rattle.kept_edits.specs.Need.{IsSealedFor}
 use Rattle.kept_edits.specs.Passed.{TakesMissing}
 use Rattle.kept_sweep.specs.Swept.{KeepsNeeded}
-use Rattle.memo_tree.specs.States.{IsPassed}
+use Rattle.memo_tree.specs.States.{IsChanged, IsPassed, IsStopped}
 use Rattle.memo_tree.specs.Trees.{IsLaidOut, MemoTreeValue, context_of}
 
 abbrev pub of_style : Style → Context
@@ -76,17 +76,28 @@ pub takes_missing : (m : MetricsValue) (node : Node) (context : Context) (before
     → Passes m node (Needs m node context) before after from to done → TakesMissing m node context before from to
 takes_missing m node context before after from to done h = record { pairs = h.pairs; steps = h.steps; needed = h.needed_all; missing = h.missing; apart = h.apart }
 
-pub passed_of : (m : MetricsValue) (tree : TreeValue) (memo : Memo) → Agrees m tree.root memo → IsKept (out-Memo memo) (context_of m tree) → IsTidy memo
-    → IsPassed record { tree = tree; metrics = m; memo = memo }
-passed_of m tree memo agrees kept tidy = record { agrees = agrees; kept = record { entry = kept.entry; held = kept.has; in_context = kept.in_context }; tidy = tidy }
+pub stopped_of : (m : MetricsValue) (tree : TreeValue) (before memo : Memo) → IsChanged record { tree = tree; metrics = m; memo = before } → Agrees m tree.root memo
+    → stripped memo ≡ before → IsStopped record { tree = tree; metrics = m; memo = memo }
+stopped_of m tree before memo changed agrees same = record {
+  agrees = agrees;
+  begun = subst (λ (z : Memo). IsChanged record { tree = tree; metrics = m; memo = z }) (sym same) changed;
+}
+
+pub passed_of : (m : MetricsValue) (tree : TreeValue) (memo : Memo) → IsStopped record { tree = tree; metrics = m; memo = memo }
+    → IsKept (out-Memo memo) (context_of m tree) → IsTidy memo → IsPassed record { tree = tree; metrics = m; memo = memo }
+passed_of m tree memo stopped kept tidy = record { stopped = stopped; kept = record { entry = kept.entry; held = kept.has; in_context = kept.in_context }; tidy = tidy }
+
+-- one that was taken back is as it was found
+pub taken_back : (laid : MemoTreeValue) (memo : Memo) → IsStopped laid → memo ≡ stripped laid.memo → IsChanged record { tree = laid.tree; metrics = laid.metrics; memo = memo }
+taken_back laid memo h is = subst (λ (z : Memo). IsChanged record { tree = laid.tree; metrics = laid.metrics; memo = z }) (sym is) h.begun
 
 -- a pass that was done is sealed
 pub sealed_pass : (laid : MemoTreeValue) (memo : Memo) → IsPassed laid → memo ≡ sealed laid.memo → IsLaidOut record { tree = laid.tree; metrics = laid.metrics; memo = memo }
 sealed_pass laid memo h is =
     let m = laid.metrics in
     let root = laid.tree.root in
-    let s = seal_law m root laid.memo h.agrees in
-    let own = (h.agrees.at [] root laid.memo (refl, refl)).sound h.kept.entry h.kept.held in
+    let s = seal_law m root laid.memo h.stopped.agrees in
+    let own = (h.stopped.agrees.at [] root laid.memo (refl, refl)).sound h.kept.entry h.kept.held in
     record {
       sealed = subst (IsSealedFor m root (context_of m laid.tree)) (sym is) record {
         ready = record { agrees = s.agrees; plain = s.plain };

@@ -1,5 +1,6 @@
 -- The states of a tree with its kept layouts, from one edit to the next.
 use Rattle.std.specs.Prelude.{[]}
+use Rattle.kept_results.specs.Ends.{stripped}
 use Rattle.kept_results.specs.Kept.{Agrees, HoldsOne}
 use Rattle.kept_results.specs.Tidy.{IsTidy}
 use Rattle.kept_edits.specs.Laws.{IsReadyFor}
@@ -20,16 +21,25 @@ pub record IsChanged (laid : MemoTreeValue) : Type 0 where
   pub ready : IsReadyFor laid.metrics laid.tree.root laid.memo
   pub tidy : IsTidy laid.memo
 
--- what is kept agrees with the tree, the layout of the root is among it, and nothing is marked or new below an element
+-- the same tree, without what the present pass made
+abbrev pub without_pass : MemoTreeValue → MemoTreeValue
+without_pass laid = record { tree = laid.tree; metrics = laid.metrics; memo = stripped laid.memo }
+
+-- what is kept agrees with the tree, and without what the pass made it is as a pass may find it
+pub record IsStopped (laid : MemoTreeValue) : Type 0 where
+  pub agrees : Agrees laid.metrics laid.tree.root laid.memo
+  pub begun : IsChanged (without_pass laid)
+
+-- so it is too where a pass was done; the layout of the root is kept, and nothing is marked or new below an element
 -- that the edit and the pass left alone
 pub record IsPassed (laid : MemoTreeValue) : Type 0 where
-  pub agrees : Agrees laid.metrics laid.tree.root laid.memo
+  pub stopped : IsStopped laid
   pub kept : HoldsOne [] laid.memo (context_of laid.metrics laid.tree)
   pub tidy : IsTidy laid.memo
 
 -- in each state what is kept agrees with the tree and the metrics
 abbrev pub IsIn : State → MemoTreeValue → Type 0
 IsIn Changed laid = IsChanged laid
-IsIn Stopped laid = Agrees laid.metrics laid.tree.root laid.memo
+IsIn Stopped laid = IsStopped laid
 IsIn Passed laid = IsPassed laid
 IsIn Sealed laid = IsLaidOut laid

@@ -7,8 +7,9 @@
 //!
 //! - Models: this project's own; MathML Core says nothing of it.
 //! - Proved: in each state what is kept agrees with the tree and the metrics, and before and after an
-//!   edit the layout of the root is among it (`specs/States.antt`); what isn't kept after an edit is
-//!   counted as needed anew (`specs/Counted.antt`); what is taken back is as it was, and takes no memory
+//!   edit the layout of the root is among it (`specs/States.antt`); what is kept of elements that an edit
+//!   leaves alone stays kept, and each step of `relay` after an edit is a layout that the edit needs, told
+//!   by ids, none twice (`specs/Counted.antt`); what is taken back is as it was, and takes no memory
 //!   (`specs/Reversing.antt`); and what is read is what a fresh layout gives.
 //! - Knows nothing of: how an element is laid out, and what is written of it.
 //! - Change what an edit does to what is kept: `src/following.rt`, and below it `kept_edits`. Change

@@ -9,7 +9,7 @@ ghost use Rattle.kept_laid.specs.Boxes.{box_in};
 ghost use Rattle.kept_edits.specs.Blank.{blank};
 ghost use Rattle.kept_edits.specs.Passed.{TakesMissing};
 ghost use Rattle.kept_sweep.specs.Swept.{CountsNeeded, IsPartOf, KeepsNeeded};
-ghost use Rattle.memo_tree.specs.Counted.{MissingIsCounted};
+ghost use Rattle.memo_tree.specs.Counted.{EntriesStay, MissingIsCounted};
 ghost use Rattle.memo_tree.specs.Reversing.{CanReverse, Reverses, reversed};
 ghost use Rattle.memo_tree.specs.States.{Changed, IsIn, Passed, Sealed, Stopped};
 ghost use Rattle.memo_tree.specs.Trees.{context_of, root_box};
@@ -110,6 +110,7 @@ impl MemoTree {
         ensures tree { OnOk result (self.new.tree ≡ edited self.old.tree edit) }
         ensures metrics { self.new.metrics ≡ self.old.metrics }
         ensures changed { OnOk result (IsIn Changed self.new) }
+        ensures stays { OnOk result (EntriesStay self.old edit self.new) }
         ensures counted { OnOk result (MissingIsCounted self.old edit self.new) }
         ensures reversal { IfOk result (λ reversal. Reverses reversal self.new self.old) }
         ensures refused { IfErr result (IsReason self.old.tree edit) }
@@ -131,7 +132,8 @@ impl MemoTree {
 
     /// Takes a change back. It takes no memory.
     pub fn undo_change(&mut self, reversal: Reversal)
-        requires { CanReverse reversal self.old }
+        requires changed { IsIn Changed self.old }
+        requires fits { CanReverse reversal self.old }
         ensures { self.new ≡ reversed reversal self.old }
     {
         reversal.take_back(&mut self.tree, &mut self.memo);
@@ -171,9 +173,11 @@ impl MemoTree {
 
     /// Takes a pass back: what it made is dropped. It takes no memory.
     pub fn undo_pass(&mut self)
+        requires stopped { IsIn Stopped self.old }
         ensures tree { self.new.tree ≡ self.old.tree }
         ensures metrics { self.new.metrics ≡ self.old.metrics }
         ensures memo { self.new.memo ≡ stripped self.old.memo }
+        ensures changed { IsIn Changed self.new }
     {
         undo_pass(&mut self.memo);
     }

@@ -1,8 +1,8 @@
 use Rattle.std.proofs.Common.{sym, subst}
-use Rattle.memo_tree.specs.Counted.{MissingIsCounted}
+use Rattle.memo_tree.specs.Counted.{EntriesStay, MissingIsCounted}
 use Rattle.memo_tree.specs.Reversing.{ReversalValue, Reverses}
 use Rattle.memo_tree.specs.Trees.{IsLaidOut, MemoTreeValue}
-use Rattle.memo_tree.proofs.Changes.{before, counted, changed_now, reverses}
+use Rattle.memo_tree.proofs.Changes.{before, changed_now, counted, reverses, stays}
 use Rattle.memo_tree.proofs.tree.MemoTree.change.Goals as goal
 
 pub returns-in-Ok-clause-changed : goal.returns-in-Ok-clause-changed
@@ -15,6 +15,19 @@ returns-in-Ok-clause-changed c =
     let root = c.root.result.now in
     changed_now old c.args.edit way c.apply.new.tree root laid is done.tree c.root.ensures.exact c.follow.new.memo c.in-Ok.back
     ((c.in-Ok.ensures {u = tt}).followed (before old c.args.edit way c.apply.new.tree root laid is done.tree c.root.ensures.exact))
+
+pub returns-in-Ok-clause-stays : goal.returns-in-Ok-clause-stays
+returns-in-Ok-clause-stays c =
+    let old : MemoTreeValue = record { tree = c.self.inside.tree; metrics = c.self.inside.metrics; memo = c.self.inside.memo } in
+    let new : MemoTreeValue = record { tree = c.apply.new.tree; metrics = c.self.inside.metrics; memo = c.follow.new.memo } in
+    let laid = subst IsLaidOut (sym c.self.view_is) c.requires.sealed in
+    let done = c.in_ok-taken.ensures {u = tt} in
+    let way = c.in-Some.way in
+    let is = c.in-Some.ensures done.accepted in
+    let root = c.root.result.now in
+    subst (λ (o : MemoTreeValue). EntriesStay o c.args.edit new) c.self.view_is
+    (stays old c.args.edit way c.apply.new.tree root laid is done.tree c.root.ensures.exact c.follow.new.memo c.in-Ok.back
+    ((c.in-Ok.ensures {u = tt}).followed (before old c.args.edit way c.apply.new.tree root laid is done.tree c.root.ensures.exact)) c.self.invariant c.root.ensures.whole)
 
 pub returns-in-Ok-clause-counted : goal.returns-in-Ok-clause-counted
 returns-in-Ok-clause-counted c =
