@@ -1,19 +1,22 @@
 -- An edit of a tree with its kept layouts.
-use Rattle.std.proofs.Common.{◌≡◌, ◌∙◌, ap, subst}
+use Rattle.std.proofs.Common.{◌≡◌, ◌∙◌, sym, ap, subst, ℕ, ◌+◌, List, [], ◌∷◌}
+use Rattle.std.specs.List.{AllByRecursion}
 use Rattle.font_metrics.specs.Metrics.{MetricsValue}
 use Rattle.math_tree.specs.Trees.{IsWhole, TreeValue}
 use Rattle.math_tree.specs.declared.node.Node.{Node}
 use Rattle.tree_edits.specs.Applying.{TakenValue, Undoes}
 use Rattle.tree_edits.specs.Edits.{edited}
 use Rattle.tree_edits.specs.declared.edit.Edit.{Edit}
+use Rattle.kept_results.specs.Passes.{Pair}
 use Rattle.kept_results.specs.declared.memo.Memo.{Memo}
 use Rattle.kept_results.proofs.Whole.{kept_law}
+use Rattle.kept_edits.specs.ByIds.{IsVisited}
 use Rattle.kept_edits.specs.Changed.{undone_memo}
 use Rattle.kept_edits.specs.Laws.{IsReadyFor}
 use Rattle.kept_edits.specs.declared.change.MemoChange.{MemoChange}
 use Rattle.kept_edits.specs.Passed.{TakesMissing}
-use Rattle.kept_edits.proofs.ToldById.{missing_need}
-use Rattle.memo_tree.specs.Counted.{EntriesStay, MissingIsCounted, StepsLaw}
+use Rattle.kept_edits.proofs.ToldById.{IsNeededThere, all_named, as_many, missing_need, none_twice, visited}
+use Rattle.memo_tree.specs.Counted.{EntriesStay, MissingIsCounted, StepsLaw, VisitsLaw}
 use Rattle.memo_tree.specs.Followed.{IsBefore, IsFollowed}
 use Rattle.memo_tree.specs.Reversing.{Reverses}
 use Rattle.memo_tree.specs.States.{IsChanged}
@@ -74,3 +77,18 @@ steps_law old new edit from to h tree metrics takes =
     missing_need old.metrics old.tree edit h.change h.path new.memo from to h.is h.counted
     (subst (λ (t : TreeValue). TakesMissing old.metrics t.root (context_of old.metrics t) new.memo from to) tree
     (subst (λ (m : MetricsValue). TakesMissing m new.tree.root (context_of m new.tree) new.memo from to) metrics takes))
+
+-- ---- the steps that lay a tree out
+
+all_visited : (m : MetricsValue) (tree : TreeValue) (pairs : List Pair) (needs : AllByRecursion (IsNeededThere m tree) pairs)
+    → AllByRecursion (IsVisited m tree) (all_named m tree pairs needs)
+all_visited m tree [] needs = tt
+all_visited m tree (pair ∷ pairs) needs = (visited m tree pair needs.0, all_visited m tree pairs needs.1)
+
+pub visits_law : VisitsLaw
+visits_law m tree from to whole counts = record {
+  pairs = all_named m tree counts.pairs counts.needed;
+  steps = counts.steps ∙ ap (λ n. from + n) (sym (as_many m tree counts.pairs counts.needed));
+  visited = all_visited m tree counts.pairs counts.needed;
+  apart = none_twice m tree whole counts.pairs counts.needed counts.apart;
+}

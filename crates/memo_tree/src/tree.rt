@@ -9,7 +9,7 @@ ghost use Rattle.kept_laid.specs.Boxes.{box_in};
 ghost use Rattle.kept_edits.specs.Blank.{blank};
 ghost use Rattle.kept_edits.specs.Passed.{TakesMissing};
 ghost use Rattle.kept_sweep.specs.Swept.{CountsNeeded, IsPartOf, KeepsNeeded};
-ghost use Rattle.memo_tree.specs.Counted.{EntriesStay, MissingIsCounted};
+ghost use Rattle.memo_tree.specs.Counted.{EntriesStay, MissingIsCounted, TakesVisits};
 ghost use Rattle.memo_tree.specs.Reversing.{CanReverse, Reverses, reversed};
 ghost use Rattle.memo_tree.specs.States.{Changed, IsIn, Passed, Sealed, Stopped};
 ghost use Rattle.memo_tree.specs.Trees.{context_of, root_box};
@@ -88,6 +88,7 @@ impl MemoTree {
         ensures metrics { IfOk result (λ laid. laid.metrics ≡ metrics) }
         ensures kept { IfOk result (λ laid. KeepsNeeded metrics tree.root (context_of metrics tree) laid.memo) }
         ensures steps { CountsNeeded metrics tree.root (context_of metrics tree) steps.old steps.new }
+        ensures visits { TakesVisits metrics tree steps.old steps.new }
         ensures all { IfOk result (λ laid. steps.new ≡ steps.old + kept_count laid.memo) }
         ensures fit { IfOk result (IsIn Sealed) }
         ensures range { result ≡ Err Range → is_tree_in_range metrics tree ≡ false }
