@@ -8,6 +8,7 @@ ghost use Rattle.kept_results.specs.Ends.{kept_count};
 ghost use Rattle.kept_results.specs.Laws.{AllKept};
 ghost use Rattle.kept_edits.specs.ByIds.{TakesNeeded};
 ghost use Rattle.kept_sweep.specs.Swept.{CountsNeeded, IsPartOf};
+ghost use Rattle.memo_tree.specs.Counted.{TakesVisits};
 ghost use Rattle.memo_tree.specs.States.{IsIn, Sealed};
 ghost use Rattle.memo_tree.specs.Trees.{context_of};
 ghost use Rattle.edit_session.specs.Session.{IsCause, IsInRange, IsSwept, edited_session, page, root_box, session_of};
@@ -71,6 +72,7 @@ impl Session {
         ensures range { result ≡ Err Range → is_tree_in_range metrics tree ≡ false }
         ensures kept { IfOk result IsSwept }
         ensures steps { CountsNeeded metrics tree.root (context_of metrics tree) steps.old steps.new }
+        ensures visits { TakesVisits metrics tree steps.old steps.new }
         ensures all { IfOk result (λ session. steps.new ≡ steps.old + kept_count session.memo) }
     {
         let layouts = MemoTree::start(alloc, tree, metrics, steps)?;
