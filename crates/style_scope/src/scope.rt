@@ -1,4 +1,6 @@
-ghost use Rattle.std.specs.Prelude.{◌≡◌, ◌≤◌, ◌^◌, pos, ◌≤ℤ◌};
+ghost use Rattle.std.specs.Prelude.{◌≡◌, ◌≤◌, ◌^◌, pos, ◌≤ℤ◌, Some};
+ghost use Rattle.fixed_units.specs.Numbers.{IsWithin};
+ghost use Rattle.style_scope.specs.Rules.{by_size};
 ghost use Rattle.style_scope.specs.Sizes.{IsStyle, size_of};
 ghost use Rattle.style_scope.specs.Styles.{by_attributes, child_style_of, is_block, root_style_of};
 
@@ -6,7 +8,7 @@ use crate::attributes::mathsize;
 use crate::rules::{by_display, by_level, by_name, by_place, by_size};
 use crate::size::font_size;
 use crate::style::{Place, Style};
-use fixed_units::is_word;
+use fixed_units::{LengthText, is_word};
 use font_metrics::Metrics;
 use math_tree::{Attributes, Head};
 
@@ -49,7 +51,7 @@ pub fn child_style(parent: &Style, place: Place, child: &Head, metrics: &Metrics
 }
 
 /// What the attributes of an element make of a style, below a parent of this style.
-#[tactic(auto, unfolding(crate::specs::Styles::by_attributes))]
+#[tactic(auto, unfolding(crate::specs::Styles::by_attributes, crate::specs::Rules::by_size))]
 fn by_attributes(metrics: &Metrics, parent: &Style, attributes: &Attributes, style: Style) -> Style
     requires parent { IsStyle parent.now }
     requires size { size_of metrics.now parent.now ≤ℤ pos (2 ^ 20) }
@@ -59,9 +61,27 @@ fn by_attributes(metrics: &Metrics, parent: &Style, attributes: &Attributes, sty
     ensures value { result ≡ by_attributes metrics.now parent.now attributes.now style }
     ensures style { IsStyle result }
 {
-    let size = font_size(parent, metrics).unwrap_or(0);
     let style = by_level(parent.depth, attributes, by_display(attributes, style));
-    by_size(metrics, size, mathsize(attributes), style)
+    match mathsize(attributes) {
+        Some(length) => sized(metrics, parent, length, style),
+        None => style,
+    }
+}
+
+/// What a size makes of a style, below a parent of this style. The parent's font size is found out
+/// here, since few elements have a size of their own.
+#[tactic(auto, unfolding(crate::specs::Rules::by_size))]
+fn sized(metrics: &Metrics, parent: &Style, length: LengthText, style: Style) -> Style
+    requires parent { IsStyle parent.now }
+    requires size { size_of metrics.now parent.now ≤ℤ pos (2 ^ 20) }
+    requires length_in { IsWithin (10 ^ 15) length.millionths }
+    requires length_low { pos 0 ≤ℤ length.millionths }
+    requires style { IsStyle style }
+    ensures value { result ≡ by_size metrics.now (size_of metrics.now parent.now) (Some length) style }
+    ensures style { IsStyle result }
+{
+    let size = font_size(parent, metrics).unwrap_or(0);
+    by_size(metrics, size, Some(length), style)
 }
 
 /// Whether the root is a formula of its own.

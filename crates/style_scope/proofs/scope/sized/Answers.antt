@@ -2,10 +2,9 @@ use Rattle.std.proofs.Common.{◌≡◌, w64, to_z, of_z, arith}
 use Rattle.std.proofs.lemmas.Int.{to_z-of_z}
 use Rattle.fixed_units.proofs.Signed.{signed}
 use Rattle.style_scope.specs.Sizes.{IsSize, font_size_of, size_of}
-use Rattle.style_scope.specs.Styles.{by_attributes}
 use Rattle.style_scope.proofs.Scales.{size_got, size_is}
-use Rattle.style_scope.proofs.scope.by_attributes.Goals as goal
-use Rattle.style_scope.proofs.scope.by_attributes.Goals.{After-unwrap_or-size}
+use Rattle.style_scope.proofs.scope.sized.Goals as goal
+use Rattle.style_scope.proofs.scope.sized.Goals.{After-unwrap_or-size}
 
 size : (c : After-unwrap_or-size) → c.unwrap_or-size.result ≡ size_of c.args.metrics.now c.args.parent.now
 unfolding font_size_of
@@ -29,11 +28,7 @@ by_size-requires-clause-size_high c =
     let e = back a in let w = within a in omega (arith, signed, e, w.low, w.high)
 
 pub returns-clause-value : goal.returns-clause-value
-unfolding by_attributes
 returns-clause-value c =
     let e = back (goal.at.returns-clause-value c).After-unwrap_or-size in
     let sized = c.by_size.ensures.value in
-    let levelled = c.by_level-style.ensures.value in
-    let shown = c.by_display.ensures.value in
-    let length = c.mathsize.ensures.value in
     grind (arith, to_z-of_z)
