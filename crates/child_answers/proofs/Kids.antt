@@ -1,5 +1,5 @@
 -- What holds of the answers of an element's children.
-use Rattle.std.proofs.Common.{◌≡◌, refl, ap, subst, ℕ, ◌^◌, ◌<◌, ◌≤◌, arith, Bool, true, false, cond, List, ◌++◌, length, map, get_or, All, Option, Some, None, unwrap_or, ℤ, pos}
+use Rattle.std.proofs.Common.{◌≡◌, ◌∙◌, refl, ap, subst, ℕ, ◌^◌, ◌<◌, ◌≤◌, arith, Bool, true, false, cond, List, ◌++◌, length, map, get_or, All, Option, Some, None, unwrap_or, ℤ, pos}
 use Rattle.std.specs.Prelude.{int_le}
 use Rattle.std.specs.Borrow.{Bor}
 use Rattle.std.specs.List.{AllPass}
@@ -67,6 +67,14 @@ whole m seen context one two size fits answers e s few =
       stored = all_last (λ answer. answer_fits answer ≡ true) no_answer_fits n asks one two answers.one_fits.fit answers.two_fits.fit;
       cells = all_last cells_few (omega arith) n asks one two answers.one_fits.few answers.two_fits.few;
     }
+
+-- the answers that count, where the questions are at hand
+pub last_are : (m : MetricsValue) (seen : Seen) (context : Context) (ones twos : List Question) (one two kids : List Answer) (n : ℕ)
+    → ones ≡ first m seen context → twos ≡ second m seen context one → n ≡ length seen.kids
+    → kids ≡ list_to n (last_answer (ones ++ twos) (one ++ two)) → kids ≡ last_answers m seen context one two
+unfolding last_answers
+last_are m seen context ones twos one two kids n o t count e =
+    e ∙ (λ i. list_to (count i) (last_answer (o i ++ t i) (one ++ two)))
 
 pub size_found : (m : MetricsValue) (style : Style) (size : ℤ) → Some size ≡ font_size_of m style → size ≡ size_of m style
 unfolding font_size_of in_range_of

@@ -1,46 +1,34 @@
-ghost use Rattle.std.specs.Prelude.{◌≡◌, ◌^◌, ◌≤ℤ◌, pos, [], ◌++◌, length, map, false, IfOk, Err};
+ghost use Rattle.std.specs.Prelude.{◌≡◌, [], ◌++◌, length, map, IfOk};
 ghost use Rattle.std.specs.List.{All};
 ghost use Rattle.fixed_units.specs.Sums.{list_to};
-ghost use Rattle.fixed_units.specs.declared.refusal.LayRefusal.TheVariants.{Range};
-ghost use Rattle.embellished.specs.Seen.{seen_of};
-ghost use Rattle.style_scope.specs.Sizes.{IsStyle, size_of};
 ghost use Rattle.layout_model.specs.Answers.{last_answer, no_answer};
-ghost use Rattle.layout_model.specs.Fits.{AnswersAll};
-ghost use Rattle.layout_model.specs.Layout.{last_answers};
 ghost use Rattle.layout_model.specs.Questions.{IsBelow};
-ghost use Rattle.layout_model.specs.Range.{is_font_size};
 
-use child_questions::{wave_one, wave_two};
-use embellished::View;
-use fixed_units::{LayRefusal, List, Memory};
-use font_metrics::Metrics;
-use layout_model::{Answer, Context, Question};
+use fixed_units::{List, Memory};
+use layout_model::{Answer, Question};
 use std::alloc::Global;
 
-/// The answer that counts of each child in flow: the last one to it in both waves, and `nothing` of
-/// one that wasn't asked.
-#[tactic(auto, unfolding(layout_model::specs::Layout::last_answers))]
-pub fn last_answers<'a, V: View>(
+/// The answer that counts of each of so many children: the last one to it in both waves, of which
+/// these are the questions and the answers to them, and `nothing` of one that wasn't asked.
+pub fn last_answers<'a>(
     alloc: Global,
-    view: &V,
-    context: &Context,
-    metrics: &Metrics,
+    count: usize,
+    ones: &List<Question>,
+    twos: &List<Question>,
     first: &'a List<Answer>,
     second: &'a List<Answer>,
     nothing: &'a Answer,
-) -> Result<Vec<&'a Answer>, LayRefusal>
+) -> Result<Vec<&'a Answer>, Memory>
     requires nothing { nothing.now ≡ no_answer }
-    requires style { IsStyle context.now.style }
-    requires size { size_of metrics.now context.now.style ≤ℤ pos (2 ^ 20) }
-    requires answers { AnswersAll metrics.now (seen_of (V.element view.now)) context.now first.now second.now }
-    ensures ok { IfOk result (λ kids. map (λ kid. kid.now) kids.items ≡ last_answers metrics.now (seen_of (V.element view.now)) context.now first.now second.now) }
-    ensures range { result ≡ Err Range → is_font_size (size_of metrics.now context.now.style) ≡ false }
+    requires first_each { length first.now ≡ length ones.now }
+    requires second_each { length second.now ≡ length twos.now }
+    requires first_within { All (IsBelow count) ones.now }
+    requires second_within { All (IsBelow count) twos.now }
+    ensures { IfOk result (λ kids. map (λ kid. kid.now) kids.items ≡ list_to count (last_answer (ones.now ++ twos.now) (first.now ++ second.now))) }
 {
-    let one = wave_one(alloc, view, context, metrics)?;
-    let two = wave_two(alloc, view, context, metrics, first)?;
-    let none = unasked(alloc, view.kids(), nothing)?;
-    let some = placed(none, one.as_slice(), first.as_slice());
-    Ok(placed(some, two.as_slice(), second.as_slice()))
+    let none = unasked(alloc, count, nothing)?;
+    let some = placed(none, ones.as_slice(), first.as_slice());
+    Ok(placed(some, twos.as_slice(), second.as_slice()))
 }
 
 /// As many times `nothing` as there are children in flow.

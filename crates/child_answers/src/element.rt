@@ -9,6 +9,7 @@ ghost use Rattle.layout_model.specs.Answers.{no_answer};
 ghost use Rattle.layout_model.specs.Elements.{font, frame_at, lead_place, outcome, outcome_with, row_kid, spaces_of};
 ghost use Rattle.layout_model.specs.Fits.{AnswersAll, IsContext};
 ghost use Rattle.layout_model.specs.Questions.{columns_over};
+ghost use Rattle.layout_model.specs.Questions as spec;
 ghost use Rattle.layout_model.specs.Range.{is_font_size};
 ghost use Rattle.child_answers.specs.Elements.{IsWhole, answered};
 
@@ -16,7 +17,7 @@ use crate::answers::last_answers;
 use embellished::{View, fences_of};
 use fixed_units::{LayRefusal, List, MathBox, Memory};
 use font_metrics::{Mark, Metrics};
-use layout_model::{Answer, Context, Offset, Outcome};
+use layout_model::{Answer, Context, Offset, Outcome, Question};
 use math_tables::columns;
 use math_tree::{Attributes, Kind};
 use row_stretch::RowKid;
@@ -62,13 +63,16 @@ impl<'a, V: View> Model for Element<'a, V> {
 }
 
 impl<'a, V: View> Element<'a, V> {
-    /// An element over the answers to both waves of its questions; `nothing` is the answer of a child
-    /// that wasn't asked. It is refused with `Range` only where its font size is out of range.
+    /// An element over the questions of both waves, `ones` and `twos`, and the answers to them;
+    /// `nothing` is the answer of a child that wasn't asked. It is refused with `Range` only where its
+    /// font size is out of range.
     pub fn make(
         alloc: Global,
         view: &'a V,
         context: &'a Context,
         metrics: &'a Metrics,
+        ones: &List<Question>,
+        twos: &List<Question>,
         first: &'a List<Answer>,
         second: &'a List<Answer>,
         nothing: &'a Answer,
@@ -76,15 +80,17 @@ impl<'a, V: View> Element<'a, V> {
         requires nothing { nothing.now ≡ no_answer }
         requires fits { IsContext context.now }
         requires size { size_of metrics.now context.now.style ≤ℤ pos (2 ^ 20) }
+        requires ones { ones.now ≡ spec.first metrics.now (seen_of (V.element view.now)) context.now }
+        requires twos { twos.now ≡ spec.second metrics.now (seen_of (V.element view.now)) context.now first.now }
         requires answers { AnswersAll metrics.now (seen_of (V.element view.now)) context.now first.now second.now }
         ensures ok { IfOk result (λ e. e ≡ answered metrics.now (seen_of (V.element view.now)) context.now first.now second.now) }
         ensures range { result ≡ Err Range → is_font_size (size_of metrics.now context.now.style) ≡ false }
     {
-        let kids = last_answers(alloc, view, context, metrics, first, second, nothing)?;
+        let count = view.kids();
+        let kids = last_answers(alloc, count, ones, twos, first, second, nothing)?;
         let Some(size) = font_size(&context.style, metrics) else {
             return Err(LayRefusal::Range);
         };
-        let _few = view.kids();
         Ok(Element {
             view,
             context,

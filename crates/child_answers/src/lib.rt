@@ -1,8 +1,8 @@
 //! An element over the answers of its children: which answer to each child counts, and what its
 //! equation reads of them.
 //!
-//! `Element::make` takes the answers to both waves of an element's questions. Its other calls give
-//! what equations read: the box of each child, its font size, the columns of a table.
+//! `Element::make` takes an element's questions of both waves and the answers to them. Its other calls
+//! give what equations read: the box of each child, its font size, the columns of a table.
 //!
 //! - Models: MathML Core 3.
 //! - Proved: an `Element` is seen as `answered` (`specs/Elements.antt`), exactly; it is refused only

@@ -15,7 +15,7 @@ use crate::memo::Memo;
 use embellished::{NodeView, View};
 use fixed_units::{LayRefusal, List, Steps};
 use font_metrics::Metrics;
-use layout_core::{finish, wave_one, wave_two};
+use layout_core::{finish_asked, wave_one, wave_two};
 use layout_model::{Answer, Context, Question};
 use math_tree::Node;
 use std::alloc::Global;
@@ -54,7 +54,9 @@ pub fn relay_element<L: Ledger>(
     let one = relay_all(alloc, node, memo, &view, &ones, metrics, steps)?;
     let twos = wave_two(alloc, &view, context, metrics, &one)?;
     let two = relay_all(alloc, node, memo, &view, &twos, metrics, steps)?;
-    let outcome = finish(alloc, &view, context, metrics, &one, &two, steps)?;
+    let outcome = finish_asked(
+        alloc, &view, context, metrics, &ones, &twos, &one, &two, steps,
+    )?;
     Ok(keep(alloc, memo, context, outcome, ones, twos)?)
 }
 

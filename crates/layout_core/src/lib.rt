@@ -16,6 +16,6 @@ mod fresh; // lay_fresh
 mod slots; // the children as asked last
 
 pub use child_questions::{wave_one, wave_two};
-pub use element_outcomes::finish;
+pub use element_outcomes::{finish, finish_asked};
 pub use fresh::lay_fresh;
 pub use layout_model::{Answer, Context, Laid, Offset, Outcome, Question, Stretch};

@@ -319,8 +319,8 @@ relay_element-returns-in_err-two-clause-range g t c =
     let whole = range_waves m node _ context shown c.in_ok-ones.ones o.ok c.in_ok-one.one one.ok c.in_ok-twos.twos w in
     twos_false _ _ _ _ whole ((c.in_err-two.ensures {u = tt}).range (ap Err (sym same)))
 
-pub relay_element-finish-requires-clause-answers : goal.relay_element-finish-requires-clause-answers
-relay_element-finish-requires-clause-answers g t c =
+pub relay_element-finish_asked-requires-clause-answers : goal.relay_element-finish_asked-requires-clause-answers
+relay_element-finish_asked-requires-clause-answers g t c =
     let m = c.args.metrics.now in
     let node = c.args.node.now in
     let context = c.args.context.now in
@@ -347,7 +347,7 @@ relay_element-returns-in_err-outcome-clause-passes g t c =
     passes_both m (pass_ones m node _ context shown _ o.ok one.passed) (pass_twos m node _ context shown _ o.ok _ one.ok _ w two.passed) in
     let missing : IsMissing (is_marked (out-Memo c.relay_all-2.new.memo)) context (out-Memo c.relay_all-2.new.memo).entries =
     missing_same _ _ context _ _ (none_of c.in_ok-answer.field-0 _ (c.in_ok-answer.ensures {u = tt}).none c.in_default.not-Some) (ap (λ (former : Option Facts). is_some former) (two.marked ∙ one.marked)) (two.own ∙ one.own) in
-    passes_both m both (passes_step m node (Needs m node context) c.relay_all-2.new.memo context c.relay_all-2.new.steps c.finish.new.steps both.agrees missing (own_need m node context) c.finish.ensures.step)
+    passes_both m both (passes_step m node (Needs m node context) c.relay_all-2.new.memo context c.relay_all-2.new.steps c.finish_asked.new.steps both.agrees missing (own_need m node context) c.finish_asked.ensures.step)
 
 pub relay_element-returns-in_err-outcome-clause-range : goal.relay_element-returns-in_err-outcome-clause-range
 relay_element-returns-in_err-outcome-clause-range g t c =
@@ -379,8 +379,8 @@ relay_element-returns-in_err-keep-clause-passes g t c =
     passes_both m (pass_ones m node _ context shown _ o.ok one.passed) (pass_twos m node _ context shown _ o.ok _ one.ok _ w two.passed) in
     let missing : IsMissing (is_marked (out-Memo c.relay_all-2.new.memo)) context (out-Memo c.relay_all-2.new.memo).entries =
     missing_same _ _ context _ _ (none_of c.in_ok-answer.field-0 _ (c.in_ok-answer.ensures {u = tt}).none c.in_default.not-Some) (ap (λ (former : Option Facts). is_some former) (two.marked ∙ one.marked)) (two.own ∙ one.own) in
-    subst (λ (memo : Memo). Passes m node (Needs m node context) c.args.memo.now memo c.args.steps.now c.finish.new.steps false) (sym (c.in_err-keep.ensures {u = tt}).unchanged)
-    (passes_both m both (passes_step m node (Needs m node context) c.relay_all-2.new.memo context c.relay_all-2.new.steps c.finish.new.steps both.agrees missing (own_need m node context) c.finish.ensures.step))
+    subst (λ (memo : Memo). Passes m node (Needs m node context) c.args.memo.now memo c.args.steps.now c.finish_asked.new.steps false) (sym (c.in_err-keep.ensures {u = tt}).unchanged)
+    (passes_both m both (passes_step m node (Needs m node context) c.relay_all-2.new.memo context c.relay_all-2.new.steps c.finish_asked.new.steps both.agrees missing (own_need m node context) c.finish_asked.ensures.step))
 
 pub relay_element-returns-clause-passes : goal.relay_element-returns-clause-passes
 relay_element-returns-clause-passes g t c =
@@ -403,8 +403,8 @@ relay_element-returns-clause-passes g t c =
     let kept = (c.in_ok-keep.ensures {u = tt}).kept in
     let named = all_then (NamesKept node (out-Memo c.relay_all.new.memo).below) (NamesKept node (out-Memo c.relay_all-2.new.memo).below) (names_still node two.passed.keeps) c.in_ok-ones.ones one.kept in
     let sound = sound_made waves c.relay_all-2.new.memo c.keep.new.memo c.in_ok-outcome.outcome kept made.ok c.requires.context whole named two.kept in
-    let all = passes_both m both (passes_added m node (Needs m node context) c.relay_all-2.new.memo kept.entry context c.relay_all-2.new.steps c.finish.new.steps both.agrees sound missing kept.in_context kept.fresh (own_need m node context) c.finish.ensures.step) in
-    subst (λ (memo : Memo). Passes m node (Needs m node context) c.args.memo.now memo c.args.steps.now c.finish.new.steps false) (sym kept.added) (passes_partly m all)
+    let all = passes_both m both (passes_added m node (Needs m node context) c.relay_all-2.new.memo kept.entry context c.relay_all-2.new.steps c.finish_asked.new.steps both.agrees sound missing kept.in_context kept.fresh (own_need m node context) c.finish_asked.ensures.step) in
+    subst (λ (memo : Memo). Passes m node (Needs m node context) c.args.memo.now memo c.args.steps.now c.finish_asked.new.steps false) (sym kept.added) (passes_partly m all)
 
 pub relay_element-returns-clause-passed : goal.relay_element-returns-clause-passed
 relay_element-returns-clause-passed g t c =
@@ -427,8 +427,8 @@ relay_element-returns-clause-passed g t c =
     let kept = (c.in_ok-keep.ensures {u = tt}).kept in
     let named = all_then (NamesKept node (out-Memo c.relay_all.new.memo).below) (NamesKept node (out-Memo c.relay_all-2.new.memo).below) (names_still node two.passed.keeps) c.in_ok-ones.ones one.kept in
     let sound = sound_made waves c.relay_all-2.new.memo c.keep.new.memo c.in_ok-outcome.outcome kept made.ok c.requires.context whole named two.kept in
-    let all = passes_both m both (passes_added m node (Needs m node context) c.relay_all-2.new.memo kept.entry context c.relay_all-2.new.steps c.finish.new.steps both.agrees sound missing kept.in_context kept.fresh (own_need m node context) c.finish.ensures.step) in
-    subst (λ (memo : Memo). Passes m node (Needs m node context) c.args.memo.now memo c.args.steps.now c.finish.new.steps true) (sym kept.added) all
+    let all = passes_both m both (passes_added m node (Needs m node context) c.relay_all-2.new.memo kept.entry context c.relay_all-2.new.steps c.finish_asked.new.steps both.agrees sound missing kept.in_context kept.fresh (own_need m node context) c.finish_asked.ensures.step) in
+    subst (λ (memo : Memo). Passes m node (Needs m node context) c.args.memo.now memo c.args.steps.now c.finish_asked.new.steps true) (sym kept.added) all
 
 pub relay_element-returns-clause-kept : goal.relay_element-returns-clause-kept
 relay_element-returns-clause-kept g t c =

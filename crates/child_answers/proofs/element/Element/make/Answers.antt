@@ -1,12 +1,36 @@
-use Rattle.std.proofs.Common.{◌≡◌, ◌∙◌, sym, ap, subst, arith, lit<, List, Option, ℤ, is_some, to_z, of_z, w64}
+use Rattle.std.proofs.Common.{◌≡◌, ◌∙◌, sym, ap, subst, ℕ, arith, lit<, List, length, All, Option, ℤ, is_some, to_z, of_z, w64}
 use Rattle.embellished.specs.Seen.{seen_of}
 use Rattle.font_metrics.proofs.Scaling.{back64, size_in}
 use Rattle.style_scope.specs.Sizes.{IsSize}
+use Rattle.layout_model.specs.Elements.{Element}
+use Rattle.layout_model.specs.Questions.{IsBelow}
 use Rattle.layout_model.specs.declared.outcome.Answer.{Answer}
 use Rattle.layout_model.proofs.FontSizes.{font_size_found}
+use Rattle.layout_model.proofs.Places.{first_below, second_below}
 use Rattle.child_answers.specs.Elements.{IsWhole}
-use Rattle.child_answers.proofs.Kids.{size_found, whole}
+use Rattle.child_answers.proofs.Kids.{last_are, size_found, whole}
 use Rattle.child_answers.proofs.element.Element.make.Goals as goal
+
+pub last_answers-requires-clause-first_within : goal.last_answers-requires-clause-first_within
+last_answers-requires-clause-first_within g c =
+    let seen = seen_of (g.V.View.element c.args.view.now) in
+    subst (λ (n : ℕ). All (IsBelow n) c.args.ones.now) (sym c.kids-count.ensures.count)
+    (subst (All (IsBelow (length seen.kids))) (sym c.requires.ones) (first_below c.args.metrics.now seen c.args.context.now))
+
+pub last_answers-requires-clause-second_within : goal.last_answers-requires-clause-second_within
+last_answers-requires-clause-second_within g c =
+    let seen = seen_of (g.V.View.element c.args.view.now) in
+    subst (λ (n : ℕ). All (IsBelow n) c.args.twos.now) (sym c.kids-count.ensures.count)
+    (subst (All (IsBelow (length seen.kids))) (sym c.requires.twos) (second_below c.args.metrics.now seen c.args.context.now c.args.first.now))
+
+pub returns-clause-ok : goal.returns-clause-ok
+returns-clause-ok g c =
+    let m = c.args.metrics.now in
+    let seen = seen_of (g.V.View.element c.args.view.now) in
+    let context = c.args.context.now in
+    let over : List Answer → Element = λ kids. record { metrics = m; seen = seen; context = context; kids = kids } in
+    ap over (last_are m seen context c.args.ones.now c.args.twos.now c.args.first.now c.args.second.now _ c.kids-count.result c.requires.ones c.requires.twos
+    c.kids-count.ensures.count (c.in_ok-kids.ensures {u = tt}))
 
 pub returns-in_default-clause-range : goal.returns-in_default-clause-range
 returns-in_default-clause-range g c =
@@ -22,6 +46,8 @@ invariant_of-result g c =
     let back : to_z w64 (of_z w64 c.in-Some.size) ≡ c.in-Some.size = back64 (size_in c.in-Some.size found.within.low found.within.high) (lit< tt) in
     let all = whole m seen context c.args.first.now c.args.second.now (to_z w64 (of_z w64 c.in-Some.size)) c.requires.fits c.requires.answers
     (back ∙ size_found m context.style c.in-Some.size found.value) (subst IsSize (sym back) found.within)
-    (omega (arith, c.kids-few.ensures.count, c.kids-few.ensures.few)) in
+    (omega (arith, c.kids-count.ensures.count, c.kids-count.ensures.few)) in
+    let kids = last_are m seen context c.args.ones.now c.args.twos.now c.args.first.now c.args.second.now _ c.kids-count.result c.requires.ones c.requires.twos
+    c.kids-count.ensures.count (c.in_ok-kids.ensures {u = tt}) in
     subst (λ (kids : List Answer). IsWhole record { metrics = m; seen = seen; context = context; kids = kids } (to_z w64 (of_z w64 c.in-Some.size)))
-    (sym (c.in_ok-kids.ensures {u = tt}).ok) all
+    (sym kids) all
