@@ -14,10 +14,17 @@ use kept_edits::{MemoChange, blank, change_memo, known_on};
 use kept_results::Memo;
 use math_tree::Node;
 use std::alloc::Global;
+use tree_edits::Parents;
 
 /// Changes memos as an edit changed their tree, of which this is the root by now, and answers the
-/// change that takes this back.
-pub fn follow(alloc: Global, root: &Node, memo: &mut Memo, way: &Way) -> Result<MemoChange, Memory>
+/// change that takes this back. What the edit put in is noted.
+pub fn follow(
+    alloc: Global,
+    root: &Node,
+    memo: &mut Memo,
+    parents: &mut Parents,
+    way: &Way,
+) -> Result<MemoChange, Memory>
     requires before { IsBefore root.now memo.old way.now }
     ensures followed { IfOk result (λ back. (before : IsBefore root.now memo.old way.now) → IsFollowed root.now memo.old way.now before memo.new back) }
     ensures unchanged { OnErr result (memo.new ≡ memo.old) }
@@ -26,7 +33,7 @@ pub fn follow(alloc: Global, root: &Node, memo: &mut Memo, way: &Way) -> Result<
         change,
         known,
         room,
-    } = prepare(alloc, root, memo, way)?;
+    } = prepare(alloc, root, memo, parents, way)?;
     let taken = change_memo(memo, way.path.as_slice(), known.as_slice(), change);
     Ok(back_of(&way.place, taken, room))
 }
@@ -41,7 +48,13 @@ struct Prepared {
     room: Room<Memo>,
 }
 
-fn prepare(alloc: Global, root: &Node, memo: &Memo, way: &Way) -> Result<Prepared, Memory>
+fn prepare(
+    alloc: Global,
+    root: &Node,
+    memo: &Memo,
+    parents: &mut Parents,
+    way: &Way,
+) -> Result<Prepared, Memory>
     requires { IsBefore root.now memo.now way.now }
     ensures change { IfOk result (λ made. IsOfWay root.now way.now made.change) }
     ensures known { IfOk result (λ made. IsKnownOn way.now.path root.now made.known) }
@@ -49,6 +62,7 @@ fn prepare(alloc: Global, root: &Node, memo: &Memo, way: &Way) -> Result<Prepare
 {
     let path = way.path.as_slice();
     let element = element_at(root, path);
+    note_new(root, parents, element, &way.place)?;
     let change = memo_change(alloc, element, &way.place)?;
     let known = known_on(alloc, root, memo, path, &change)?;
     let room = Room::make(alloc, element.children.as_slice().len() + 2)?;
@@ -57,6 +71,19 @@ fn prepare(alloc: Global, root: &Node, memo: &Memo, way: &Way) -> Result<Prepare
         known,
         room,
     })
+}
+
+/// Notes what was put in among the children of an element.
+fn note_new(root: &Node, parents: &mut Parents, element: &Node, place: &Place) -> Result<(), Memory>
+    requires { HasPlace place.now element.now }
+{
+    match place {
+        Place::Put(index) | Place::Swap(index) => {
+            let child = &element.children.as_slice()[*index];
+            parents.note(root, element.head.id, child)
+        }
+        Place::Stay | Place::Take(_) => Ok(()),
+    }
 }
 
 /// The change of memos for what became of the children of an element.

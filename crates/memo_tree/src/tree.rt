@@ -17,7 +17,7 @@ ghost use Rattle.memo_tree.specs.Trees.{context_of, root_box};
 use crate::following::follow;
 use crate::reversal::Reversal;
 use crate::root::context_of;
-use crate::way::way_of;
+use crate::way::way_along;
 use fixed_units::{LayRefusal, MathBox, Memory, Steps};
 use font_metrics::Metrics;
 use kept_edits::blank;
@@ -29,7 +29,7 @@ use math_tree::{NodeId, Tree};
 use std::alloc::Global;
 use std::marker::Model;
 use std::sync::ledger::Ledger;
-use tree_edits::{Edit, EditRefusal, apply, restore};
+use tree_edits::{Edit, EditRefusal, Parents, apply_at, restore};
 
 /// A tree with the layouts that are kept of it and of its elements, and the metrics of their font.
 ///
@@ -40,6 +40,8 @@ pub struct MemoTree {
     tree: Tree,
     metrics: Metrics,
     memo: Memo,
+    /// It finds elements, and no contract speaks of it.
+    parents: Parents,
 }
 
 impl Model for MemoTree {
@@ -68,10 +70,12 @@ impl MemoTree {
         ensures changed { IfOk result (IsIn Changed) }
     {
         let memo = blank(alloc, tree.root())?;
+        let parents = Parents::make(alloc, tree.root())?;
         Ok(MemoTree {
             tree,
             metrics,
             memo,
+            parents,
         })
     }
 
@@ -95,10 +99,12 @@ impl MemoTree {
     {
         let context = context_of(&tree, &metrics);
         let memo = start_layout(alloc, tree.root(), &context, &metrics, steps)?;
+        let parents = Parents::make(alloc, tree.root())?;
         Ok(MemoTree {
             tree,
             metrics,
             memo,
+            parents,
         })
     }
 
@@ -117,12 +123,14 @@ impl MemoTree {
         ensures refused { IfErr result (IsReason self.old.tree edit) }
         ensures unchanged { OnErr result (self.new ≡ self.old) }
     {
-        let found = way_of(&self.tree, &edit);
-        let taken = apply(alloc, &mut self.tree, edit)?;
+        let path = self.parents.find(&self.tree, edit.named());
+        let found = way_along(&self.tree, &path, &edit);
+        let taken = apply_at(alloc, &mut self.tree, path, edit)?;
         let Some(way) = found else {
             unreachable!();
         };
-        match follow(alloc, self.tree.root(), &mut self.memo, &way) {
+        let (memo, parents) = (&mut self.memo, &mut self.parents);
+        match follow(alloc, self.tree.root(), memo, parents, &way) {
             Ok(back) => Ok(Reversal::of(taken, way.path, back)),
             Err(_) => {
                 restore(&mut self.tree, taken);

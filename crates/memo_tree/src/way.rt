@@ -2,10 +2,10 @@
 ghost use Rattle.std.specs.Prelude.{◌≡◌, None as NoReason};
 ghost use Rattle.math_tree.specs.Trees.{IsWhole, TreeValue};
 ghost use Rattle.tree_edits.specs.Edits.{named, refusal_of};
-ghost use Rattle.tree_edits.specs.Paths.{LeadsTo};
+ghost use Rattle.tree_edits.specs.Paths.{Finds, LeadsTo};
 ghost use Rattle.memo_tree.specs.Ways.{HasWay};
 
-use math_tree::{NodeId, Tree};
+use math_tree::Tree;
 use tree_edits::{Edit, Path, path_to};
 
 /// What becomes of the children of an element.
@@ -32,22 +32,19 @@ pub struct Way {
 pub fn way_of(tree: &Tree, edit: &Edit) -> Option<Way>
     ensures { refusal_of tree.now edit.now ≡ NoReason → HasWay tree.now edit.now result }
 {
-    match path_to(tree.root(), id_of(edit), 1) {
-        Some(path) => end_of(path, edit),
-        None => None,
-    }
+    let found = path_to(tree.root(), edit.named(), 1);
+    way_along(tree, &found, edit)
 }
 
-/// The id of the element that an edit names.
-fn id_of(edit: &Edit) -> NodeId
-    ensures { result.0 ≡ named edit.now }
+/// The same, by the way to the element that the edit names, or none where no element has its id.
+pub fn way_along(tree: &Tree, found: &Option<Path>, edit: &Edit) -> Option<Way>
+    requires whole { IsWhole tree.now }
+    requires found { Finds (named edit.now) 1 tree.now.root found.now }
+    ensures { refusal_of tree.now edit.now ≡ NoReason → HasWay tree.now edit.now result }
 {
-    match edit {
-        Edit::Text(id, _)
-        | Edit::Attr(id, _, _)
-        | Edit::Insert(id, _, _)
-        | Edit::Remove(id)
-        | Edit::Replace(id, _) => *id,
+    match found {
+        Some(path) => end_of(path.copy(), edit),
+        None => None,
     }
 }
 

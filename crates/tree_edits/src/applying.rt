@@ -1,11 +1,12 @@
 //! An edit carried out on a tree, in place, and undone again.
 ghost use Rattle.std.specs.Prelude.{◌≡◌, None, IfOk, IfErr, OnOk, OnErr};
 ghost use Rattle.tree_edits.specs.Applying.{CanRestore, IsProperEdit, IsReason, Undoes, restored};
-ghost use Rattle.tree_edits.specs.Edits.{edited, refusal_of};
+ghost use Rattle.tree_edits.specs.Edits.{edited, named, refusal_of};
+ghost use Rattle.tree_edits.specs.Paths.{Finds};
 ghost use Rattle.tree_edits.specs.Planning.{planned, CanCarryOut};
 
 use crate::change::{Change, carry_out_at};
-use crate::path::Path;
+use crate::path::{Path, path_to};
 use crate::planning::{Plan, Step};
 use crate::spare::Spare;
 use crate::{Edit, EditRefusal};
@@ -52,7 +53,26 @@ pub fn apply(alloc: Global, tree: &mut Tree, edit: Edit) -> Result<Taken, EditRe
     ensures refused { IfErr result (IsReason tree.old edit) }
     ensures unchanged { OnErr result (tree.new ≡ tree.old) }
 {
-    let plan = Plan::make(alloc, tree, edit)?;
+    let found = path_to(tree.root(), edit.named(), 1);
+    apply_at(alloc, tree, found, edit)
+}
+
+/// The same, by the way to the element that the edit names, or none where no element has its id.
+pub fn apply_at(
+    alloc: Global,
+    tree: &mut Tree,
+    found: Option<Path>,
+    edit: Edit,
+) -> Result<Taken, EditRefusal>
+    requires proper { IsProperEdit edit }
+    requires found { Finds (named edit) 1 tree.old.root found }
+    ensures accepted { OnOk result (refusal_of tree.old edit ≡ None) }
+    ensures tree { OnOk result (tree.new ≡ edited tree.old edit) }
+    ensures taken { IfOk result (λ taken. Undoes taken tree.new tree.old) }
+    ensures refused { IfErr result (IsReason tree.old edit) }
+    ensures unchanged { OnErr result (tree.new ≡ tree.old) }
+{
+    let plan = Plan::make(alloc, tree, found, edit)?;
     Ok(carry_out_plan(tree, plan))
 }
 

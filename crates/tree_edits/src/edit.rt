@@ -24,7 +24,7 @@ pub enum Edit {
 
 impl Edit {
     /// The id of the element that it names.
-    pub(crate) fn named(&self) -> NodeId
+    pub fn named(&self) -> NodeId
         ensures { result.0 ≡ named self.now }
     {
         match self {

@@ -25,7 +25,7 @@ impl Model for Path {
 
 impl Path {
     /// The way to where one stands.
-    fn here() -> Path
+    pub(crate) fn here() -> Path
         ensures { result ≡ [] }
     {
         Path {
@@ -34,11 +34,23 @@ impl Path {
     }
 
     /// The way from one level higher, where it begins at the child at a place.
-    fn begin_at(&mut self, place: usize)
+    pub(crate) fn begin_at(&mut self, place: usize)
         requires { length self.old < 59 }
         ensures { self.new ≡ place ∷ self.old }
     {
         self.places.insert(0, place);
+    }
+
+    /// The same way again. It takes no memory.
+    pub fn copy(&self) -> Path
+        ensures { result ≡ self.now }
+    {
+        let all = self.places.as_slice();
+        let mut places = ArrayVec::new();
+        for place in all {
+            places.push(*place);
+        }
+        Path { places }
     }
 
     /// The level of the element that it leads to, where it begins at the root, which has level 1.

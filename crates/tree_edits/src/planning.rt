@@ -4,13 +4,13 @@ ghost use Rattle.std.specs.Prelude.{◌≡◌, ◌+◌, ◌≤◌, ◌^◌, leng
 ghost use Rattle.math_tree.specs.Print.{renumbered};
 ghost use Rattle.math_tree.specs.Trees.{element_count};
 ghost use Rattle.tree_edits.specs.Applying.{IsProperEdit, IsReason};
-ghost use Rattle.tree_edits.specs.Edits.{added, edited};
-ghost use Rattle.tree_edits.specs.Paths.{children_of, FitsAt};
+ghost use Rattle.tree_edits.specs.Edits.{added, edited, named};
+ghost use Rattle.tree_edits.specs.Paths.{children_of, Finds, FitsAt};
 ghost use Rattle.tree_edits.specs.Planning.{IsAllowed, IsPlan, IsStep, Makes, PutsIn, SetsValue};
 
 use crate::change::Change;
 use crate::numbering::renumber;
-use crate::path::{Path, element_at, path_to};
+use crate::path::{Path, element_at};
 use crate::reasons::own_reason;
 use crate::spare::Spare;
 use crate::totals::Totals;
@@ -40,13 +40,19 @@ pub struct Step {
 }
 
 impl Plan {
-    /// The plan of an edit, or the first reason against it.
-    pub fn make(alloc: Global, tree: &Tree, edit: Edit) -> Result<Plan, EditRefusal>
-        requires { IsProperEdit edit }
+    /// The plan of an edit, or the first reason against it, by the way to the element that it names.
+    pub fn make(
+        alloc: Global,
+        tree: &Tree,
+        found: Option<Path>,
+        edit: Edit,
+    ) -> Result<Plan, EditRefusal>
+        requires proper { IsProperEdit edit }
+        requires found { Finds (named edit) 1 tree.now.root found }
         ensures planned { IfOk result (IsPlan tree.now edit) }
         ensures refused { IfErr result (IsReason tree.now edit) }
     {
-        let Some(path) = path_to(tree.root(), edit.named(), 1) else {
+        let Some(path) = found else {
             return Err(EditRefusal::UnknownNode);
         };
         let element = element_at(tree.root(), path.as_slice());

@@ -1,4 +1,4 @@
-use Rattle.std.proofs.Common.{◌≡◌, ◌∙◌, sym, ap, ◌+◌, ◌<◌, ◌≤◌, length, get_or, Bool, true, false, true≢false, arith, rules}
+use Rattle.std.proofs.Common.{◌≡◌, ◌∙◌, sym, ap, ◌+◌, ◌<◌, ◌≤◌, length, get_or, Bool, false, true≢false, arith, rules}
 use Rattle.std.proofs.lemmas.Bool.{false_from_ne_true}
 use Rattle.std.proofs.lemmas.Bool.Decides.{Decides-eqb}
 use Rattle.std.proofs.lemmas.List.{take_all}
@@ -9,7 +9,7 @@ use Rattle.math_tree.specs.declared.node.Node.{Node}
 use Rattle.math_tree.specs.declared.node.Node.TheViews.{size-Node}
 use Rattle.tree_edits.specs.Edits.{has_id, head_of}
 use Rattle.tree_edits.specs.Paths.{children_of}
-use Rattle.tree_edits.proofs.Paths.{from_place, in_child, leads_further, none_in, smaller}
+use Rattle.tree_edits.proofs.Paths.{from_place, in_child, none_in, smaller}
 use Rattle.tree_edits.proofs.path.+find.Goals as goal
 
 pub find-requires : goal.find-requires

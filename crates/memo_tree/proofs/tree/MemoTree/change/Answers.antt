@@ -13,39 +13,39 @@ returns-in-Ok-clause-changed c =
     let way = c.in-Some.way in
     let is = c.in-Some.ensures done.accepted in
     let root = c.root.result.now in
-    changed_now old c.args.edit way c.apply.new.tree root laid is done.tree c.root.ensures.exact c.follow.new.memo c.in-Ok.back
-    ((c.in-Ok.ensures {u = tt}).followed (before old c.args.edit way c.apply.new.tree root laid is done.tree c.root.ensures.exact))
+    changed_now old c.args.edit way c.apply_at.new.tree root laid is done.tree c.root.ensures.exact c.follow.new.memo c.in-Ok.back
+    ((c.in-Ok.ensures {u = tt}).followed (before old c.args.edit way c.apply_at.new.tree root laid is done.tree c.root.ensures.exact))
 
 pub returns-in-Ok-clause-stays : goal.returns-in-Ok-clause-stays
 returns-in-Ok-clause-stays c =
     let old : MemoTreeValue = record { tree = c.self.inside.tree; metrics = c.self.inside.metrics; memo = c.self.inside.memo } in
-    let new : MemoTreeValue = record { tree = c.apply.new.tree; metrics = c.self.inside.metrics; memo = c.follow.new.memo } in
+    let new : MemoTreeValue = record { tree = c.apply_at.new.tree; metrics = c.self.inside.metrics; memo = c.follow.new.memo } in
     let laid = subst IsLaidOut (sym c.self.view_is) c.requires.sealed in
     let done = c.in_ok-taken.ensures {u = tt} in
     let way = c.in-Some.way in
     let is = c.in-Some.ensures done.accepted in
     let root = c.root.result.now in
     subst (λ (o : MemoTreeValue). EntriesStay o c.args.edit new) c.self.view_is
-    (stays old c.args.edit way c.apply.new.tree root laid is done.tree c.root.ensures.exact c.follow.new.memo c.in-Ok.back
-    ((c.in-Ok.ensures {u = tt}).followed (before old c.args.edit way c.apply.new.tree root laid is done.tree c.root.ensures.exact)) c.self.invariant c.root.ensures.whole)
+    (stays old c.args.edit way c.apply_at.new.tree root laid is done.tree c.root.ensures.exact c.follow.new.memo c.in-Ok.back
+    ((c.in-Ok.ensures {u = tt}).followed (before old c.args.edit way c.apply_at.new.tree root laid is done.tree c.root.ensures.exact)) c.self.invariant c.root.ensures.whole)
 
 pub returns-in-Ok-clause-counted : goal.returns-in-Ok-clause-counted
 returns-in-Ok-clause-counted c =
     let old : MemoTreeValue = record { tree = c.self.inside.tree; metrics = c.self.inside.metrics; memo = c.self.inside.memo } in
-    let new : MemoTreeValue = record { tree = c.apply.new.tree; metrics = c.self.inside.metrics; memo = c.follow.new.memo } in
+    let new : MemoTreeValue = record { tree = c.apply_at.new.tree; metrics = c.self.inside.metrics; memo = c.follow.new.memo } in
     let laid = subst IsLaidOut (sym c.self.view_is) c.requires.sealed in
     let done = c.in_ok-taken.ensures {u = tt} in
     let way = c.in-Some.way in
     let is = c.in-Some.ensures done.accepted in
     let root = c.root.result.now in
     subst (λ (o : MemoTreeValue). MissingIsCounted o c.args.edit new) c.self.view_is
-    (counted old c.args.edit way c.apply.new.tree root laid is done.tree c.root.ensures.exact c.follow.new.memo c.in-Ok.back
-    ((c.in-Ok.ensures {u = tt}).followed (before old c.args.edit way c.apply.new.tree root laid is done.tree c.root.ensures.exact)) c.self.invariant c.root.ensures.whole)
+    (counted old c.args.edit way c.apply_at.new.tree root laid is done.tree c.root.ensures.exact c.follow.new.memo c.in-Ok.back
+    ((c.in-Ok.ensures {u = tt}).followed (before old c.args.edit way c.apply_at.new.tree root laid is done.tree c.root.ensures.exact)) c.self.invariant c.root.ensures.whole)
 
 pub returns-in-Ok-clause-reversal : goal.returns-in-Ok-clause-reversal
 returns-in-Ok-clause-reversal c =
     let old : MemoTreeValue = record { tree = c.self.inside.tree; metrics = c.self.inside.metrics; memo = c.self.inside.memo } in
-    let new : MemoTreeValue = record { tree = c.apply.new.tree; metrics = c.self.inside.metrics; memo = c.follow.new.memo } in
+    let new : MemoTreeValue = record { tree = c.apply_at.new.tree; metrics = c.self.inside.metrics; memo = c.follow.new.memo } in
     let laid = subst IsLaidOut (sym c.self.view_is) c.requires.sealed in
     let done = c.in_ok-taken.ensures {u = tt} in
     let way = c.in-Some.way in
@@ -53,5 +53,5 @@ returns-in-Ok-clause-reversal c =
     let root = c.root.result.now in
     subst (λ (o : MemoTreeValue). Reverses c.of.result new o) c.self.view_is
     (subst (λ (r : ReversalValue). Reverses r new old) (sym c.of.ensures)
-    (reverses old c.args.edit way c.apply.new.tree root laid is done.tree c.root.ensures.exact c.follow.new.memo c.in-Ok.back
-    ((c.in-Ok.ensures {u = tt}).followed (before old c.args.edit way c.apply.new.tree root laid is done.tree c.root.ensures.exact)) c.in_ok-taken.taken done.taken))
+    (reverses old c.args.edit way c.apply_at.new.tree root laid is done.tree c.root.ensures.exact c.follow.new.memo c.in-Ok.back
+    ((c.in-Ok.ensures {u = tt}).followed (before old c.args.edit way c.apply_at.new.tree root laid is done.tree c.root.ensures.exact)) c.in_ok-taken.taken done.taken))

@@ -30,3 +30,11 @@ returns-clause-visits g c =
     let to = c.start_layout.new.steps in
     visits_law m c.args.tree from to c.root.ensures.whole
     (of_tree m c.args.tree c.root.result.now c.context_of-context.result (λ (n : Node) (k : Context). CountsNeeded m n k from to) c.root.ensures.exact c.context_of-context.ensures.exact c.start_layout.ensures.steps)
+
+pub returns-in_err-parents-clause-visits : goal.returns-in_err-parents-clause-visits
+returns-in_err-parents-clause-visits g c =
+    let m = c.args.metrics in
+    let from = c.args.steps.now in
+    let to = c.start_layout.new.steps in
+    visits_law m c.args.tree from to c.root.ensures.whole
+    (of_tree m c.args.tree c.root.result.now c.context_of-context.result (λ (n : Node) (k : Context). CountsNeeded m n k from to) c.root.ensures.exact c.context_of-context.ensures.exact c.start_layout.ensures.steps)

@@ -1,20 +1,22 @@
-use Rattle.std.proofs.Common.{◌≡◌, ◌∙◌, sym, ap, refl, inr, ◌+◌, length, Some, None}
+use Rattle.std.proofs.Common.{◌≡◌, ◌∙◌, sym, ap, subst, refl, inr, ◌+◌, length, Some, None}
 use Rattle.tree_edits.proofs.Allowed.{is_named, allows_it}
 use Rattle.tree_edits.proofs.PlanMade.{is_plan}
 use Rattle.tree_edits.proofs.FirstReason.{unknown_node, own_first, limit_first}
+use Rattle.tree_edits.specs.Edits.{named}
+use Rattle.tree_edits.specs.Paths.{Finds}
 use Rattle.tree_edits.specs.Reasons.{own_reason, shown}
 use Rattle.tree_edits.proofs.planning.Plan.make.Goals as goal
 
 pub returns-in_default-clause-refused : goal.returns-in_default-clause-refused
 returns-in_default-clause-refused c =
-    let none = rw (c.root.ensures.exact, c.named.ensures) at c.in_default.ensures in
-    inr (unknown_node c.args.tree.now c.args.edit none)
+    inr (unknown_node c.args.tree.now c.args.edit (subst (Finds (named c.args.edit) 1 c.args.tree.now.root) c.in_default.is c.requires.found))
 
 pub returns-in-Some-own_reason-clause-refused : goal.returns-in-Some-own_reason-clause-refused
 returns-in-Some-own_reason-clause-refused c =
     let element = c.element_at-element.result.now in
-    let is = is_named c.args.edit c.args.tree.now c.named.result.0 c.root.result.now c.root-2.result.now c.in-Some.path c.as_slice.result.now element
-    c.root.ensures.whole c.root.ensures.exact c.named.ensures c.in-Some.ensures c.root-2.ensures.exact c.as_slice.ensures c.element_at-element.ensures in
+    let leads = subst (Finds (named c.args.edit) 1 c.args.tree.now.root) c.in-Some.is c.requires.found in
+    let is = is_named c.args.edit c.args.tree.now (named c.args.edit) c.args.tree.now.root c.root.result.now c.in-Some.path c.as_slice.result.now element
+    c.root.ensures.whole refl refl leads c.root.ensures.exact c.as_slice.ensures c.element_at-element.ensures in
     let own : own_reason c.args.edit (shown (1 + length c.in-Some.path) element) ≡ Some c.in-Some-own_reason.reason =
     ap (λ l. own_reason c.args.edit (shown l element)) (sym c.level.ensures) ∙ sym c.own_reason.ensures ∙ c.in-Some-own_reason.is in
     inr (own_first c.args.tree.now c.args.edit c.in-Some.path element c.in-Some-own_reason.reason is own)
@@ -22,8 +24,9 @@ returns-in-Some-own_reason-clause-refused c =
 pub returns-in-Some-broken_limit-clause-refused : goal.returns-in-Some-broken_limit-clause-refused
 returns-in-Some-broken_limit-clause-refused c =
     let element = c.element_at-element.result.now in
-    let is = is_named c.args.edit c.args.tree.now c.named.result.0 c.root.result.now c.root-2.result.now c.in-Some.path c.as_slice.result.now element
-    c.root.ensures.whole c.root.ensures.exact c.named.ensures c.in-Some.ensures c.root-2.ensures.exact c.as_slice.ensures c.element_at-element.ensures in
+    let leads = subst (Finds (named c.args.edit) 1 c.args.tree.now.root) c.in-Some.is c.requires.found in
+    let is = is_named c.args.edit c.args.tree.now (named c.args.edit) c.args.tree.now.root c.root.result.now c.in-Some.path c.as_slice.result.now element
+    c.root.ensures.whole refl refl leads c.root.ensures.exact c.as_slice.ensures c.element_at-element.ensures in
     let own : own_reason c.args.edit (shown (1 + length c.in-Some.path) element) ≡ None =
     ap (λ l. own_reason c.args.edit (shown l element)) (sym c.level.ensures) ∙ sym c.own_reason.ensures ∙ c.in_default-own_reason.is in
     let allows = allows_it c.args.edit c.args.tree.now c.in-Some.path element is own in
@@ -33,10 +36,11 @@ returns-in-Some-broken_limit-clause-refused c =
 pub returns-clause-planned : goal.returns-clause-planned
 returns-clause-planned c =
     let element = c.element_at-element.result.now in
-    let is = is_named c.args.edit c.args.tree.now c.named.result.0 c.root.result.now c.root-2.result.now c.in-Some.path c.as_slice.result.now element
-    c.root.ensures.whole c.root.ensures.exact c.named.ensures c.in-Some.ensures c.root-2.ensures.exact c.as_slice.ensures c.element_at-element.ensures in
+    let leads = subst (Finds (named c.args.edit) 1 c.args.tree.now.root) c.in-Some.is c.requires.found in
+    let is = is_named c.args.edit c.args.tree.now (named c.args.edit) c.args.tree.now.root c.root.result.now c.in-Some.path c.as_slice.result.now element
+    c.root.ensures.whole refl refl leads c.root.ensures.exact c.as_slice.ensures c.element_at-element.ensures in
     let own : own_reason c.args.edit (shown (1 + length c.in-Some.path) element) ≡ None =
     ap (λ l. own_reason c.args.edit (shown l element)) (sym c.level.ensures) ∙ sym c.own_reason.ensures ∙ c.in_default-own_reason.is in
     let allows = allows_it c.args.edit c.args.tree.now c.in-Some.path element is own in
-    is_plan c.args.tree.now c.args.edit c.in-Some.path element c.of_edited-totals.result _ c.requires allows c.of_edited-totals.ensures
+    is_plan c.args.tree.now c.args.edit c.in-Some.path element c.of_edited-totals.result _ c.requires.proper allows c.of_edited-totals.ensures
     (sym c.broken_limit.ensures ∙ c.in_default-broken_limit.is) c.in_ok-of_edit.ensures refl refl refl
