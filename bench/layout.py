@@ -20,8 +20,9 @@ HERE = os.path.dirname(os.path.abspath(__file__))
 PROGRAM = os.path.join(HERE, "..", "crates", "mathlay", "out", "mathlay")
 METRICS = os.path.join(HERE, "..", "crates", "cases", "data", "sample.metrics")
 
-# Each tree: its rows, how many of them stand in a group, if they do, and how many edits are timed on it.
-TREES = {"833 elements": (64, None, 20_000), "53,249 elements, flat": (4_096, None, 100), "53,249, in groups of 64": (4_096, 64, 2_000)}
+# Each tree: its rows, how many of them stand in a group, if they do, and how many edits are timed on it: so many that some
+# of them drop what isn't needed any more.
+TREES = {"833 elements": (64, None, 20_000), "53,249 elements, flat": (4_096, None, 2_000), "53,249, in groups of 64": (4_096, 64, 2_000)}
 
 # A row of 13 elements: x + 1/2 - b^2 (4), by name and text or children.
 ROW = ("mrow", (

@@ -31,13 +31,17 @@ use tree_edits::Edit;
 #[derive(Drop)]
 pub struct Session {
     layouts: MemoTree,
-    /// How many edits were accepted since what isn't needed was dropped.
-    unswept: u32,
+    /// The weight of the edits that were accepted since what isn't needed was dropped.
+    unswept: usize,
 }
 
-/// So many edits are accepted before layouts that aren't needed any more are dropped: few, since all that
-/// are kept of an element are looked through for one, and many, since dropping goes over the whole tree.
-const MOST_UNSWEPT: u32 = 64;
+/// What an accepted edit weighs, beside one for each layout that it made. So only so many edits come
+/// between two sweeps: all layouts that are kept of an element are looked through for one.
+const EDIT_WEIGHT: usize = 64;
+
+/// So much, and one more for each element of the tree, edits may weigh before layouts that aren't needed
+/// any more are dropped: that goes over the whole tree, and is to cost little beside them at any size.
+const MOST_UNSWEPT: usize = 4_096;
 
 impl Model for Session {
     ghost use Rattle.std.specs.Coded.{codes};
@@ -101,8 +105,8 @@ impl Session {
         let reversal = self.layouts.change(alloc, edit)?;
         match self.layouts.relay(alloc, steps) {
             Ok(()) => {
-                self.layouts.seal();
-                self.drop_in_time();
+                let made = self.layouts.seal();
+                self.drop_in_time(made);
                 Ok(())
             }
             Err(refusal) => {
@@ -113,12 +117,18 @@ impl Session {
         }
     }
 
-    /// Counts an accepted edit, and drops what isn't needed any more where there were many.
-    fn drop_in_time(&mut self)
+    /// Weighs an accepted edit that made so many layouts, and drops what isn't needed any more where the
+    /// edits since that was last done weigh enough.
+    fn drop_in_time(&mut self, made: usize)
         ensures { self.new.held ≡ self.old.held }
     {
-        if self.unswept < MOST_UNSWEPT {
-            self.unswept += 1;
+        let weight = self
+            .unswept
+            .saturating_add(EDIT_WEIGHT)
+            .saturating_add(made);
+        let elements = self.layouts.tree().elements() as usize;
+        if weight <= MOST_UNSWEPT + elements {
+            self.unswept = weight;
         } else {
             self.drop_needless();
         }

@@ -1,18 +1,17 @@
-ghost use Rattle.std.specs.Prelude.{◌≡◌, ◌≤◌, ◌++◌, map, IfOk};
+ghost use Rattle.std.specs.Prelude.{◌≡◌, ◌≤◌, ◌++◌, IfOk};
 ghost use Rattle.font_metrics.specs.Metrics.{MetricsValue};
 ghost use Rattle.math_tree.specs.Trees.{element_count};
 ghost use Rattle.layout_model.specs.Layout.{laid};
 ghost use Rattle.kept_results.specs.Kept.{Agrees, HasEntry, IsKept};
-ghost use Rattle.kept_results.specs.Looking.{own_facts};
 ghost use Rattle.kept_results.specs.declared.memo.Memo.TheViews.{out-Memo};
 ghost use Rattle.kept_laid.specs.Laid.{AgreesWithSome, kids_laid};
 
 use crate::last::last_contexts;
 use crate::lookup::kept_entry;
 use crate::outcomes::copy_of;
-use embellished::{Facts, NodeView, View};
+use embellished::{NodeView, View};
 use fixed_units::{List, Memory};
-use kept_results::{Entry, Memo};
+use kept_results::{Entry, Memo, facts_below};
 use layout_model::{Context, Laid};
 use math_tree::Node;
 use std::alloc::Global;
@@ -53,17 +52,6 @@ fn laid_kids(alloc: Global, node: &Node, memo: &Memo, entry: &Entry) -> Result<L
             let below = &memo.below.as_slice()[view.place(index)];
             kids.push(laid_of(alloc, view.node_at(index), below, context)?)?;
         }
-    }
-    Ok(kids)
-}
-
-/// What the children of an element are among operators, in order.
-fn facts_below(alloc: Global, memo: &Memo) -> Result<List<Facts>, Memory>
-    ensures { IfOk result (λ kids. kids ≡ map own_facts (out-Memo memo.now).below) }
-{
-    let mut kids = List::make(alloc);
-    for below in memo.below.as_slice() {
-        kids.push(below.facts)?;
     }
     Ok(kids)
 }

@@ -3,6 +3,7 @@ pub mod Counts
 pub mod Dropping
 pub mod Law
 pub mod Lists
+pub mod Made
 pub mod Passing
 pub mod Renewing
 pub mod Sealing

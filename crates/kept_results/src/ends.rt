@@ -1,5 +1,5 @@
-ghost use Rattle.std.specs.Prelude.{◌≡◌};
-ghost use Rattle.kept_results.specs.Ends.{not_fresh, sealed, settled_all, stripped};
+ghost use Rattle.std.specs.Prelude.{◌≡◌, ◌-◌, ◌^◌, min, length};
+ghost use Rattle.kept_results.specs.Ends.{fresh_count, fresh_only, not_fresh, sealed, settled_all, stripped};
 ghost use Rattle.kept_results.specs.Tidy.{IsTidy};
 
 use crate::entries::{is_calm, is_live, is_marked};
@@ -17,20 +17,31 @@ pub fn undo_pass(memo: &mut Memo)
 }
 
 /// Ends a pass that was done: older entries are dropped, and marks and flags are cleared. It goes only
-/// where the edit and the pass went, and takes no memory.
-pub fn seal(memo: &mut Memo)
+/// where the edit and the pass went, and takes no memory. It says how many entries the pass made, and
+/// 2^64 - 1 where there are more.
+pub fn seal(memo: &mut Memo) -> usize
     requires tidy { IsTidy memo.old }
-    ensures { memo.new ≡ sealed memo.old }
+    ensures sealed { memo.new ≡ sealed memo.old }
+    ensures made { result ≡ min (fresh_count memo.old) (2 ^ 64 - 1) }
 {
     if is_calm(memo) {
-        return;
+        return 0;
     }
+    let mut made = count_fresh(memo.entries.as_slice());
     for at in 0..memo.below.len() {
-        seal(memo.below.at_mut(at));
+        made = made.saturating_add(seal(memo.below.at_mut(at)));
     }
     let marked = is_marked(memo);
     drop_older(&mut memo.entries, marked);
     memo.former = None;
+    made
+}
+
+/// How many of these entries the present pass made.
+fn count_fresh(entries: &[Entry]) -> usize
+    ensures { result ≡ length (fresh_only entries.now) }
+{
+    entries.iter().filter(|entry| entry.fresh).count()
 }
 
 /// Drops the entries that the present pass made. They stand at the end, and so nothing is moved.

@@ -21,5 +21,6 @@ mod relay; // a pass over an element
 
 pub use contexts::is_same;
 pub use ends::{seal, undo_pass};
+pub use entries::facts_below;
 pub use memo::{Entry, Memo};
 pub use relay::relay_element;

@@ -3,7 +3,7 @@ ghost use Rattle.fixed_units.specs.declared.refusal.LayRefusal.TheVariants.{Rang
 ghost use Rattle.tree_edits.specs.Applying.{IsProperEdit, IsReason};
 ghost use Rattle.tree_edits.specs.Edits.{edited, refusal_of};
 ghost use Rattle.layout_model.specs.Layout.{is_tree_in_range, laid_tree};
-ghost use Rattle.kept_results.specs.Ends.{kept_count, sealed, stripped};
+ghost use Rattle.kept_results.specs.Ends.{fresh_count, kept_count, sealed, stripped};
 ghost use Rattle.kept_results.specs.Kept.{Keeps};
 ghost use Rattle.kept_laid.specs.Boxes.{box_in};
 ghost use Rattle.kept_edits.specs.Blank.{blank};
@@ -192,15 +192,16 @@ impl MemoTree {
     }
 
     /// Ends a pass that was done: layouts of elements as they were before it are dropped. It takes no
-    /// memory.
-    pub fn seal(&mut self)
+    /// memory, and says how many layouts the pass made, and 2^64 - 1 where there are more.
+    pub fn seal(&mut self) -> usize
         requires passed { IsIn Passed self.old }
         ensures tree { self.new.tree ≡ self.old.tree }
         ensures metrics { self.new.metrics ≡ self.old.metrics }
         ensures memo { self.new.memo ≡ sealed self.old.memo }
         ensures sealed { IsIn Sealed self.new }
+        ensures made { result ≡ min (fresh_count self.old.memo) (2 ^ 64 - 1) }
     {
-        seal(&mut self.memo);
+        seal(&mut self.memo)
     }
 
     /// Drops all layouts but those that the one of the tree needs, and says how many are left. It takes no

@@ -1,9 +1,16 @@
-use Rattle.kept_results.specs.Ends.{sealed}
+use Rattle.std.proofs.Common.{◌≡◌, ◌+◌, ◌-◌, ◌^◌, length, min, take}
+use Rattle.kept_results.specs.Ends.{fresh_only, sealed}
+use Rattle.kept_results.specs.declared.memo.Memo.TheViews.{out-Memo}
+use Rattle.kept_results.proofs.Made.{fresh_below}
 use Rattle.kept_results.proofs.Renewing.{Renewed}
 use Rattle.kept_results.proofs.ends.+seal.Given as goal
 
 abbrev pub decreases-seal : goal.decreases-seal
 decreases-seal l = goal.size-seal l
 
+-- the memos of the first children are sealed, and the element's own fresh entries are counted, and theirs
 abbrev pub invariant-loop-at : goal.invariant-loop-at
-invariant-loop-at l = Renewed sealed l.fn.memo l.memo l.at
+invariant-loop-at l = record {
+  renewed : Renewed sealed l.fn.memo l.memo l.at;
+  counted : l.made ≡ min (length (fresh_only (out-Memo l.fn.memo).entries) + fresh_below (take l.at (out-Memo l.fn.memo).below)) (2 ^ 64 - 1);
+}

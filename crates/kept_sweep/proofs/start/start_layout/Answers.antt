@@ -26,22 +26,22 @@ seal-requires g c = record {
 pub sweep_layouts-requires-clause-agrees : goal.sweep_layouts-requires-clause-agrees
 sweep_layouts-requires-clause-agrees g c =
     let m = c.args.metrics.now in
-    subst (Agrees m c.args.node.now) (sym c.seal.ensures) (seal_law m c.args.node.now c.relay_element.new.memo (c.in_ok-relay_element.ensures {u = tt}).passed.agrees).agrees
+    subst (Agrees m c.args.node.now) (sym c.seal.ensures.sealed) (seal_law m c.args.node.now c.relay_element.new.memo (c.in_ok-relay_element.ensures {u = tt}).passed.agrees).agrees
 
 pub sweep_layouts-requires-clause-unmarked : goal.sweep_layouts-requires-clause-unmarked
 sweep_layouts-requires-clause-unmarked g c =
     let m = c.args.metrics.now in
-    subst (λ (memo : Memo). is_unmarked memo ≡ true) (sym c.seal.ensures) (seal_law m c.args.node.now c.relay_element.new.memo (c.in_ok-relay_element.ensures {u = tt}).passed.agrees).unmarked
+    subst (λ (memo : Memo). is_unmarked memo ≡ true) (sym c.seal.ensures.sealed) (seal_law m c.args.node.now c.relay_element.new.memo (c.in_ok-relay_element.ensures {u = tt}).passed.agrees).unmarked
 
 pub sweep_layouts-requires-clause-plain : goal.sweep_layouts-requires-clause-plain
 sweep_layouts-requires-clause-plain g c =
     let m = c.args.metrics.now in
-    subst (λ (memo : Memo). stripped memo ≡ memo) (sym c.seal.ensures) (seal_law m c.args.node.now c.relay_element.new.memo (c.in_ok-relay_element.ensures {u = tt}).passed.agrees).plain
+    subst (λ (memo : Memo). stripped memo ≡ memo) (sym c.seal.ensures.sealed) (seal_law m c.args.node.now c.relay_element.new.memo (c.in_ok-relay_element.ensures {u = tt}).passed.agrees).plain
 
 pub sweep_layouts-requires-clause-kept : goal.sweep_layouts-requires-clause-kept
 sweep_layouts-requires-clause-kept g c =
     let done = c.in_ok-relay_element.ensures {u = tt} in
-    subst (λ (memo : Memo). IsKept (out-Memo memo) c.args.context.now) (sym c.seal.ensures) (kept_sealed c.args.metrics.now c.args.node.now c.relay_element.new.memo c.args.context.now done.passed.agrees done.kept)
+    subst (λ (memo : Memo). IsKept (out-Memo memo) c.args.context.now) (sym c.seal.ensures.sealed) (kept_sealed c.args.metrics.now c.args.node.now c.relay_element.new.memo c.args.context.now done.passed.agrees done.kept)
 
 -- as many steps as there are entries: each of the steps is still kept, and nothing but them was
 pub returns-clause-all : goal.returns-clause-all
@@ -52,6 +52,6 @@ returns-clause-all g c =
     let blank_count = ap kept_count (c.in_ok-memo.ensures {u = tt}) ∙ count_blank c.args.node.now in
     let grown = done.grown refl in
     let steps = done.steps in
-    let seal_count = ap kept_count c.seal.ensures ∙ count_sealed c.relay_element.new.memo in
+    let seal_count = ap kept_count c.seal.ensures.sealed ∙ count_sealed c.relay_element.new.memo in
     let fewer = c.sweep_layouts.ensures.fewer in
     omega arith

@@ -31,17 +31,17 @@ returns-clause-swept c =
     let m = c.args.metrics.now in
     let node = c.args.node.now in
     let flagged = subst (λ (memo : Memo). IsFlagged m node c.args.context.now memo c.flag_needed.new.memo) c.mark_all.ensures c.flag_needed.ensures in
-    subst (KeepsNeeded m node c.args.context.now) (sym c.seal.ensures) (swept m node c.args.context.now c.args.memo.now c.flag_needed.new.memo c.requires.plain flagged)
+    subst (KeepsNeeded m node c.args.context.now) (sym c.seal.ensures.sealed) (swept m node c.args.context.now c.args.memo.now c.flag_needed.new.memo c.requires.plain flagged)
 
 pub returns-clause-part : goal.returns-clause-part
 returns-clause-part c =
     let m = c.args.metrics.now in
     let node = c.args.node.now in
     let flagged = subst (λ (memo : Memo). IsFlagged m node c.args.context.now memo c.flag_needed.new.memo) c.mark_all.ensures c.flag_needed.ensures in
-    subst (λ (memo : Memo). IsPartOf memo c.args.memo.now) (sym c.seal.ensures) (swept_part m node c.args.context.now c.args.memo.now c.flag_needed.new.memo c.requires.plain flagged c.requires.unmarked)
+    subst (λ (memo : Memo). IsPartOf memo c.args.memo.now) (sym c.seal.ensures.sealed) (swept_part m node c.args.context.now c.args.memo.now c.flag_needed.new.memo c.requires.plain flagged c.requires.unmarked)
 
 pub returns-clause-fewer : goal.returns-clause-fewer
 returns-clause-fewer c =
     let flagged = c.flag_needed.new.memo in
     let before = ap kept_count (c.flag_needed.ensures.same ∙ ap cleared c.mark_all.ensures ∙ cleared_before c.args.memo.now c.requires.plain c.requires.unmarked) in
-    omega (arith, ap kept_count c.seal.ensures, count_sealed flagged, count_cleared flagged, before)
+    omega (arith, ap kept_count c.seal.ensures.sealed, count_sealed flagged, count_cleared flagged, before)

@@ -9,4 +9,4 @@ seal-requires c = record { tidy = (subst IsPassed (sym c.self.view_is) c.require
 pub returns-clause-sealed : goal.returns-clause-sealed
 returns-clause-sealed c =
     let laid = c.self.inside in
-    sealed_pass record { tree = laid.tree; metrics = laid.metrics; memo = laid.memo } c.seal.new.memo (subst IsPassed (sym c.self.view_is) c.requires.passed) c.seal.ensures
+    sealed_pass record { tree = laid.tree; metrics = laid.metrics; memo = laid.memo } c.seal.new.memo (subst IsPassed (sym c.self.view_is) c.requires.passed) c.seal.ensures.sealed

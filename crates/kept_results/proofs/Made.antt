@@ -1,0 +1,67 @@
+-- How many entries a pass made.
+use Rattle.std.proofs.Common.{◌≡◌, ◌∙◌, refl, sym, ap, ℕ, ◌+◌, ◌<◌, arith, true, List, [], ◌∷◌, ◌++◌, filter, length, map, take, Some, slice_get}
+use Rattle.std.proofs.lemmas.List.{map-append, take_more}
+use Rattle.std.proofs.lemmas.List.Sums.{sum_by-append, sum_by-cons}
+use Rattle.std.proofs.lemmas.Option.{get_or_from_slice_get, slice_get_within}
+use Rattle.std.specs.List.{sum}
+use Rattle.kept_results.specs.Ends.{fresh_count, fresh_in, fresh_only, sealed, settled}
+use Rattle.kept_results.specs.Kept.{is_live, is_marked}
+use Rattle.kept_results.specs.Tidy.{IsTidy, is_calm}
+use Rattle.kept_results.specs.declared.memo.Entry.{Entry}
+use Rattle.kept_results.specs.declared.memo.Memo.{Memo}
+use Rattle.kept_results.specs.declared.memo.Memo.TheFolds.{fold-roll-Memo, fold_out-Memo, ind-Memo}
+use Rattle.kept_results.specs.declared.memo.Memo.TheOpen.{Memo-F}
+use Rattle.kept_results.specs.declared.memo.Memo.TheViews.{out-Memo, out-roll-Memo, roll-Memo}
+use Rattle.kept_results.proofs.Counts.{sealed_out, sealed_over}
+use Rattle.kept_results.proofs.Tidying.{calm_sealed}
+
+abbrev pub fresh_below : List Memo → ℕ
+fresh_below memos = sum (map fresh_count memos)
+
+abbrev fresh_over : Memo-F Memo → ℕ
+fresh_over layer = length (fresh_only layer.entries) + fresh_below layer.below
+
+pub fresh_out : (memo : Memo) → fresh_count memo ≡ fresh_over (out-Memo memo)
+fresh_out = fold_out-Memo ℕ fresh_in
+
+-- one memo more
+pub fresh_more : (memos : List Memo) (at : ℕ) (memo : Memo) → slice_get memos at ≡ Some memo
+    → fresh_below (take (at + 1) memos) ≡ fresh_below (take at memos) + fresh_count memo
+fresh_more memos at memo there =
+    let within : at < length memos = slice_get_within memos at memo there in
+    let joined : fresh_below (take (at + 1) memos) ≡ sum (map fresh_count (take at memos) ++ fresh_count memo ∷ []) =
+    ap fresh_below (take_more memos at memo within)
+    ∙ ap (λ (x : Memo). fresh_below (take at memos ++ x ∷ [])) (get_or_from_slice_get memos at memo memo there)
+    ∙ ap sum (map-append fresh_count (take at memos) (memo ∷ [])) in
+    let split = sum_by-append (λ (n : ℕ). n) (map fresh_count (take at memos)) (fresh_count memo ∷ []) in
+    let one = sum_by-cons (λ (n : ℕ). n) (fresh_count memo) [] in
+    omega (arith, joined, split, one)
+
+-- ---- a calm memo has none
+
+abbrev HasNone : Memo → Type 0
+HasNone memo = fresh_count (sealed memo) ≡ 0
+
+none_settled : (entries : List Entry) → length (fresh_only (map settled entries)) ≡ 0
+none_settled [] = refl
+none_settled (x ∷ entries) = none_settled entries
+
+none_below : (ys : List ((memo : Memo) × HasNone memo)) → fresh_below (map sealed (map (λ y. y.0) ys)) ≡ 0
+none_below [] = refl
+none_below (y ∷ ys) =
+    let rest : List Memo = map sealed (map (λ y. y.0) ys) in
+    let all : fresh_below (sealed y.0 ∷ rest) ≡ fresh_count (sealed y.0) + fresh_below rest = sum_by-cons (λ (n : ℕ). n) (fresh_count (sealed y.0)) (map fresh_count rest) in
+    omega (arith, all, y.1, none_below ys)
+
+none_sealed : (memo : Memo) → HasNone memo
+none_sealed = ind-Memo HasNone (λ x y is.
+    let memo = roll-Memo x in
+    let layer : Memo-F Memo = out-Memo memo in
+    let below : layer.below ≡ map (λ e. e.0) y.below = ap (λ (l : Memo-F Memo). l.below) (out-roll-Memo x ∙ sym is) in
+    let own = none_settled (filter (is_live (is_marked layer)) layer.entries) in
+    let others : fresh_below (map sealed layer.below) ≡ 0 = ap (λ (l : List Memo). fresh_below (map sealed l)) below ∙ none_below y.below in
+    let over : fresh_count (sealed memo) ≡ fresh_over (sealed_over layer) = ap fresh_count (sealed_out memo) ∙ fold-roll-Memo ℕ fresh_in (sealed_over layer) in
+    omega (arith, over, own, others))
+
+pub none_calm : (memo : Memo) → IsTidy memo → is_calm (out-Memo memo) ≡ true → fresh_count memo ≡ 0
+none_calm memo tidy calm = ap fresh_count (sym (calm_sealed memo tidy calm)) ∙ none_sealed memo
