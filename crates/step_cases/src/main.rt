@@ -11,7 +11,11 @@
 //! - Add a kind of case: its file here, and its line in `src/kinds.rt`.
 #![tactic(auto)]
 
+mod given; // what a case gives
 mod kinds; // the kinds of cases
+mod lines; // lines of a script, in a session and beside it
+mod seen; // whether two trees with their kept layouts are the same
+mod words; // the words of answers
 
 use case_format::carry_out;
 use kinds::OfSteps;
