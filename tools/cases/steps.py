@@ -8,12 +8,18 @@ from .values import Fields
 
 OUT_OF_RANGE = "range"
 REFUSED = "refused"
-FRESH_SAME = "fresh same"
+# What is kept in the end is compared with a fresh layout, what the session holds at each line with an equal tree beside
+# it, and the session at its end with one over a copy of its tree: by the definitions nothing differs.
+ALL_SAME = ("fresh same", "session same", "copy same")
+START_SAME = "start same"
+
+# A session drops what its tree doesn't need at a show, and at the first edit after so many since it last did.
+MOST_UNSWEPT = 64
 
 
 def steps(reference, known, value):
-    """How many layouts are made at the start and by each edit of a script, and how many are kept after each. What is kept
-    in the end is what a fresh layout gives."""
+    """How many layouts are made at the start and by each edit of a script, and how many are kept after each; then that
+    all is the same that is compared."""
     fields = Fields(value, "metrics", "tree", "script")
     script = fields.items("script", lambda _line: True)
     tree = tree_of(reference, fields.value("tree"))
@@ -22,7 +28,20 @@ def steps(reference, known, value):
     if not layouts.is_in_range(tree):
         return OUT_OF_RANGE
     held = Held(reference, layouts, tree)
-    return "; ".join([made(len(held.kept), held.kept), *(held.answer(text_of(line)) for line in script), FRESH_SAME])
+    return "; ".join([made(len(held.kept), held.kept), *(held.answer(text_of(line)) for line in script), *ALL_SAME])
+
+
+def relay(reference, known, value):
+    """How many layouts are made of a tree of which none is kept: those that it needs. Where it is out of range, none is
+    kept."""
+    fields = Fields(value, "metrics", "tree")
+    tree = tree_of(reference, fields.value("tree"))
+    fields.text("metrics")
+    layouts = reference.layout.Layouts(metrics_in(reference, known, fields), so_far.SO_FAR)
+    if not layouts.is_in_range(tree):
+        return f"{OUT_OF_RANGE}, {told_kept(())}"
+    needed = layouts.visits(tree)
+    return f"{made(len(needed), needed)}; {START_SAME}"
 
 
 def tree_of(reference, value):
@@ -34,7 +53,11 @@ def tree_of(reference, value):
 
 
 def made(count, kept):
-    return f"made {count}, kept {len(kept)}"
+    return f"made {count}, {told_kept(kept)}"
+
+
+def told_kept(kept):
+    return f"kept {len(kept)}"
 
 
 class Held:
@@ -42,7 +65,11 @@ class Held:
 
     def __init__(self, reference, layouts, tree):
         self.reference, self.layouts, self.tree = reference, layouts, tree
-        self.kept = layouts.visits(tree)
+        self.drop()
+
+    def drop(self):
+        """What the tree doesn't need is dropped."""
+        self.kept, self.unswept = self.layouts.visits(self.tree), 0
 
     def answer(self, line):
         """What comes of a line of a script."""
@@ -55,11 +82,12 @@ class Held:
 
     def shown(self):
         """A show drops what the tree doesn't need."""
-        self.kept = self.layouts.visits(self.tree)
-        return f"kept {len(self.kept)}"
+        self.drop()
+        return told_kept(self.kept)
 
     def edited(self, command):
-        """An edit drops what is kept of the elements on its way and of those that it takes out."""
+        """An edit drops what is kept of the elements on its way and of those that it takes out; after many others it
+        drops all that the tree doesn't need."""
         program = self.reference.program
         try:
             new, path = program.edited(self.tree, command, so_far.SO_FAR)
@@ -72,6 +100,10 @@ class Held:
         count = len(needed - stay)
         self.compare(count, new, path)
         self.tree, self.kept = new, stay | needed
+        if self.unswept < MOST_UNSWEPT:
+            self.unswept += 1
+        else:
+            self.drop()
         return made(count, self.kept)
 
     def compare(self, count, new, path):
@@ -82,4 +114,4 @@ class Held:
         assert count == bound if self.kept == old else count <= bound
 
 
-KINDS = {"steps": steps}
+KINDS = {"relay": relay, "steps": steps}

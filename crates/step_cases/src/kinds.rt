@@ -1,22 +1,24 @@
+mod relay;
 mod steps;
 
 use case_format::{Answer, Case, Fault, Kinds};
 
-/// The kinds for steps.
+/// The kinds for layouts that are made and kept.
 pub struct OfSteps;
 
 impl Kinds for OfSteps {
     fn answer(&self, kind: &str, case: Case) -> Result<Answer, Fault> {
-        match kind {
-            "steps" => one_answer(case),
-            _ => Err(Fault::UnknownKind),
-        }
+        let mut words = String::new(case.alloc);
+        add_answer(kind, case, &mut words)?;
+        Ok(Answer::One(words))
     }
 }
 
-/// The one answer to a case.
-fn one_answer(case: Case) -> Result<Answer, Fault> {
-    let mut words = String::new(case.alloc);
-    steps::answer(case, &mut words)?;
-    Ok(Answer::One(words))
+/// Adds the words of the one answer to a case.
+fn add_answer(kind: &str, case: Case, words: &mut String) -> Result<(), Fault> {
+    match kind {
+        "relay" => relay::answer(case, words),
+        "steps" => steps::answer(case, words),
+        _ => Err(Fault::UnknownKind),
+    }
 }

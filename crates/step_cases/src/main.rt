@@ -1,6 +1,6 @@
-//! The program `step_cases`: it lays trees out, edits them and sweeps what is kept, as lines of its
-//! standard input say, and writes how many layouts were made each time, how many are kept, and whether
-//! the kept layout is in the end the one that is made afresh.
+//! The program `step_cases`: sessions go through scripts, as lines of its standard input say, and it writes
+//! how many layouts were made each time, how many are kept, and whether what a session holds is what an
+//! equal tree beside it does, a fresh layout gives, and a copy holds; and the same of single passes.
 //!
 //! `stdin` has the cases, and `stdout` what must come of them, which was found out by a second
 //! program (docs/CASES.md has the format and says how). The gate runs this program and compares.
@@ -8,10 +8,14 @@
 //! - Proved: that every input is gone through to its end, without undefined behaviour. What is
 //!   written is compared, so no function here says what it writes.
 //! - Knows nothing of: what is kept, and what an edit leaves of it.
-//! - Add a kind of case: its file here, and its line in `src/kinds.rt`.
+//! - Add a kind of case: its file in `src/kinds/`, and its line in `src/kinds.rt`.
 #![tactic(auto)]
 
+mod given; // what a case gives
 mod kinds; // the kinds of cases
+mod lines; // lines of a script, in a session and beside it
+mod seen; // whether two trees with their kept layouts are the same
+mod words; // the words of answers
 
 use case_format::carry_out;
 use kinds::OfSteps;

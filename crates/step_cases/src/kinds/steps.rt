@@ -1,71 +1,64 @@
-//! `steps`: how many layouts are made of a tree, at the start and by each edit of a script, and whether what
-//! is kept in the end is what a fresh layout gives.
+//! `steps`: a session goes through a script, and how many layouts are made at its start and by each edit is told.
 //!
-//! A step is a layout that is made. How many were taken can't be read, since they take no bytes; but a pass
-//! that is done keeps as many layouts more as it made, so what is kept is counted before it and after it.
+//! A step is a layout that is made. How many were taken can't be read, since they take no bytes, and an edit of a
+//! session also drops what it had of the elements that were changed. So an equal tree goes the same way beside it, by
+//! the calls of `memo_tree`, where layouts are counted; at each line both have to hold the same.
 ghost use Rattle.std.specs.Prelude.{◌≡◌, ◌<◌, OnOk};
 ghost use Rattle.memo_tree.specs.States.{IsIn, Sealed};
-ghost use Rattle.tree_edits.specs.Applying.{IsProperEdit};
 
+use crate::given::tree_in;
+use crate::lines::{carry_out, carry_out_counted, drop_as_session};
+use crate::seen::{is_fresh, is_held, not_same};
+use crate::words::{add_judged, add_made, add_refusal, add_word};
 use case_format::{Case, Fault, Fields};
-use fixed_units::{LayRefusal, Steps};
+use edit_session::Session;
+use fixed_units::Steps;
 use font_metrics::Metrics;
-use layout_core::{Laid, lay_fresh};
-use math_tree::{Tree, TreeRefusal, read_tree};
+use math_tree::Tree;
 use memo_tree::MemoTree;
 use serde_json::Value;
 use std::alloc::Global;
 use std::marker::Brand;
 use std::sync::ledger::{Blank, Ledger};
-use tree_edits::{Command, CommandRefusal, Edit, EditRefusal, read_command};
 
-const REFUSED: &str = "refused";
+/// The edit that a session and one over a copy of its tree carry out in the end.
+const INSERTION: &str =
+    "{\"op\":\"insert\",\"node\":1,\"index\":0,\"element\":{\"name\":\"mn\",\"text\":\"1\"}}";
 
-const OUT_OF_RANGE: &str = "range";
-
-const FRESH_SAME: &str = "; fresh same";
-
-const FRESH_OTHER: &str = "; fresh other";
+/// A case of this kind.
+#[derive(Clone, Copy)]
+struct Script<'a> {
+    case: Case<'a>,
+    fields: Fields<'a>,
+    lines: &'a [Value],
+}
 
 /// Adds the words of the answer.
 pub fn answer(case: Case, words: &mut String) -> Result<(), Fault> {
     let fields = Fields::of_value(case.value, &["metrics", "tree", "script"])?;
-    let script = fields.items("script")?;
-    let tree = tree_of(case.alloc, fields.value("tree")?)?;
-    add_answer(case, fields, tree, script, words)
+    let lines = fields.items("script")?;
+    let tree = tree_in(case.alloc, fields)?;
+    let script = Script {
+        case,
+        fields,
+        lines,
+    };
+    add_answer(script, tree, words)
 }
 
-/// The tree of a value.
-fn tree_of(alloc: Global, value: &Value) -> Result<Tree, Fault> {
-    match read_tree(alloc, value) {
-        Ok(tree) => Ok(tree),
-        Err(TreeRefusal::Fault(_)) => Err(Fault::NotAnElement),
-        Err(TreeRefusal::Memory) => Err(Fault::Memory),
-    }
-}
-
-/// Adds the answer for a tree and a script.
-fn add_answer(
-    case: Case,
-    fields: Fields,
-    tree: Tree,
-    script: &[Value],
-    words: &mut String,
-) -> Result<(), Fault> {
-    match case.metrics(fields) {
-        Ok(metrics) => {
-            add_counted::<Brand>(case.alloc, tree, metrics, script, words, Blank::new(1))
-        }
+/// Adds the answer for a tree.
+fn add_answer(script: Script, tree: Tree, words: &mut String) -> Result<(), Fault> {
+    match script.metrics() {
+        Ok(metrics) => add_counted::<Brand>(script, tree, metrics, words, Blank::new(1)),
         Err(fault) => Err(fault),
     }
 }
 
 /// The same with steps on the ledger `L`.
 fn add_counted<L: Ledger>(
-    alloc: Global,
+    script: Script,
     tree: Tree,
     metrics: Metrics,
-    script: &[Value],
     words: &mut String,
     blank: Blank,
 ) -> Result<(), Fault>
@@ -74,130 +67,124 @@ fn add_counted<L: Ledger>(
     requires some { 0 < blank.parts }
 {
     let mut steps = Steps::<L>::new(blank);
-    match MemoTree::start(alloc, tree, metrics, &mut steps) {
-        Ok(mut laid) => {
-            let made = laid.kept();
-            add_made(made, made, words)?;
-            add_lines(alloc, &mut laid, script, words, &mut steps)?;
-            add_fresh(alloc, &laid, words, &mut steps)
-        }
+    match Session::start(script.case.alloc, tree, metrics, &mut steps) {
+        Ok(mut session) => script.add_session(&mut session, words, &mut steps),
         Err(refusal) => add_refusal(refusal, words),
     }
 }
 
-/// Adds that a tree is out of range.
-fn add_refusal(refusal: LayRefusal, words: &mut String) -> Result<(), Fault> {
-    match refusal {
-        LayRefusal::Range => add_word(OUT_OF_RANGE, words),
-        LayRefusal::Memory => Err(Fault::Memory),
+impl<'a> Script<'a> {
+    /// The metrics of the case, read anew.
+    fn metrics(self) -> Result<Metrics, Fault> {
+        self.case.metrics(self.fields)
+    }
+
+    /// Adds what comes of a session that was just started.
+    fn add_session<L: Ledger>(
+        self,
+        session: &mut Session,
+        words: &mut String,
+        steps: &mut Steps<L>,
+    ) -> Result<(), Fault> {
+        let is_same = self.add_beside(session, words, steps)?;
+        let is_fresh = is_fresh(self.case.alloc, session.layouts(), steps)?;
+        let is_copied = self.is_copied(session, steps)?;
+        add_judged("; fresh", is_fresh, words)?;
+        add_judged("; session", is_same, words)?;
+        add_judged("; copy", is_copied, words)
+    }
+
+    /// Adds what comes of the start and of each line, and says whether an equal tree beside the session holds the same
+    /// each time.
+    fn add_beside<L: Ledger>(
+        self,
+        session: &mut Session,
+        words: &mut String,
+        steps: &mut Steps<L>,
+    ) -> Result<bool, Fault> {
+        let tree = session.tree(self.case.alloc)?;
+        match self.metrics() {
+            Ok(metrics) => match MemoTree::start(self.case.alloc, tree, metrics, steps) {
+                Ok(mut laid) => self.add_all(session, &mut laid, words, steps),
+                Err(refusal) => not_same(refusal),
+            },
+            Err(fault) => Err(fault),
+        }
+    }
+
+    fn add_all<L: Ledger>(
+        self,
+        session: &mut Session,
+        laid: &mut MemoTree,
+        words: &mut String,
+        steps: &mut Steps<L>,
+    ) -> Result<bool, Fault>
+        requires { IsIn Sealed laid.old }
+    {
+        add_made(laid.kept(), session.kept(), words)?;
+        let mut is_same = is_held(self.case.alloc, session, laid)?;
+        for value in self.lines {
+            add_word("; ", words)?;
+            let text = value.to_string(self.case.alloc)?;
+            let is_so = add_line(
+                self.case.alloc,
+                text.as_bytes(),
+                session,
+                laid,
+                words,
+                steps,
+            )?;
+            is_same = is_same && is_so;
+        }
+        Ok(is_same)
+    }
+
+    /// Whether a session over a copy of a session's tree holds the same, also after an edit of both.
+    fn is_copied<L: Ledger>(
+        self,
+        session: &mut Session,
+        steps: &mut Steps<L>,
+    ) -> Result<bool, Fault> {
+        let _placed = session.show(self.case.alloc)?;
+        let tree = session.tree(self.case.alloc)?;
+        match self.metrics() {
+            Ok(metrics) => match Session::start(self.case.alloc, tree, metrics, steps) {
+                Ok(mut copied) => stays_same(self.case.alloc, session, &mut copied, steps),
+                Err(refusal) => not_same(refusal),
+            },
+            Err(fault) => Err(fault),
+        }
     }
 }
 
-/// Carries out the lines of a script, one after another, and adds what came of each.
-fn add_lines<L: Ledger>(
-    alloc: Global,
-    laid: &mut MemoTree,
-    script: &[Value],
-    words: &mut String,
-    steps: &mut Steps<L>,
-) -> Result<(), Fault>
-    requires { IsIn Sealed laid.old }
-    ensures { OnOk result (IsIn Sealed laid.new) }
-{
-    for value in script {
-        words.push_str("; ")?;
-        let text = value.to_string(alloc)?;
-        add_line(alloc, laid, text.as_bytes(), words, steps)?;
-    }
-    Ok(())
-}
-
-/// Carries a line out, and adds what came of it.
+/// Carries a line out in a session and beside it, adds what came of it, and says whether both hold the same.
 fn add_line<L: Ledger>(
     alloc: Global,
-    laid: &mut MemoTree,
     line: &[u8],
+    session: &mut Session,
+    laid: &mut MemoTree,
     words: &mut String,
     steps: &mut Steps<L>,
-) -> Result<(), Fault>
+) -> Result<bool, Fault>
     requires { IsIn Sealed laid.old }
     ensures { OnOk result (IsIn Sealed laid.new) }
 {
-    match read_command(alloc, line) {
-        Ok(Command::Show) => add_kept(laid.sweep(), words),
-        Ok(Command::Change(edit)) => add_edit(alloc, laid, edit, words, steps),
-        Err(CommandRefusal::BadLine) => add_word(REFUSED, words),
-        Err(CommandRefusal::Memory) => Err(Fault::Memory),
-    }
+    let outcome = carry_out(alloc, session, line, steps)?;
+    let (beside, made) = carry_out_counted(alloc, laid, line, steps)?;
+    drop_as_session(laid, session.kept());
+    outcome.add(made, session.kept(), words)?;
+    Ok(outcome == beside && is_held(alloc, session, laid)?)
 }
 
-/// Carries an edit out as a session does, and adds what came of it: how many layouts were made, or why the
-/// tree stays as it was.
-fn add_edit<L: Ledger>(
+/// Whether two sessions hold the same, and after the same edit of both too.
+fn stays_same<L: Ledger>(
     alloc: Global,
-    laid: &mut MemoTree,
-    edit: Edit,
-    words: &mut String,
+    session: &mut Session,
+    copied: &mut Session,
     steps: &mut Steps<L>,
-) -> Result<(), Fault>
-    requires proper { IsProperEdit edit }
-    requires sealed { IsIn Sealed laid.old }
-    ensures { OnOk result (IsIn Sealed laid.new) }
-{
-    let reversal = match laid.change(alloc, edit) {
-        Ok(reversal) => reversal,
-        Err(EditRefusal::Memory) => return Err(Fault::Memory),
-        Err(_) => return add_word(REFUSED, words),
-    };
-    let before = laid.kept();
-    match laid.relay(alloc, steps) {
-        Ok(()) => {
-            let made = laid.kept().saturating_sub(before);
-            laid.seal();
-            add_made(made, laid.kept(), words)
-        }
-        Err(refusal) => {
-            laid.undo_pass();
-            laid.undo_change(reversal);
-            add_refusal(refusal, words)
-        }
-    }
-}
-
-/// Adds whether the layout that is kept is the one that is made afresh of a copy of the tree.
-fn add_fresh<L: Ledger>(
-    alloc: Global,
-    laid: &MemoTree,
-    words: &mut String,
-    steps: &mut Steps<L>,
-) -> Result<(), Fault>
-    requires { IsIn Sealed laid.now }
-{
-    let kept = laid.laid(alloc)?;
-    let tree = laid.tree().copy(alloc)?;
-    match lay_fresh(alloc, &tree, laid.metrics(), steps) {
-        Ok(fresh) if is_same(alloc, &kept, &fresh)? => add_word(FRESH_SAME, words),
-        Ok(_) => add_word(FRESH_OTHER, words),
-        Err(refusal) => add_refusal(refusal, words),
-    }
-}
-
-/// Whether two layouts are the same, as they are printed.
-fn is_same(alloc: Global, one: &Laid, other: &Laid) -> Result<bool, Fault> {
-    Ok(format!(in alloc; "{one:?}")? == format!(in alloc; "{other:?}")?)
-}
-
-fn add_made(made: usize, kept: usize, words: &mut String) -> Result<(), Fault> {
-    write!(words, "made {made}, ")?;
-    add_kept(kept, words)
-}
-
-fn add_kept(kept: usize, words: &mut String) -> Result<(), Fault> {
-    write!(words, "kept {kept}")?;
-    Ok(())
-}
-
-fn add_word(word: &str, words: &mut String) -> Result<(), Fault> {
-    words.push_str(word)?;
-    Ok(())
+) -> Result<bool, Fault> {
+    let is_equal = is_held(alloc, session, copied.layouts())?;
+    let outcome = carry_out(alloc, session, INSERTION.as_bytes(), steps)?;
+    let of_copy = carry_out(alloc, copied, INSERTION.as_bytes(), steps)?;
+    Ok(is_equal && outcome == of_copy && is_held(alloc, session, copied.layouts())?)
 }

@@ -1,5 +1,5 @@
 use Rattle.memo_tree.specs.States.{IsIn, Sealed}
-use Rattle.step_cases.proofs.kinds.steps.add_lines.Given as goal
+use Rattle.step_cases.proofs.kinds.steps.Script.add_all.Given as goal
 
 -- neither an edit nor a pass is under way
 abbrev pub invariant-loop-value : goal.invariant-loop-value

@@ -1,0 +1,96 @@
+//! `relay`: a tree of which no layout is kept is laid out, and then as much of it is kept as of one that was laid out
+//! from the start.
+ghost use Rattle.std.specs.Prelude.{◌≡◌, ◌<◌};
+ghost use Rattle.memo_tree.specs.States.{Changed, IsIn, Sealed};
+
+use crate::given::tree_in;
+use crate::seen::{is_equal, not_same};
+use crate::words::{add_judged, add_kept, add_made, add_refusal, add_word};
+use case_format::{Case, Fault, Fields};
+use fixed_units::Steps;
+use math_tree::Tree;
+use memo_tree::MemoTree;
+use std::marker::Brand;
+use std::sync::ledger::{Blank, Ledger};
+
+/// Adds the words of the answer.
+pub fn answer(case: Case, words: &mut String) -> Result<(), Fault> {
+    let fields = Fields::of_value(case.value, &["metrics", "tree"])?;
+    let tree = tree_in(case.alloc, fields)?;
+    let copied = tree.copy(case.alloc)?;
+    add_answer(case, fields, &tree, copied, words)
+}
+
+/// Adds the answer for a tree, of which a copy is laid out.
+fn add_answer(
+    case: Case,
+    fields: Fields,
+    tree: &Tree,
+    copied: Tree,
+    words: &mut String,
+) -> Result<(), Fault> {
+    match case.metrics(fields) {
+        Ok(metrics) => match MemoTree::make(case.alloc, copied, metrics) {
+            Ok(mut laid) => {
+                add_counted::<Brand>(case, fields, tree, &mut laid, words, Blank::new(1))
+            }
+            Err(_) => Err(Fault::Memory),
+        },
+        Err(fault) => Err(fault),
+    }
+}
+
+/// The same for one of which nothing is kept, with steps on the ledger `L`.
+fn add_counted<L: Ledger>(
+    case: Case,
+    fields: Fields,
+    tree: &Tree,
+    laid: &mut MemoTree,
+    words: &mut String,
+    blank: Blank,
+) -> Result<(), Fault>
+    requires name { blank.name ≡ L.name }
+    requires parts { blank.parts ≡ L.parts }
+    requires some { 0 < blank.parts }
+    requires changed { IsIn Changed laid.old }
+{
+    let mut steps = Steps::<L>::new(blank);
+    match laid.relay(case.alloc, &mut steps) {
+        Ok(()) => {
+            let made = laid.kept();
+            laid.seal();
+            add_made(made, laid.kept(), words)?;
+            add_judged(
+                "; start",
+                is_started(case, fields, tree, laid, &mut steps)?,
+                words,
+            )
+        }
+        Err(refusal) => {
+            laid.undo_pass();
+            add_refusal(refusal, words)?;
+            add_word(", ", words)?;
+            add_kept(laid.kept(), words)
+        }
+    }
+}
+
+/// Whether what is kept is what is kept of an equal tree that is laid out from the start.
+fn is_started<L: Ledger>(
+    case: Case,
+    fields: Fields,
+    tree: &Tree,
+    laid: &MemoTree,
+    steps: &mut Steps<L>,
+) -> Result<bool, Fault>
+    requires { IsIn Sealed laid.now }
+{
+    let copied = tree.copy(case.alloc)?;
+    match case.metrics(fields) {
+        Ok(metrics) => match MemoTree::start(case.alloc, copied, metrics, steps) {
+            Ok(started) => is_equal(case.alloc, laid, &started),
+            Err(refusal) => not_same(refusal),
+        },
+        Err(fault) => Err(fault),
+    }
+}

@@ -1,0 +1,40 @@
+//! The words of answers.
+
+use case_format::Fault;
+use fixed_units::LayRefusal;
+
+pub const OUT_OF_RANGE: &str = "range";
+
+pub const REFUSED: &str = "refused";
+
+/// Adds how many layouts were made, and how many are kept.
+pub fn add_made(made: usize, kept: usize, words: &mut String) -> Result<(), Fault> {
+    write!(words, "made {made}, ")?;
+    add_kept(kept, words)
+}
+
+/// Adds how many layouts are kept.
+pub fn add_kept(kept: usize, words: &mut String) -> Result<(), Fault> {
+    write!(words, "kept {kept}")?;
+    Ok(())
+}
+
+/// Adds that a tree is out of range.
+pub fn add_refusal(refusal: LayRefusal, words: &mut String) -> Result<(), Fault> {
+    match refusal {
+        LayRefusal::Range => add_word(OUT_OF_RANGE, words),
+        LayRefusal::Memory => Err(Fault::Memory),
+    }
+}
+
+/// Adds what was compared with what is told above it, and whether it is the same.
+pub fn add_judged(compared: &str, is_same: bool, words: &mut String) -> Result<(), Fault> {
+    add_word(compared, words)?;
+    add_word(if is_same { " same" } else { " other" }, words)
+}
+
+/// Adds a word.
+pub fn add_word(word: &str, words: &mut String) -> Result<(), Fault> {
+    words.push_str(word)?;
+    Ok(())
+}
