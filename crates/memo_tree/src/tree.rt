@@ -129,8 +129,13 @@ impl MemoTree {
         let Some(way) = found else {
             unreachable!();
         };
-        let (memo, parents) = (&mut self.memo, &mut self.parents);
-        match follow(alloc, self.tree.root(), memo, parents, &way) {
+        match follow(
+            alloc,
+            self.tree.root(),
+            &mut self.memo,
+            &mut self.parents,
+            &way,
+        ) {
             Ok(back) => Ok(Reversal::of(taken, way.path, back)),
             Err(_) => {
                 restore(&mut self.tree, taken);
