@@ -173,7 +173,8 @@ fn add_line<L: Ledger>(
     let (beside, made) = carry_out_counted(alloc, laid, line, steps)?;
     drop_as_session(laid, session.kept());
     outcome.add(made, session.kept(), words)?;
-    Ok(outcome == beside && is_held(alloc, session, laid)?)
+    let is_so = is_held(alloc, session, laid)?;
+    Ok(is_so && outcome == beside)
 }
 
 /// Whether two sessions hold the same, and after the same edit of both too.
@@ -186,5 +187,6 @@ fn stays_same<L: Ledger>(
     let is_equal = is_held(alloc, session, copied.layouts())?;
     let outcome = carry_out(alloc, session, INSERTION.as_bytes(), steps)?;
     let of_copy = carry_out(alloc, copied, INSERTION.as_bytes(), steps)?;
-    Ok(is_equal && outcome == of_copy && is_held(alloc, session, copied.layouts())?)
+    let is_still_equal = is_held(alloc, session, copied.layouts())?;
+    Ok(is_equal && is_still_equal && outcome == of_copy)
 }
