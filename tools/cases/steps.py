@@ -13,8 +13,9 @@ REFUSED = "refused"
 ALL_SAME = ("fresh same", "session same", "copy same")
 START_SAME = "start same"
 
-# A session drops what its tree doesn't need at a show, and at the first edit after so many since it last did.
-MOST_UNSWEPT = 64
+# A session drops what its tree doesn't need at a show, and at an edit where those since it last did weigh more than so
+# much and one for each element of the tree. An edit weighs so much and one for each layout that it made.
+MOST_UNSWEPT, EDIT_WEIGHT = 4_096, 64
 
 
 def steps(reference, known, value):
@@ -100,9 +101,8 @@ class Held:
         count = len(needed - stay)
         self.compare(count, new, path)
         self.tree, self.kept = new, stay | needed
-        if self.unswept < MOST_UNSWEPT:
-            self.unswept += 1
-        else:
+        self.unswept += EDIT_WEIGHT + count
+        if self.unswept > MOST_UNSWEPT + len(list(new.root.all())):
             self.drop()
         return made(count, self.kept)
 
