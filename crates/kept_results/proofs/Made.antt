@@ -4,7 +4,7 @@ use Rattle.std.proofs.lemmas.List.{map-append, take_more}
 use Rattle.std.proofs.lemmas.List.Sums.{sum_by-append, sum_by-cons}
 use Rattle.std.proofs.lemmas.Option.{get_or_from_slice_get, slice_get_within}
 use Rattle.std.specs.List.{sum}
-use Rattle.kept_results.specs.Ends.{fresh_count, fresh_in, fresh_only, sealed, settled}
+use Rattle.kept_results.specs.Ends.{fresh_count, fresh_in, is_fresh, sealed, settled}
 use Rattle.kept_results.specs.Kept.{is_live, is_marked}
 use Rattle.kept_results.specs.Tidy.{IsTidy, is_calm}
 use Rattle.kept_results.specs.declared.memo.Entry.{Entry}
@@ -19,7 +19,7 @@ abbrev pub fresh_below : List Memo → ℕ
 fresh_below memos = sum (map fresh_count memos)
 
 abbrev fresh_over : Memo-F Memo → ℕ
-fresh_over layer = length (fresh_only layer.entries) + fresh_below layer.below
+fresh_over layer = length (filter is_fresh layer.entries) + fresh_below layer.below
 
 pub fresh_out : (memo : Memo) → fresh_count memo ≡ fresh_over (out-Memo memo)
 fresh_out = fold_out-Memo ℕ fresh_in
@@ -42,7 +42,7 @@ fresh_more memos at memo there =
 abbrev HasNone : Memo → Type 0
 HasNone memo = fresh_count (sealed memo) ≡ 0
 
-none_settled : (entries : List Entry) → length (fresh_only (map settled entries)) ≡ 0
+none_settled : (entries : List Entry) → length (filter is_fresh (map settled entries)) ≡ 0
 none_settled [] = refl
 none_settled (x ∷ entries) = none_settled entries
 

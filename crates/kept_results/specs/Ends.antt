@@ -62,13 +62,13 @@ live_in layer = length (filter (is_live (is_marked layer)) layer.entries) + sum 
 abbrev pub kept_count : Memo → ℕ
 kept_count memo = fold-Memo ℕ live_in memo
 
--- the entries that the present pass made
-abbrev pub fresh_only : List Entry → List Entry
-fresh_only entries = filter (λ entry. entry.fresh) entries
+-- the present pass made an entry
+abbrev pub is_fresh : Entry → Bool
+is_fresh entry = entry.fresh
 
 abbrev pub fresh_in : Memo-F ℕ → ℕ
-fresh_in layer = length (fresh_only layer.entries) + sum layer.below
+fresh_in layer = length (filter is_fresh layer.entries) + sum layer.below
 
--- the number of them, at all elements
+-- the number of entries that it made
 abbrev pub fresh_count : Memo → ℕ
 fresh_count memo = fold-Memo ℕ fresh_in memo

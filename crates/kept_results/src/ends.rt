@@ -1,5 +1,5 @@
-ghost use Rattle.std.specs.Prelude.{◌≡◌, ◌-◌, ◌^◌, min, length};
-ghost use Rattle.kept_results.specs.Ends.{fresh_count, fresh_only, not_fresh, sealed, settled_all, stripped};
+ghost use Rattle.std.specs.Prelude.{◌≡◌, ◌-◌, ◌^◌, filter, length, min};
+ghost use Rattle.kept_results.specs.Ends.{fresh_count, is_fresh, not_fresh, sealed, settled_all, stripped};
 ghost use Rattle.kept_results.specs.Tidy.{IsTidy};
 
 use crate::entries::{is_calm, is_live, is_marked};
@@ -39,9 +39,15 @@ pub fn seal(memo: &mut Memo) -> usize
 
 /// How many of these entries the present pass made.
 fn count_fresh(entries: &[Entry]) -> usize
-    ensures { result ≡ length (fresh_only entries.now) }
+    ensures { result ≡ length (filter is_fresh entries.now) }
 {
-    entries.iter().filter(|entry| entry.fresh).count()
+    let mut made = 0;
+    for entry in entries {
+        if entry.fresh {
+            made += 1;
+        }
+    }
+    made
 }
 
 /// Drops the entries that the present pass made. They stand at the end, and so nothing is moved.

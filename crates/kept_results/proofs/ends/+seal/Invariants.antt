@@ -1,5 +1,5 @@
-use Rattle.std.proofs.Common.{◌≡◌, ◌+◌, ◌-◌, ◌^◌, length, min, take}
-use Rattle.kept_results.specs.Ends.{fresh_only, sealed}
+use Rattle.std.proofs.Common.{◌≡◌, ◌+◌, ◌-◌, ◌^◌, filter, length, min, take}
+use Rattle.kept_results.specs.Ends.{is_fresh, sealed}
 use Rattle.kept_results.specs.declared.memo.Memo.TheViews.{out-Memo}
 use Rattle.kept_results.proofs.Made.{fresh_below}
 use Rattle.kept_results.proofs.Renewing.{Renewed}
@@ -12,5 +12,5 @@ decreases-seal l = goal.size-seal l
 abbrev pub invariant-loop-at : goal.invariant-loop-at
 invariant-loop-at l = record {
   renewed : Renewed sealed l.fn.memo l.memo l.at;
-  counted : l.made ≡ min (length (fresh_only (out-Memo l.fn.memo).entries) + fresh_below (take l.at (out-Memo l.fn.memo).below)) (2 ^ 64 - 1);
+  counted : l.made ≡ min (length (filter is_fresh (out-Memo l.fn.memo).entries) + fresh_below (take l.at (out-Memo l.fn.memo).below)) (2 ^ 64 - 1);
 }
