@@ -13,7 +13,7 @@ ghost use Rattle.layout_core.specs.Slots.{with_laid};
 
 use crate::slots::{empty_slots, filled};
 use child_questions::{wave_one, wave_two};
-use element_outcomes::finish_asked;
+use element_outcomes::finish;
 use embellished::{Known, NodeView, View, known_of};
 use fixed_units::{LayRefusal, List, Memory, Steps};
 use font_metrics::Metrics;
@@ -25,7 +25,7 @@ use std::sync::ledger::Ledger;
 use style_scope::root_style;
 
 /// Lays out a tree, every element afresh. It is refused with `Range` exactly where a number of a
-/// layout that is made on the way can't be stored. `finish_asked` ticks a step for each layout that is made;
+/// layout that is made on the way can't be stored. `finish` ticks a step for each layout that is made;
 /// how many those are is no clause.
 pub fn lay_fresh<L: Ledger>(
     alloc: Global,
@@ -70,9 +70,7 @@ fn lay_element<L: Ledger>(
     let one = ask_all(alloc, node, known, &view, &ones, metrics, &mut slots, steps)?;
     let twos = wave_two(alloc, &view, context, metrics, &one)?;
     let two = ask_all(alloc, node, known, &view, &twos, metrics, &mut slots, steps)?;
-    let outcome = finish_asked(
-        alloc, &view, context, metrics, &ones, &twos, &one, &two, steps,
-    )?;
+    let outcome = finish(alloc, &view, context, metrics, &one, &two, steps)?;
     Ok(Laid {
         head: node.head.copy(alloc)?,
         outcome,

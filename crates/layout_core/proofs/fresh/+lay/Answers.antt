@@ -186,8 +186,8 @@ lay_element-returns-in_err-two-clause-range g t c = λ e.
     let whole = range_waves m c.args.node.now _ c.args.context.now shown c.in_ok-ones.ones (c.in_ok-ones.ensures {u = tt}).ok c.in_ok-one.one (c.in_ok-one.ensures {u = tt}).ok c.in_ok-twos.twos (c.in_ok-twos.ensures {u = tt}).value in
     twos_false _ _ _ _ whole ((c.in_err-two.ensures {u = tt}).range (ap Err (sym same)))
 
-pub lay_element-finish_asked-requires-clause-answers : goal.lay_element-finish_asked-requires-clause-answers
-lay_element-finish_asked-requires-clause-answers g t c =
+pub lay_element-finish-requires-clause-answers : goal.lay_element-finish-requires-clause-answers
+lay_element-finish-requires-clause-answers g t c =
     let m = c.args.metrics.now in
     let node = c.args.node.now in
     let shown = c.in_ok-view.ensures {u = tt} in
