@@ -7,10 +7,12 @@ use crate::words::{OUT_OF_RANGE, REFUSED, add_kept, add_made, add_word};
 use case_format::Fault;
 use edit_session::{Session, SessionRefusal};
 use fixed_units::{LayRefusal, Steps};
+use font_metrics::Metrics;
+use math_tree::Tree;
 use memo_tree::MemoTree;
 use std::alloc::Global;
 use std::sync::ledger::Ledger;
-use tree_edits::{Command, CommandRefusal, Edit, EditRefusal, read_command};
+use tree_edits::{Command, CommandRefusal, Edit, EditRefusal, apply, read_command, restore};
 
 /// What came of a line.
 #[derive(Clone, Copy, PartialEq, Eq)]
@@ -45,13 +47,51 @@ pub fn carry_out<L: Ledger>(
     steps: &mut Steps<L>,
 ) -> Result<Outcome, Fault> {
     match read_command(alloc, line) {
-        Ok(Command::Show) => {
-            let _placed = session.show(alloc)?;
-            Ok(Outcome::Shown)
-        }
+        Ok(Command::Show) => show(alloc, session),
         Ok(Command::Change(edit)) => outcome_of(session.edit(alloc, edit, steps)),
         Err(CommandRefusal::BadLine) => Ok(Outcome::Refused),
         Err(CommandRefusal::Memory) => Err(Fault::Memory),
+    }
+}
+
+/// Shows a session. Like the other calls that stand alone in a function here, it has long clauses that nothing needs
+/// behind it.
+pub fn show(alloc: Global, session: &mut Session) -> Result<Outcome, Fault> {
+    match session.show(alloc) {
+        Ok(_placed) => Ok(Outcome::Shown),
+        Err(_) => Err(Fault::Memory),
+    }
+}
+
+/// Starts a session.
+pub fn started<L: Ledger>(
+    alloc: Global,
+    tree: Tree,
+    metrics: Metrics,
+    steps: &mut Steps<L>,
+) -> Result<Session, LayRefusal> {
+    Session::start(alloc, tree, metrics, steps)
+}
+
+/// Whether an edit of a tree can be made and taken back.
+pub fn edit_and_back(alloc: Global, tree: &mut Tree, line: &[u8]) -> Result<bool, Fault> {
+    match read_command(alloc, line) {
+        Ok(Command::Change(edit)) => change_and_back(alloc, tree, edit),
+        Ok(Command::Show) | Err(CommandRefusal::BadLine) => Ok(false),
+        Err(CommandRefusal::Memory) => Err(Fault::Memory),
+    }
+}
+
+fn change_and_back(alloc: Global, tree: &mut Tree, edit: Edit) -> Result<bool, Fault>
+    requires { IsProperEdit edit }
+{
+    match apply(alloc, tree, edit) {
+        Ok(taken) => {
+            restore(tree, taken);
+            Ok(true)
+        }
+        Err(EditRefusal::Memory) => Err(Fault::Memory),
+        Err(_) => Ok(false),
     }
 }
 

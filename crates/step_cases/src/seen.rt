@@ -3,7 +3,7 @@ ghost use Rattle.memo_tree.specs.States.{IsIn, Sealed};
 
 use case_format::Fault;
 use edit_session::Session;
-use fixed_units::{LayRefusal, MathBox, Steps};
+use fixed_units::{LayRefusal, Steps};
 use layout_core::{Laid, lay_fresh};
 use math_tree::Tree;
 use memo_tree::MemoTree;
@@ -14,12 +14,9 @@ use std::sync::ledger::Ledger;
 pub fn is_held(alloc: Global, session: &Session, laid: &MemoTree) -> Result<bool, Fault>
     requires { IsIn Sealed laid.now }
 {
-    Ok(seen_in_session(alloc, session)? == seen_in(alloc, laid)?)
-}
-
-fn seen_in_session(alloc: Global, session: &Session) -> Result<String, Fault> {
     let tree = session.tree(alloc)?;
-    seen_of(alloc, &tree, session.kept(), session.root_box())
+    let is_so = session.kept() == laid.kept() && session.root_box() == laid.root_box();
+    Ok(is_so && is_same_tree(alloc, &tree, laid.tree())?)
 }
 
 /// Whether two trees are the same, with as many layouts that are kept of them, and with the same box of the root.
@@ -27,21 +24,15 @@ pub fn is_equal(alloc: Global, one: &MemoTree, other: &MemoTree) -> Result<bool,
     requires one { IsIn Sealed one.now }
     requires other { IsIn Sealed other.now }
 {
-    Ok(seen_in(alloc, one)? == seen_in(alloc, other)?)
+    let is_so = one.kept() == other.kept() && one.root_box() == other.root_box();
+    Ok(is_so && is_same_tree(alloc, one.tree(), other.tree())?)
 }
 
-fn seen_in(alloc: Global, laid: &MemoTree) -> Result<String, Fault>
-    requires { IsIn Sealed laid.now }
-{
-    seen_of(alloc, laid.tree(), laid.kept(), laid.root_box())
-}
-
-/// All that is compared: the print of a tree, its elements with their ids, its next id, and what is kept of it.
-fn seen_of(alloc: Global, tree: &Tree, kept: usize, root_box: MathBox) -> Result<String, Fault> {
-    let print = tree.print(alloc)?;
-    let next_id = tree.next_id();
-    let bytes = print.as_slice();
-    Ok(format!(in alloc; "{bytes:?} {tree:?} {next_id} {kept} {root_box:?}")?)
+/// Whether two trees are printed the same and have the same next id.
+pub fn is_same_tree(alloc: Global, one: &Tree, other: &Tree) -> Result<bool, Fault> {
+    let print = one.print(alloc)?;
+    let other_print = other.print(alloc)?;
+    Ok(one.next_id() == other.next_id() && print.as_slice() == other_print.as_slice())
 }
 
 /// Whether the layout that is kept is the one that is made afresh of a copy of the tree.

@@ -7,8 +7,8 @@ ghost use Rattle.std.specs.Prelude.{◌≡◌, ◌<◌, OnOk};
 ghost use Rattle.memo_tree.specs.States.{IsIn, Sealed};
 
 use crate::given::tree_in;
-use crate::lines::{carry_out, carry_out_counted, drop_as_session};
-use crate::seen::{is_fresh, is_held, not_same};
+use crate::lines::{carry_out, carry_out_counted, drop_as_session, edit_and_back, show, started};
+use crate::seen::{is_fresh, is_held, is_same_tree, not_same};
 use crate::words::{add_judged, add_made, add_refusal, add_word};
 use case_format::{Case, Fault, Fields};
 use edit_session::Session;
@@ -67,7 +67,7 @@ fn add_counted<L: Ledger>(
     requires some { 0 < blank.parts }
 {
     let mut steps = Steps::<L>::new(blank);
-    match Session::start(script.case.alloc, tree, metrics, &mut steps) {
+    match started(script.case.alloc, tree, metrics, &mut steps) {
         Ok(mut session) => script.add_session(&mut session, words, &mut steps),
         Err(refusal) => add_refusal(refusal, words),
     }
@@ -145,10 +145,10 @@ impl<'a> Script<'a> {
         session: &mut Session,
         steps: &mut Steps<L>,
     ) -> Result<bool, Fault> {
-        let _placed = session.show(self.case.alloc)?;
+        show(self.case.alloc, session)?;
         let tree = session.tree(self.case.alloc)?;
         match self.metrics() {
-            Ok(metrics) => match Session::start(self.case.alloc, tree, metrics, steps) {
+            Ok(metrics) => match started(self.case.alloc, tree, metrics, steps) {
                 Ok(mut copied) => stays_same(self.case.alloc, session, &mut copied, steps),
                 Err(refusal) => not_same(refusal),
             },
@@ -177,7 +177,8 @@ fn add_line<L: Ledger>(
     Ok(is_so && outcome == beside)
 }
 
-/// Whether two sessions hold the same, and after the same edit of both too.
+/// Whether two sessions hold the same, and after the same edit of both too; and whether a copy of the tree is as before
+/// when the edit was made of it and taken back.
 fn stays_same<L: Ledger>(
     alloc: Global,
     session: &mut Session,
@@ -185,8 +186,17 @@ fn stays_same<L: Ledger>(
     steps: &mut Steps<L>,
 ) -> Result<bool, Fault> {
     let is_equal = is_held(alloc, session, copied.layouts())?;
+    let is_restored = is_restored(alloc, session)?;
     let outcome = carry_out(alloc, session, INSERTION.as_bytes(), steps)?;
     let of_copy = carry_out(alloc, copied, INSERTION.as_bytes(), steps)?;
     let is_still_equal = is_held(alloc, session, copied.layouts())?;
-    Ok(is_equal && is_still_equal && outcome == of_copy)
+    Ok(is_equal && is_restored && is_still_equal && outcome == of_copy)
+}
+
+/// Whether a copy of a session's tree is as before when an edit was made of it and taken back.
+fn is_restored(alloc: Global, session: &Session) -> Result<bool, Fault> {
+    let before = session.tree(alloc)?;
+    let mut tree = session.tree(alloc)?;
+    let is_made = edit_and_back(alloc, &mut tree, INSERTION.as_bytes())?;
+    Ok(is_made && is_same_tree(alloc, &before, &tree)?)
 }
