@@ -4,7 +4,7 @@
 //! edits a tree in place, or answers the first reason against the edit and leaves the tree as it
 //! is; `restore` gives the tree before an edit back. Below them `path_to` finds the way down to an
 //! element, and `carry_out_at` makes one change of the element at the end of a way. `Parents` finds
-//! the same way without a look through the tree, for `apply_at`.
+//! the same way for `apply_at`, by notes where these lead there, else by a look through the tree.
 //!
 //! - Models: the edits, the order of their refusals and their JSON form are this project's own.
 //! - Proved: a line gives the command of `command_in`, and is refused exactly where it has none
