@@ -36,7 +36,7 @@ fn unasked<'a>(alloc: Global, count: usize, nothing: &'a Answer) -> Result<Vec<&
     requires { nothing.now ≡ no_answer }
     ensures { IfOk result (λ kids. map (λ kid. kid.now) kids.items ≡ list_to count (last_answer [] [])) }
 {
-    let mut kids = Vec::new(alloc);
+    let mut kids = Vec::with_capacity(alloc, count)?;
     for _ in 0..count {
         kids.push(nothing)?;
     }

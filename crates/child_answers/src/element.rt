@@ -163,7 +163,7 @@ impl<'a, V: View> Element<'a, V> {
     pub fn columns(&self, alloc: Global) -> Result<List<i64>, Memory>
         ensures { IfOk result (λ widths. widths ≡ columns_over self.now.kids) }
     {
-        let mut cells = List::make(alloc);
+        let mut cells = List::with_room(alloc, self.kids.len())?;
         for row in self.kids.as_slice() {
             cells.push(row.cells.copy(alloc)?)?;
         }

@@ -27,7 +27,7 @@ pub fn kid_pulls<V: View>(
     ensures each { IfOk result (λ pulls. length pulls ≡ length (seen_of (V.element parent.now)).kids) }
     ensures few { IfOk result (λ pulls. length pulls ≤ 65_535) }
 {
-    let mut pulls = List::make(alloc);
+    let mut pulls = List::with_room(alloc, parent.kids())?;
     for index in 0..parent.kids() {
         let axis = kid_axis(parent, fences, context.form, metrics, index);
         pulls.push(KidPull { axis })?;
@@ -85,7 +85,8 @@ pub fn first_asks(
     match asking {
         Asking::Nothing => Ok(List::make(alloc)),
         Asking::Plainly | Asking::AsTable => {
-            add_asks(List::make(alloc), 0, kids.as_slice(), UNSTRETCHED)
+            let asks = List::with_room(alloc, kids.len())?;
+            add_asks(asks, 0, kids.as_slice(), UNSTRETCHED)
         }
         Asking::ForTheBase => base_asks(alloc, kids, own),
         Asking::AsRow => row_wave_one(alloc, kids, own),
@@ -105,7 +106,7 @@ fn base_asks(alloc: Global, kids: &List<KidPull>, own: Pull) -> Result<List<Ask>
     requires few { length kids.now ≤ 65_535 }
     ensures { IfOk result (λ asks. asks ≡ base_asks_of kids.now own) }
 {
-    let mut asks = List::make(alloc);
+    let mut asks = List::with_room(alloc, kids.len())?;
     let Some((_, others)) = kids.as_slice().split_first() else {
         return Ok(asks);
     };

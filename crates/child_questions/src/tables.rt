@@ -36,7 +36,7 @@ pub fn rows_asked<V: View>(
     let rows = rows.as_slice();
     let widths = columns_over(alloc, rows)?;
     let total = total_width(widths.as_slice());
-    let mut asks = List::make(alloc);
+    let mut asks = List::with_room(alloc, parent.kids())?;
     for index in 0..parent.kids() {
         let columns = columns_at(alloc, total, &widths, cells_at(rows, index))?;
         let context = kid_context(parent, fences, context, metrics, index, columns);
@@ -52,7 +52,7 @@ pub fn rows_asked<V: View>(
 pub fn columns_over(alloc: Global, rows: &[Answer]) -> Result<List<i64>, Memory>
     ensures { IfOk result (λ widths. widths ≡ columns_over rows.now) }
 {
-    let mut cells = List::make(alloc);
+    let mut cells = List::with_room(alloc, rows.len())?;
     for row in rows {
         cells.push(row.cells.copy(alloc)?)?;
     }

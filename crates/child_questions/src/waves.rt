@@ -94,7 +94,7 @@ fn asked_all<V: View>(
     ensures styles { IfOk result (All HasStyle) }
     ensures value { IfOk result (λ all. all ≡ asked_all metrics.now (seen_of (V.element view.now)) context.now asks.now) }
 {
-    let mut all = List::make(alloc);
+    let mut all = List::with_room(alloc, asks.len())?;
     for ask in asks.as_slice() {
         let context = pulled_context(view, fences, context, metrics, ask.kid as usize, ask.pull);
         all.push(Question {
@@ -109,7 +109,7 @@ fn asked_all<V: View>(
 pub fn frames_of(alloc: Global, answers: &[Answer]) -> Result<List<MathBox>, Memory>
     ensures { IfOk result (λ frames. frames ≡ map (λ answer. answer.frame) answers.now) }
 {
-    let mut frames = List::make(alloc);
+    let mut frames = List::with_room(alloc, answers.len())?;
     for answer in answers {
         frames.push(answer.frame)?;
     }

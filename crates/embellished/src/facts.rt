@@ -119,7 +119,7 @@ fn only_core(flow: &[Facts]) -> Option<Core>
 fn but_space_like(alloc: Global, flow: &[Facts]) -> Result<Vec<Facts>, Memory>
     ensures { IfOk result (λ others. others.items ≡ but_space_like flow.now) }
 {
-    let mut others = Vec::new(alloc);
+    let mut others = Vec::with_capacity(alloc, flow.len())?;
     for kid in flow {
         if !kid.space_like {
             others.push(*kid)?;

@@ -34,7 +34,7 @@ pub fn flow<T: LaidOut>(alloc: Global, laid: Kind, kids: &[T]) -> Result<Vec<T>,
 fn shown<T: LaidOut>(alloc: Global, laid: Kind, kids: &[T]) -> Result<Vec<T>, Memory>
     ensures { IfOk result (λ flow. flow.items ≡ shown_by T.kind laid kids.now) }
 {
-    let mut flow = Vec::new(alloc);
+    let mut flow = Vec::with_capacity(alloc, kids.len())?;
     for kid in kids {
         if may_show(laid, kid.laid()) {
             flow.push(*kid)?;

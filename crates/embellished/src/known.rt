@@ -25,8 +25,8 @@ pub fn known_of(alloc: Global, node: &Node) -> Result<Known, Memory>
     ensures exact { IfOk result (λ known. known ≡ known_of node.now) }
     ensures tells { IfOk result (λ known. IsKnown node.now known) }
 {
-    let mut kids = List::make(alloc);
-    let mut below = List::make(alloc);
+    let mut kids = List::with_room(alloc, node.children.len())?;
+    let mut below = List::with_room(alloc, node.children.len())?;
     for child in node.children.as_slice() {
         let known = known_of(alloc, child)?;
         kids.push(known.facts)?;

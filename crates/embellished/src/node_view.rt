@@ -101,7 +101,7 @@ fn children_of<'a>(
         map shown_child made.items ≡ map known_child (children_from 0 (out-Node node.now).children)) }
 {
     let nodes = node.children.as_slice();
-    let mut made = Vec::new(alloc);
+    let mut made = Vec::with_capacity(alloc, nodes.len())?;
     for place in 0..nodes.len() {
         made.push(ShownKid {
             node: &nodes[place],

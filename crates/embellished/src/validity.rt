@@ -27,7 +27,7 @@ pub fn but_annotations(alloc: Global, kids: &[Facts]) -> Result<Vec<Kind>, Memor
     ensures { IfOk result (λ others. others.items ≡
         filter (λ kid. not (kinds.is_annotation kid)) (map (λ kid. kid.laid) kids.now)) }
 {
-    let mut others = Vec::new(alloc);
+    let mut others = Vec::with_capacity(alloc, kids.len())?;
     for kid in kids {
         if !is_annotation(kid.laid) {
             others.push(kid.laid)?;

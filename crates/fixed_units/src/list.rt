@@ -37,6 +37,14 @@ impl<T> List<T> {
         }
     }
 
+    /// The empty list with room for that many items, so that it needn't be moved while they come.
+    pub fn with_room(alloc: Global, items: usize) -> Result<List<T>, Memory>
+        ensures { IfOk result (λ list. list ≡ []) }
+    {
+        let items = Vec::with_capacity(alloc, items)?;
+        Ok(List { items })
+    }
+
     /// How many items there are.
     pub fn len(&self) -> usize
         ensures { result ≡ length self.now }

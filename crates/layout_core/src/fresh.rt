@@ -104,7 +104,7 @@ fn ask_all<L: Ledger>(
     ensures range { result ≡ Err Range →
         list_all (visit_fits metrics.now) (flat_map (visits_below metrics.now node.now) asks.now) ≡ false }
 {
-    let mut answers = List::make(alloc);
+    let mut answers = List::with_room(alloc, asks.len())?;
     for asked in asks.as_slice() {
         let index = asked.kid as usize;
         let kid = view.node_at(index);

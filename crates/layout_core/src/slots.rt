@@ -9,7 +9,7 @@ use std::alloc::Global;
 pub fn empty_slots(alloc: Global, count: usize) -> Result<Vec<Option<Laid>>, Memory>
     ensures { IfOk result (λ slots. slots.items ≡ replicate count None) }
 {
-    let mut slots = Vec::new(alloc);
+    let mut slots = Vec::with_capacity(alloc, count)?;
     for _ in 0..count {
         slots.push(None)?;
     }
@@ -20,7 +20,7 @@ pub fn empty_slots(alloc: Global, count: usize) -> Result<Vec<Option<Laid>>, Mem
 pub fn filled(alloc: Global, slots: Vec<Option<Laid>>) -> Result<List<Laid>, Memory>
     ensures { IfOk result (λ kids. kids ≡ filled slots.items) }
 {
-    let mut kids = List::make(alloc);
+    let mut kids = List::with_room(alloc, slots.len())?;
     for slot in slots {
         if let Some(laid) = slot {
             kids.push(laid)?;

@@ -97,7 +97,7 @@ fn row_kids<V: View>(alloc: Global, e: &Element<V>) -> Result<List<RowKid>, Memo
     ensures stored { IfOk result (λ kids. All IsKidStored kids) }
     ensures few { IfOk result (λ kids. length kids ≤ 65_535) }
 {
-    let mut kids = List::make(alloc);
+    let mut kids = List::with_room(alloc, e.count())?;
     for index in 0..e.count() {
         kids.push(e.row_kid(index))?;
     }
@@ -123,7 +123,7 @@ pub fn along<V: View>(
     requires start { IsWithin (2 ^ 62) start }
     ensures { IfOk result (λ offsets. offsets ≡ along e.now row.now start y) }
 {
-    let mut offsets = List::make(alloc);
+    let mut offsets = List::with_room(alloc, e.count())?;
     for index in 0..e.count() {
         offsets.push(Offset {
             kid: index as u32,

@@ -19,7 +19,7 @@ pub fn row_wave_one(alloc: Global, kids: &List<KidPull>, own: Pull) -> Result<Li
         Pull::Block(..) => Plan::under(Axis::Block, own),
         Pull::Inline(_) => Plan::under(Axis::Inline, own),
     };
-    add_asks(List::make(alloc), 0, items, plan)
+    add_asks(List::with_room(alloc, items.len())?, 0, items, plan)
 }
 
 /// Asks in the second wave the children that stretch upward and downward, with the ink of what the

@@ -15,7 +15,7 @@ pub fn row_finish(alloc: Global, kids: &List<RowKid>, spaces: bool) -> Result<Ro
     ensures { IfOk result (λ row. row ≡ row_of spaces kids.now) }
 {
     let items = kids.as_slice();
-    let mut offsets = List::make(alloc);
+    let mut offsets = List::with_room(alloc, items.len())?;
     let mut at = 0;
     let mut italic = 0;
     for kid in items {

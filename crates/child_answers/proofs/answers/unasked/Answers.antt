@@ -10,7 +10,7 @@ use Rattle.child_answers.proofs.Lists.{pushed_next}
 use Rattle.child_answers.proofs.answers.unasked.Goals as goal
 
 pub loop-init : goal.loop-init
-loop-init c = ap (λ (kids : List (Bor Answer)). map now_of kids) c.new-kids.ensures.items ∙ sym (list_to-zero (last_answer [] []))
+loop-init c = ap (λ (kids : List (Bor Answer)). map now_of kids) (c.in_ok-kids.ensures {u = tt}).items ∙ sym (list_to-zero (last_answer [] []))
 
 pub loop-preserved : goal.loop-preserved
 loop-preserved c =

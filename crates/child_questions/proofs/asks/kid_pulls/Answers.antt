@@ -12,7 +12,7 @@ pull_along axis = record { axis = axis }
 
 pub loop-index-init : goal.loop-index-init
 loop-index-init g c =
-    c.make-pulls.ensures ∙ sym (list_to-zero (kid_pull c.args.metrics.now (seen_of (g.V.View.element c.args.parent.now)) c.args.context.now.form))
+    (c.in_ok-pulls.ensures {u = tt}) ∙ sym (list_to-zero (kid_pull c.args.metrics.now (seen_of (g.V.View.element c.args.parent.now)) c.args.context.now.form))
 
 pub loop-index-preserved : goal.loop-index-preserved
 loop-index-preserved g c =

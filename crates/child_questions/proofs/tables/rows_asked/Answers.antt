@@ -32,8 +32,8 @@ total_width-total-requires-clause-fit g c =
 
 pub loop-index-init : goal.loop-index-init
 loop-index-init g c = record {
-  value = c.make-asks.ensures ∙ sym (list_to-zero (row_asked c.args.metrics.now (seen_of (g.V.View.element c.args.parent.now)) c.args.context.now c.as_slice-rows.result.now));
-  styles = subst (All HasStyle) (sym c.make-asks.ensures) (All-nil HasStyle);
+  value = (c.in_ok-asks.ensures {u = tt}) ∙ sym (list_to-zero (row_asked c.args.metrics.now (seen_of (g.V.View.element c.args.parent.now)) c.args.context.now c.as_slice-rows.result.now));
+  styles = subst (All HasStyle) (sym (c.in_ok-asks.ensures {u = tt})) (All-nil HasStyle);
 }
 
 pub loop-index-preserved : goal.loop-index-preserved

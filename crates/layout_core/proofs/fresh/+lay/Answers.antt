@@ -27,7 +27,7 @@ use Rattle.layout_core.proofs.fresh.+lay.Goals as goal
 
 pub ask_all-loop-asked-init : goal.ask_all-loop-asked-init
 ask_all-loop-asked-init g t c = record {
-  told = c.make-answers.ensures;
+  told = c.in_ok-answers.ensures {u = tt};
   kept = sym (kept_none c.args.metrics.now c.args.node.now c.args.slots.now.items);
   fit = refl;
 }
@@ -66,7 +66,7 @@ ask_all-returns-in_err-laid-clause-range g t c = λ e.
     let node = c.args.node.now in
     let n = child_of _ node _ _ c.requires.shown c.node_at-kid.ensures in
     let p = child_of _ node _ _ c.requires.shown c.place.ensures in
-    let same = rw e at c.from_residual.ensures.1 in
+    let same = rw e at c.from_residual-in_err-laid.ensures.1 in
     ap (all_fit c.args.metrics.now node) (sym c.as_slice-asked-items.ensures)
     ∙ broken c.args.metrics.now node c.as_slice-asked-items.result.now c.loop-asked.asked-index c.asked-item.result c.node_at-kid.result.now
     c.loop-asked-test.true c.asked-item.is (in_flow node _ _ _ n p) ((c.in_err-laid.ensures {u = tt}).range (ap Err (sym same)))

@@ -7,7 +7,7 @@ use Rattle.child_answers.proofs.Lists.{pushed_next}
 use Rattle.row_outcomes.proofs.rows.along.Goals as goal
 
 pub loop-index-init : goal.loop-index-init
-loop-index-init g c = c.make-offsets.ensures ∙ sym (list_to-zero _)
+loop-index-init g c = (c.in_ok-offsets.ensures {u = tt}) ∙ sym (list_to-zero _)
 
 pub loop-index-preserved : goal.loop-index-preserved
 loop-index-preserved g c =

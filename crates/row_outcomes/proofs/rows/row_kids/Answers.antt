@@ -7,8 +7,8 @@ use Rattle.row_outcomes.proofs.rows.row_kids.Goals as goal
 
 pub loop-index-init : goal.loop-index-init
 loop-index-init g c = record {
-  value = c.make-kids.ensures ∙ sym (list_to-zero (row_kid c.args.e.now));
-  stored = subst (All IsKidStored) (sym c.make-kids.ensures) (All-nil IsKidStored);
+  value = (c.in_ok-kids.ensures {u = tt}) ∙ sym (list_to-zero (row_kid c.args.e.now));
+  stored = subst (All IsKidStored) (sym (c.in_ok-kids.ensures {u = tt})) (All-nil IsKidStored);
 }
 
 pub loop-index-preserved : goal.loop-index-preserved

@@ -22,7 +22,7 @@ ahead_is c =
     ∙ ap (λ (z : ℤ). ahead_of c.args.spaces z (slice_index_or c.as_slice-items.result.now c.loop-kid.kid-index no_kid)) c.loop-kid.invariant.italic
 
 pub loop-kid-init : goal.loop-kid-init
-loop-kid-init c = record { offsets = c.make-offsets.ensures ∙ sym (list_to-zero _); at = sym (room_of-zero _ _); italic = refl }
+loop-kid-init c = record { offsets = (c.in_ok-offsets.ensures {u = tt}) ∙ sym (list_to-zero _); at = sym (room_of-zero _ _); italic = refl }
 
 pub overflow_add-at : goal.overflow_add-at
 overflow_add-at c =
