@@ -10,7 +10,7 @@ ghost use Rattle.kept_edits.specs.Known.{IsBeside, IsKnownOn};
 use crate::change::MemoChange;
 use embellished::{Facts, facts_of};
 use fixed_units::{List, Memory};
-use kept_results::Memo;
+use kept_results::{Memo, facts_below};
 use math_tree::Node;
 use std::alloc::Global;
 
@@ -78,18 +78,7 @@ fn add_own(
     Ok(known)
 }
 
-/// What the elements of some memos are, in order.
-fn kids_of(alloc: Global, below: &[Memo]) -> Result<List<Facts>, Memory>
-    ensures { IfOk result (λ kids. kids ≡ map own_facts below.now) }
-{
-    let mut kids = List::make(alloc);
-    for memo in below {
-        kids.push(memo.facts)?;
-    }
-    Ok(kids)
-}
-
-/// The same, where that at a place is something else.
+/// What the elements of some memos are, in order, where that at a place is something else.
 fn kids_with(
     alloc: Global,
     below: &List<Memo>,
@@ -99,7 +88,7 @@ fn kids_with(
     requires { place < length below.now }
     ensures { IfOk result (λ kids. kids ≡ slice_set (map own_facts below.now) place own) }
 {
-    let mut kids = kids_of(alloc, below.as_slice())?;
+    let mut kids = facts_below(alloc, below.as_slice())?;
     *kids.at_mut(place) = own;
     Ok(kids)
 }
@@ -111,16 +100,16 @@ fn kids_after(alloc: Global, below: &List<Memo>, change: &MemoChange) -> Result<
 {
     let all = below.as_slice();
     match change {
-        MemoChange::Stay => kids_of(alloc, all),
+        MemoChange::Stay => facts_below(alloc, all),
         MemoChange::PutMemo(index, memo, _) => {
-            let mut kids = kids_of(alloc, &all[..*index])?;
+            let mut kids = facts_below(alloc, &all[..*index])?;
             kids.push(memo.facts)?;
-            kids.push_all(kids_of(alloc, &all[*index..])?.as_slice())?;
+            kids.push_all(facts_below(alloc, &all[*index..])?.as_slice())?;
             Ok(kids)
         }
         MemoChange::TakeMemo(index) => {
-            let mut kids = kids_of(alloc, &all[..*index])?;
-            kids.push_all(kids_of(alloc, &all[*index + 1..])?.as_slice())?;
+            let mut kids = facts_below(alloc, &all[..*index])?;
+            kids.push_all(facts_below(alloc, &all[*index + 1..])?.as_slice())?;
             Ok(kids)
         }
         MemoChange::SwapMemo(index, memo) => kids_with(alloc, below, *index, memo.facts),

@@ -42,7 +42,7 @@ fn laid_kids(alloc: Global, node: &Node, memo: &Memo, entry: &Entry) -> Result<L
     requires has { HasEntry (out-Memo memo.now) entry.now }
     ensures { IfOk result (λ kids. (m : MetricsValue) → Agrees m node.now memo.now → kids ≡ kids_laid m node.now (entry.now.ones ++ entry.now.twos)) }
 {
-    let facts = facts_below(alloc, memo)?;
+    let facts = facts_below(alloc, memo.below.as_slice())?;
     let view = NodeView::make(alloc, node, memo.facts, &facts)?;
     let count = view.kids();
     let last = last_contexts(alloc, count, entry)?;

@@ -67,13 +67,13 @@ pub fn kept_answer(alloc: Global, memo: &Memo, context: &Context) -> Result<Opti
     Ok(None)
 }
 
-/// What the children of an element are, in order, as a view of the element takes them.
-pub fn facts_below(alloc: Global, memo: &Memo) -> Result<List<Facts>, Memory>
-    ensures { IfOk result (λ kids. kids ≡ map own_facts (out-Memo memo.now).below) }
+/// What the elements of some memos are, in order: of those below an element, as a view of it takes them.
+pub fn facts_below(alloc: Global, below: &[Memo]) -> Result<List<Facts>, Memory>
+    ensures { IfOk result (λ kids. kids ≡ map own_facts below.now) }
 {
-    let mut kids = List::make(alloc);
-    for below in memo.below.as_slice() {
-        kids.push(below.facts)?;
+    let mut kids = List::with_room(alloc, below.len())?;
+    for memo in below {
+        kids.push(memo.facts)?;
     }
     Ok(kids)
 }

@@ -48,7 +48,7 @@ pub fn relay_element<L: Ledger>(
     if let Some(answer) = kept_answer(alloc, memo, context)? {
         return Ok(answer);
     }
-    let kids = facts_below(alloc, memo)?;
+    let kids = facts_below(alloc, memo.below.as_slice())?;
     let view = NodeView::make(alloc, node, memo.facts, &kids)?;
     let ones = wave_one(alloc, &view, context, metrics)?;
     let one = relay_all(alloc, node, memo, &view, &ones, metrics, steps)?;
@@ -86,7 +86,7 @@ fn relay_all<L: Ledger>(
     ensures range { result ≡ Err Range →
         list_all (visit_fits metrics.now) (flat_map (visits_below metrics.now node.now) asks.now) ≡ false }
 {
-    let mut answers = List::make(alloc);
+    let mut answers = List::with_room(alloc, asks.len())?;
     for asked in asks.as_slice() {
         let index = asked.kid as usize;
         let kid = view.node_at(index);

@@ -5,5 +5,5 @@ use Rattle.kept_edits.proofs.blanks.+blank.Goals as goal
 pub returns : goal.returns
 returns t c =
     let all : length c.as_slice-child-items.result.now ≡ c.loop-child.child-index = omega arith in
-    blank_made c.args.node.now c.in_ok-facts_of.field-0 c.loop-child.kids c.make.result c.loop-child.below c.as_slice-child-items.result.now c.loop-child.child-index
-    (c.in_ok-facts_of.ensures {u = tt}) c.loop-child.invariant.known c.make.ensures c.loop-child.invariant.made c.as_slice-child-items.ensures all
+    blank_made c.args.node.now c.in_ok-facts.facts c.loop-child.kids c.in_ok-entries.entries c.loop-child.below c.as_slice-child-items.result.now c.loop-child.child-index
+    (c.in_ok-facts.ensures {u = tt}) c.loop-child.invariant.known (c.in_ok-entries.ensures {u = tt}) c.loop-child.invariant.made c.as_slice-child-items.ensures all

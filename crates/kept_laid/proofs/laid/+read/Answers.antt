@@ -1,4 +1,4 @@
-use Rattle.std.proofs.Common.{◌≡◌, ◌<◌, ◌∙◌, refl, sym, ap, subst, arith, List, [], length, Some, None, slice_get, get_or, All}
+use Rattle.std.proofs.Common.{◌≡◌, ◌<◌, ◌∙◌, refl, sym, ap, subst, arith, List, [], length, map, Some, None, slice_get, get_or, All}
 use Rattle.std.proofs.lemmas.Option.{slice_get-get_or}
 use Rattle.std.specs.Option.{option_map}
 use Rattle.std.specs.Borrow.{Bor}
@@ -11,6 +11,7 @@ use Rattle.layout_model.specs.declared.context.Context.{Context}
 use Rattle.fixed_units.specs.Sums.{list_to}
 use Rattle.layout_core.proofs.Children.{among_all, as_many_nodes, child_of, few_below, few_children, in_flow, near, smaller}
 use Rattle.kept_results.specs.Kept.{IsMemoOf}
+use Rattle.kept_results.specs.Looking.{own_facts}
 use Rattle.kept_results.specs.declared.memo.Memo.{Memo}
 use Rattle.kept_results.specs.declared.memo.Memo.TheViews.{out-Memo}
 use Rattle.kept_results.proofs.Agreement.{agrees_child}
@@ -26,7 +27,7 @@ laid_kids-make-requires-clause-own t c = (c.requires.agrees.agrees.at [] c.args.
 
 pub laid_kids-make-requires-clause-known : goal.laid_kids-make-requires-clause-known
 laid_kids-make-requires-clause-known t c =
-    (c.in_ok-facts.ensures {u = tt}) ∙ facts_known c.requires.agrees.metrics c.args.node.now c.args.memo.now c.requires.agrees.agrees
+    (c.in_ok-facts.ensures {u = tt}) ∙ ap (map own_facts) c.as_slice.ensures ∙ facts_known c.requires.agrees.metrics c.args.node.now c.args.memo.now c.requires.agrees.agrees
 
 pub laid_kids-make-requires-clause-few : goal.laid_kids-make-requires-clause-few
 laid_kids-make-requires-clause-few t c = omega (arith, few_children c.args.node.now, c.requires.few)
@@ -60,7 +61,7 @@ laid_kids-bounds-as_slice-place t c =
     let shown = c.in_ok-view.ensures {u = tt} in
     let n = child_of _ node _ _ shown c.place.ensures in
     let own = c.requires.agrees.agrees.at [] node c.args.memo.now (refl, refl) in
-    omega (arith, near node n.child.node _ _ record { child = n.child; in_flow = n.in_flow; among = n.among; shown = n.shown; holds = refl } n, own.as_many, ap length c.as_slice.ensures)
+    omega (arith, near node n.child.node _ _ record { child = n.child; in_flow = n.in_flow; among = n.among; shown = n.shown; holds = refl } n, own.as_many, ap length c.as_slice-in-Some.ensures)
 
 pub laid_kids-laid_of-requires : goal.laid_kids-laid_of-requires
 laid_kids-laid_of-requires t c =
@@ -79,7 +80,7 @@ laid_kids-laid_of-requires t c =
     let within : index < length items = omega (arith, c.loop-index-test.true, (c.in_ok-last.ensures {u = tt}).as_many) in
     let at : slice_get (out-Memo memo).below place ≡ Some below =
     slice_get-get_or (out-Memo memo).below place below (omega (arith, near node kid index place n p, own.as_many))
-    ∙ ap (λ (b : Memo). Some b) (sym (c.index-as_slice-place.is ∙ ap (λ (list : List Memo). get_or list place below) c.as_slice.ensures)) in
+    ∙ ap (λ (b : Memo). Some b) (sym (c.index-as_slice-place.is ∙ ap (λ (list : List Memo). get_or list place below) c.as_slice-in-Some.ensures)) in
     let last = last_is (asks_in c.args.entry.now) items index c.index.result.now (c.in_ok-last.ensures {u = tt}).last within c.index.ensures in
     let asked : last_context (asks_in c.args.entry.now) index ≡ Some c.in-Some.context.now =
     last ∙ ap (option_map (λ (context : Bor Context). context.now)) c.in-Some.is in
@@ -113,7 +114,7 @@ laid_kids-loop-index-preserved t c = λ m agrees.
           let within : index < length items = omega (arith, c.loop-index-test.true, (c.in_ok-last.ensures {u = tt}).as_many) in
           let at : slice_get (out-Memo memo).below place ≡ Some below =
           slice_get-get_or (out-Memo memo).below place below (omega (arith, near node kid index place n p, own.as_many))
-          ∙ ap (λ (b : Memo). Some b) (sym (w.index-as_slice-place.is ∙ ap (λ (list : List Memo). get_or list place below) w.as_slice.ensures)) in
+          ∙ ap (λ (b : Memo). Some b) (sym (w.index-as_slice-place.is ∙ ap (λ (list : List Memo). get_or list place below) w.as_slice-in-Some.ensures)) in
           let last = last_is asks items index c.index.result.now (c.in_ok-last.ensures {u = tt}).last within c.index.ensures in
           let asked : last_context asks index ≡ Some w.in-Some.context.now =
           last ∙ ap (option_map (λ (context : Bor Context). context.now)) w.in-Some.is in

@@ -15,7 +15,7 @@ use Rattle.layout_core.proofs.Waves.{all_fit, broken, fit_more}
 use Rattle.layout_core.proofs.Whole.{answers_all, ones_false, range_waves, size_false, twos_false}
 use Rattle.kept_results.specs.Contexts.{IsProper}
 use Rattle.kept_results.specs.Kept.{IsKept, IsMissing, NamesKept, is_marked}
-use Rattle.kept_results.specs.Looking.{HasAnswer}
+use Rattle.kept_results.specs.Looking.{HasAnswer, own_facts}
 use Rattle.kept_results.specs.Passes.{AnswersNeed, Needs, Pair, Passes}
 use Rattle.kept_results.specs.Tidy.{IsTidy}
 use Rattle.kept_results.specs.declared.memo.Memo.{Memo}
@@ -42,7 +42,7 @@ own_need m node context = record { element = node; made = (refl, refl) }
 pub relay_all-loop-asked-init : goal.relay_all-loop-asked-init
 relay_all-loop-asked-init g t c =
     record {
-      told = c.make-answers.ensures;
+      told = c.in_ok-answers.ensures {u = tt};
       fit = refl;
       passes = passes_none c.args.metrics.now c.args.node.now (AnswersNeed c.args.metrics.now c.args.node.now c.args.asks.now) c.args.memo.now c.args.steps.now true c.requires.agrees;
       own = refl;
@@ -50,6 +50,10 @@ relay_all-loop-asked-init g t c =
       kept = tt;
       tidy = λ h. h;
     }
+
+pub relay_all-returns-in_err-answers-clause-passes : goal.relay_all-returns-in_err-answers-clause-passes
+relay_all-returns-in_err-answers-clause-passes g t c =
+    passes_none c.args.metrics.now c.args.node.now (AnswersNeed c.args.metrics.now c.args.node.now c.args.asks.now) c.args.memo.now c.args.steps.now false c.requires.agrees
 
 pub relay_all-at_mut-below-requires : goal.relay_all-at_mut-below-requires
 relay_all-at_mut-below-requires g t c =
@@ -107,7 +111,7 @@ relay_all-returns-in_err-answer-clause-range g t c =
     let node = c.args.node.now in
     let n = child_of _ node _ _ c.requires.shown c.node_at-kid.ensures in
     let p = child_of _ node _ _ c.requires.shown c.place.ensures in
-    let same = rw e at c.from_residual.ensures.1 in
+    let same = rw e at c.from_residual-in_err-answer.ensures.1 in
     ap (all_fit m node) (sym c.as_slice-asked-items.ensures)
     ∙ broken m node c.as_slice-asked-items.result.now c.loop-asked.asked-index c.asked-item.result c.node_at-kid.result.now
     c.loop-asked-test.true c.asked-item.is (in_flow node _ _ _ n p) ((c.in_err-answer.ensures {u = tt}).range (ap Err (sym same)))
@@ -210,7 +214,7 @@ relay_element-make-requires-clause-own g t c =
 
 pub relay_element-make-requires-clause-known : goal.relay_element-make-requires-clause-known
 relay_element-make-requires-clause-known g t c =
-    (c.in_ok-kids.ensures {u = tt}) ∙ facts_known c.args.metrics.now c.args.node.now c.args.memo.now c.requires.agrees
+    (c.in_ok-kids.ensures {u = tt}) ∙ ap (map own_facts) c.as_slice.ensures ∙ facts_known c.args.metrics.now c.args.node.now c.args.memo.now c.requires.agrees
 
 pub relay_element-make-requires-clause-few : goal.relay_element-make-requires-clause-few
 relay_element-make-requires-clause-few g t c =
