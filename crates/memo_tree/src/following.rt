@@ -6,7 +6,6 @@ ghost use Rattle.kept_edits.specs.declared.change.MemoChange.{MemoChange as Chan
 ghost use Rattle.memo_tree.specs.Followed.{HasPlace, IsBefore, IsFollowed, IsOfElement, IsOfPlace, IsOfWay};
 ghost use Rattle.memo_tree.specs.Rooms.{HasRoom};
 
-use crate::element::element_at;
 use crate::way::{Place, Way};
 use embellished::Facts;
 use fixed_units::{List, Memory, Room};
@@ -14,7 +13,7 @@ use kept_edits::{MemoChange, blank, change_memo, known_on};
 use kept_results::Memo;
 use math_tree::Node;
 use std::alloc::Global;
-use tree_edits::Parents;
+use tree_edits::{Parents, element_at};
 
 /// Changes memos as an edit changed their tree, of which this is the root by now, and answers the
 /// change that takes this back. What the edit put in is noted.

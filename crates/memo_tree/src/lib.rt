@@ -16,7 +16,6 @@
 //!   what is kept: `kept_results`; what is dropped: `kept_sweep`.
 #![tactic(auto)]
 
-mod element; // the element at the end of a way
 mod following; // memos after an edit
 pub mod laws; // of the definitions
 mod reversal; // Reversal
@@ -26,4 +25,4 @@ mod way; // where an edit changes a tree
 
 pub use reversal::Reversal;
 pub use tree::MemoTree;
-pub use way::{Place, Way, way_of};
+pub use way::{Place, Way};

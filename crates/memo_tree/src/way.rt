@@ -6,7 +6,7 @@ ghost use Rattle.tree_edits.specs.Paths.{Finds, LeadsTo};
 ghost use Rattle.memo_tree.specs.Ways.{HasWay};
 
 use math_tree::Tree;
-use tree_edits::{Edit, Path, path_to};
+use tree_edits::{Edit, Path};
 
 /// What becomes of the children of an element.
 #[derive(Debug, Drop)]
@@ -28,15 +28,8 @@ pub struct Way {
     pub place: Place,
 }
 
-/// Where an edit changes a tree. There is an answer at least where the edit isn't refused.
-pub fn way_of(tree: &Tree, edit: &Edit) -> Option<Way>
-    ensures { refusal_of tree.now edit.now ≡ NoReason → HasWay tree.now edit.now result }
-{
-    let found = path_to(tree.root(), edit.named(), 1);
-    way_along(tree, &found, edit)
-}
-
-/// The same, by the way to the element that the edit names, or none where no element has its id.
+/// Where an edit changes a tree, by the way to the element that the edit names, or none where no element
+/// has its id. There is an answer at least where the edit isn't refused.
 pub fn way_along(tree: &Tree, found: &Option<Path>, edit: &Edit) -> Option<Way>
     requires whole { IsWhole tree.now }
     requires found { Finds (named edit.now) 1 tree.now.root found.now }

@@ -43,5 +43,5 @@ pub use change::{Change, Former, carry_out_at};
 pub use command::{Command, CommandRefusal};
 pub use edit::{Edit, EditRefusal};
 pub use parents::Parents;
-pub use path::{Path, path_to};
+pub use path::{Path, element_at, path_to};
 pub use read::read_command;
