@@ -1,7 +1,7 @@
-mod relay;
 mod steps;
 
 use case_format::{Answer, Case, Fault, Kinds};
+use case_layouts::add_relay;
 
 /// The kinds for layouts that are made and kept.
 pub struct OfSteps;
@@ -17,8 +17,8 @@ impl Kinds for OfSteps {
 /// Adds the words of the one answer to a case.
 fn add_answer(kind: &str, case: Case, words: &mut String) -> Result<(), Fault> {
     match kind {
-        "relay" => relay::answer(case, words),
-        "steps" => steps::answer(case, words),
+        "relay" => add_relay(case, words),
+        "steps" => steps::add_steps(case, words),
         _ => Err(Fault::UnknownKind),
     }
 }

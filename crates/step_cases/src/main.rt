@@ -8,14 +8,12 @@
 //! - Proved: that every input is gone through to its end, without undefined behaviour. What is
 //!   written is compared, so no function here says what it writes.
 //! - Knows nothing of: what is kept, and what an edit leaves of it.
-//! - Add a kind of case: its file in `src/kinds/`, and its line in `src/kinds.rt`.
+//! - Add a kind of case: its file in `src/kinds/`, or in `case_layouts` where it needs no session, and its
+//!   line in `src/kinds.rt`.
 #![tactic(auto)]
 
-mod given; // what a case gives
 mod kinds; // the kinds of cases
-mod lines; // lines of a script, in a session and beside it
-mod seen; // whether two trees with their kept layouts are the same
-mod words; // the words of answers
+mod session; // lines of a script, in a session
 
 use case_format::carry_out;
 use kinds::OfSteps;

@@ -6,11 +6,12 @@
 ghost use Rattle.std.specs.Prelude.{◌≡◌, ◌<◌, OnOk};
 ghost use Rattle.memo_tree.specs.States.{IsIn, Sealed};
 
-use crate::given::tree_in;
-use crate::lines::{carry_out, carry_out_counted, drop_as_session, edit_and_back, show, started};
-use crate::seen::{is_fresh, is_held, is_same_tree, not_same};
-use crate::words::{add_judged, add_made, add_refusal, add_word};
+use crate::session::{carry_out, is_held, show, started};
 use case_format::{Case, Fault, Fields};
+use case_layouts::{
+    add_judged, add_made, add_refusal, add_word, carry_out_counted, drop_as_session, edit_and_back,
+    is_fresh, is_same_tree, not_same, tree_in,
+};
 use edit_session::Session;
 use fixed_units::Steps;
 use font_metrics::Metrics;
@@ -33,8 +34,8 @@ struct Script<'a> {
     lines: &'a [Value],
 }
 
-/// Adds the words of the answer.
-pub fn answer(case: Case, words: &mut String) -> Result<(), Fault> {
+/// Adds the words of the answer to a case of this kind.
+pub fn add_steps(case: Case, words: &mut String) -> Result<(), Fault> {
     let fields = Fields::of_value(case.value, &["metrics", "tree", "script"])?;
     let lines = fields.items("script")?;
     let tree = tree_in(case.alloc, fields)?;
@@ -50,7 +51,10 @@ pub fn answer(case: Case, words: &mut String) -> Result<(), Fault> {
 fn add_answer(script: Script, tree: Tree, words: &mut String) -> Result<(), Fault> {
     match script.metrics() {
         Ok(metrics) => add_counted::<Brand>(script, tree, metrics, words, Blank::new(1)),
-        Err(fault) => Err(fault),
+        Err(fault) => {
+            drop(tree);
+            Err(fault)
+        }
     }
 }
 
@@ -68,7 +72,11 @@ fn add_counted<L: Ledger>(
 {
     let mut steps = Steps::<L>::new(blank);
     match started(script.case.alloc, tree, metrics, &mut steps) {
-        Ok(mut session) => script.add_session(&mut session, words, &mut steps),
+        Ok(mut session) => {
+            let added = script.add_session(&mut session, words, &mut steps);
+            drop(session);
+            added
+        }
         Err(refusal) => add_refusal(refusal, words),
     }
 }
@@ -105,10 +113,17 @@ impl<'a> Script<'a> {
         let tree = session.tree(self.case.alloc)?;
         match self.metrics() {
             Ok(metrics) => match MemoTree::start(self.case.alloc, tree, metrics, steps) {
-                Ok(mut laid) => self.add_all(session, &mut laid, words, steps),
+                Ok(mut laid) => {
+                    let is_so = self.add_all(session, &mut laid, words, steps);
+                    drop(laid);
+                    is_so
+                }
                 Err(refusal) => not_same(refusal),
             },
-            Err(fault) => Err(fault),
+            Err(fault) => {
+                drop(tree);
+                Err(fault)
+            }
         }
     }
 
@@ -133,8 +148,9 @@ impl<'a> Script<'a> {
                 laid,
                 words,
                 steps,
-            )?;
-            is_same = is_same && is_so;
+            );
+            drop(text);
+            is_same = is_so? && is_same;
         }
         Ok(is_same)
     }
@@ -149,10 +165,17 @@ impl<'a> Script<'a> {
         let tree = session.tree(self.case.alloc)?;
         match self.metrics() {
             Ok(metrics) => match started(self.case.alloc, tree, metrics, steps) {
-                Ok(mut copied) => stays_same(self.case.alloc, session, &mut copied, steps),
+                Ok(mut copied) => {
+                    let is_so = stays_same(self.case.alloc, session, &mut copied, steps);
+                    drop(copied);
+                    is_so
+                }
                 Err(refusal) => not_same(refusal),
             },
-            Err(fault) => Err(fault),
+            Err(fault) => {
+                drop(tree);
+                Err(fault)
+            }
         }
     }
 }
@@ -195,8 +218,14 @@ fn stays_same<L: Ledger>(
 
 /// Whether a copy of a session's tree is as before when an edit was made of it and taken back.
 fn is_restored(alloc: Global, session: &Session) -> Result<bool, Fault> {
-    let before = session.tree(alloc)?;
     let mut tree = session.tree(alloc)?;
-    let is_made = edit_and_back(alloc, &mut tree, INSERTION.as_bytes())?;
-    Ok(is_made && is_same_tree(alloc, &before, &tree)?)
+    let is_so = is_as_before(alloc, &mut tree, session.layouts().tree());
+    drop(tree);
+    is_so
+}
+
+/// Whether an equal tree is as before when an edit was made of it and taken back.
+fn is_as_before(alloc: Global, tree: &mut Tree, before: &Tree) -> Result<bool, Fault> {
+    let is_made = edit_and_back(alloc, tree, INSERTION.as_bytes())?;
+    Ok(is_made && is_same_tree(alloc, before, tree)?)
 }

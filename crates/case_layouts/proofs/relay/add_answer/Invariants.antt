@@ -1,4 +1,4 @@
-use Rattle.step_cases.proofs.kinds.relay.add_answer.Given as goal
+use Rattle.case_layouts.proofs.relay.add_answer.Given as goal
 
 -- the ledger is the one that the blank opens
 abbrev pub ghosts-add_counted : goal.ghosts-add_counted

@@ -1,18 +1,15 @@
-//! Lines of a script, carried out by the calls of a session, and beside it by those of `memo_tree`.
+//! Lines of a script, carried out by the calls of `memo_tree` as a session does, where layouts are counted.
 ghost use Rattle.std.specs.Prelude.{OnOk};
 ghost use Rattle.memo_tree.specs.States.{IsIn, Sealed};
 ghost use Rattle.tree_edits.specs.Applying.{IsProperEdit};
 
 use crate::words::{OUT_OF_RANGE, REFUSED, add_kept, add_made, add_word};
 use case_format::Fault;
-use edit_session::{Session, SessionRefusal};
 use fixed_units::{LayRefusal, Steps};
-use font_metrics::Metrics;
-use math_tree::Tree;
 use memo_tree::MemoTree;
 use std::alloc::Global;
 use std::sync::ledger::Ledger;
-use tree_edits::{Command, CommandRefusal, Edit, EditRefusal, apply, read_command, restore};
+use tree_edits::{Command, CommandRefusal, Edit, EditRefusal, read_command};
 
 /// What came of a line.
 #[derive(Clone, Copy, PartialEq, Eq)]
@@ -36,72 +33,6 @@ impl Outcome {
             Outcome::OutOfRange => add_word(OUT_OF_RANGE, words),
             Outcome::Refused => add_word(REFUSED, words),
         }
-    }
-}
-
-/// Carries a line out in a session.
-pub fn carry_out<L: Ledger>(
-    alloc: Global,
-    session: &mut Session,
-    line: &[u8],
-    steps: &mut Steps<L>,
-) -> Result<Outcome, Fault> {
-    match read_command(alloc, line) {
-        Ok(Command::Show) => show(alloc, session),
-        Ok(Command::Change(edit)) => outcome_of(session.edit(alloc, edit, steps)),
-        Err(CommandRefusal::BadLine) => Ok(Outcome::Refused),
-        Err(CommandRefusal::Memory) => Err(Fault::Memory),
-    }
-}
-
-/// Shows a session. Like the other calls that stand alone in a function here, it has long clauses that nothing needs
-/// behind it.
-pub fn show(alloc: Global, session: &mut Session) -> Result<Outcome, Fault> {
-    match session.show(alloc) {
-        Ok(_placed) => Ok(Outcome::Shown),
-        Err(_) => Err(Fault::Memory),
-    }
-}
-
-/// Starts a session.
-pub fn started<L: Ledger>(
-    alloc: Global,
-    tree: Tree,
-    metrics: Metrics,
-    steps: &mut Steps<L>,
-) -> Result<Session, LayRefusal> {
-    Session::start(alloc, tree, metrics, steps)
-}
-
-/// Whether an edit of a tree can be made and taken back.
-pub fn edit_and_back(alloc: Global, tree: &mut Tree, line: &[u8]) -> Result<bool, Fault> {
-    match read_command(alloc, line) {
-        Ok(Command::Change(edit)) => change_and_back(alloc, tree, edit),
-        Ok(Command::Show) | Err(CommandRefusal::BadLine) => Ok(false),
-        Err(CommandRefusal::Memory) => Err(Fault::Memory),
-    }
-}
-
-fn change_and_back(alloc: Global, tree: &mut Tree, edit: Edit) -> Result<bool, Fault>
-    requires { IsProperEdit edit }
-{
-    match apply(alloc, tree, edit) {
-        Ok(taken) => {
-            restore(tree, taken);
-            Ok(true)
-        }
-        Err(EditRefusal::Memory) => Err(Fault::Memory),
-        Err(_) => Ok(false),
-    }
-}
-
-/// What came of an edit.
-fn outcome_of(edited: Result<(), SessionRefusal>) -> Result<Outcome, Fault> {
-    match edited {
-        Ok(()) => Ok(Outcome::Edited),
-        Err(SessionRefusal::Edit(_)) => Ok(Outcome::Refused),
-        Err(SessionRefusal::Range) => Ok(Outcome::OutOfRange),
-        Err(SessionRefusal::Memory) => Err(Fault::Memory),
     }
 }
 

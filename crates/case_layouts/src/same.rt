@@ -2,22 +2,12 @@
 ghost use Rattle.memo_tree.specs.States.{IsIn, Sealed};
 
 use case_format::Fault;
-use edit_session::Session;
 use fixed_units::{LayRefusal, Steps};
 use layout_core::{Laid, lay_fresh};
 use math_tree::Tree;
 use memo_tree::MemoTree;
 use std::alloc::Global;
 use std::sync::ledger::Ledger;
-
-/// Whether a session holds what stands beside it: the same tree, as many layouts, and the same box of the root.
-pub fn is_held(alloc: Global, session: &Session, laid: &MemoTree) -> Result<bool, Fault>
-    requires { IsIn Sealed laid.now }
-{
-    let tree = session.tree(alloc)?;
-    let is_so = session.kept() == laid.kept() && session.root_box() == laid.root_box();
-    Ok(is_so && is_same_tree(alloc, &tree, laid.tree())?)
-}
 
 /// Whether two trees are the same, with as many layouts that are kept of them, and with the same box of the root.
 pub fn is_equal(alloc: Global, one: &MemoTree, other: &MemoTree) -> Result<bool, Fault>
@@ -43,12 +33,39 @@ pub fn is_fresh<L: Ledger>(
 ) -> Result<bool, Fault>
     requires { IsIn Sealed laid.now }
 {
-    let kept = laid.laid(alloc)?;
     let tree = laid.tree().copy(alloc)?;
-    match lay_fresh(alloc, &tree, laid.metrics(), steps) {
-        Ok(fresh) => is_same(alloc, &kept, &fresh),
+    let is_so = is_laid_afresh(alloc, laid, &tree, steps);
+    drop(tree);
+    is_so
+}
+
+/// Whether the layout that is kept is the one that is made afresh of a tree.
+fn is_laid_afresh<L: Ledger>(
+    alloc: Global,
+    laid: &MemoTree,
+    tree: &Tree,
+    steps: &mut Steps<L>,
+) -> Result<bool, Fault>
+    requires { IsIn Sealed laid.now }
+{
+    match lay_fresh(alloc, tree, laid.metrics(), steps) {
+        Ok(fresh) => {
+            let is_so = is_laid_as(alloc, laid, &fresh);
+            drop(fresh);
+            is_so
+        }
         Err(refusal) => not_same(refusal),
     }
+}
+
+/// Whether the layout that is kept is this one.
+fn is_laid_as(alloc: Global, laid: &MemoTree, fresh: &Laid) -> Result<bool, Fault>
+    requires { IsIn Sealed laid.now }
+{
+    let kept = laid.laid(alloc)?;
+    let is_so = is_same(alloc, &kept, fresh);
+    drop(kept);
+    is_so
 }
 
 /// What isn't laid out isn't the same.

@@ -4,7 +4,7 @@ ghost use Rattle.std.specs.Prelude.{◌≡◌, ◌<◌};
 ghost use Rattle.memo_tree.specs.States.{Changed, IsIn, Sealed};
 
 use crate::given::tree_in;
-use crate::seen::{is_equal, not_same};
+use crate::same::{is_equal, not_same};
 use crate::words::{add_judged, add_kept, add_made, add_refusal, add_word};
 use case_format::{Case, Fault, Fields};
 use fixed_units::Steps;
@@ -13,30 +13,38 @@ use memo_tree::MemoTree;
 use std::marker::Brand;
 use std::sync::ledger::{Blank, Ledger};
 
-/// Adds the words of the answer.
-pub fn answer(case: Case, words: &mut String) -> Result<(), Fault> {
+/// Adds the words of the answer to a case of the kind `relay`.
+pub fn add_relay(case: Case, words: &mut String) -> Result<(), Fault> {
     let fields = Fields::of_value(case.value, &["metrics", "tree"])?;
     let tree = tree_in(case.alloc, fields)?;
-    let copied = tree.copy(case.alloc)?;
-    add_answer(case, fields, &tree, copied, words)
+    let added = add_answer(case, fields, &tree, words);
+    drop(tree);
+    added
 }
 
 /// Adds the answer for a tree, of which a copy is laid out.
-fn add_answer(
-    case: Case,
-    fields: Fields,
-    tree: &Tree,
-    copied: Tree,
-    words: &mut String,
-) -> Result<(), Fault> {
+fn add_answer(case: Case, fields: Fields, tree: &Tree, words: &mut String) -> Result<(), Fault> {
+    let copied = tree.copy(case.alloc)?;
     match case.metrics(fields) {
         Ok(metrics) => match MemoTree::make(case.alloc, copied, metrics) {
             Ok(mut laid) => {
-                add_counted::<Brand>(case, fields, tree, &mut laid, words, Blank::new(1))
+                let added = add_counted::<Brand>(
+                    case,
+                    fields,
+                    tree,
+                    &mut laid,
+                    words,
+                    Blank::new(1),
+                );
+                drop(laid);
+                added
             }
             Err(_) => Err(Fault::Memory),
         },
-        Err(fault) => Err(fault),
+        Err(fault) => {
+            drop(copied);
+            Err(fault)
+        }
     }
 }
 
@@ -88,9 +96,16 @@ fn is_started<L: Ledger>(
     let copied = tree.copy(case.alloc)?;
     match case.metrics(fields) {
         Ok(metrics) => match MemoTree::start(case.alloc, copied, metrics, steps) {
-            Ok(started) => is_equal(case.alloc, laid, &started),
+            Ok(started) => {
+                let is_so = is_equal(case.alloc, laid, &started);
+                drop(started);
+                is_so
+            }
             Err(refusal) => not_same(refusal),
         },
-        Err(fault) => Err(fault),
+        Err(fault) => {
+            drop(copied);
+            Err(fault)
+        }
     }
 }
