@@ -2,7 +2,7 @@
 //!
 //! `wave_one` gives the questions that an element asks first. `wave_two` gives those that wait for
 //! the answers: of operators that stretch to what stands beside them, and of the rows of a table to
-//! its columns.
+//! its columns. Who asks both takes a `Survey` of the children first, and both waves from it.
 //!
 //! - Models: MathML Core 3, and 3.2.4.3 for what stretches.
 //! - Proved: the questions are `first` and `second` of `layout_model`, exactly; a font size out of
@@ -13,9 +13,11 @@
 
 mod asks; // which child, with which pull
 mod children; // a child's style, form and axis
+mod survey; // Survey
 mod tables; // the columns that rows are asked with
-mod waves; // wave_one, wave_two
+mod waves; // the questions of both waves
 
 pub use asks::{asking, has_moved_limits};
 pub use children::{base_properties, is_true, kid_axis, pull_of};
-pub use waves::{wave_one, wave_two};
+pub use survey::Survey;
+pub use waves::{first_questions, second_questions, wave_one, wave_two};

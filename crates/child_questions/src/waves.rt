@@ -1,27 +1,27 @@
-ghost use Rattle.std.specs.Prelude.{◌≡◌, ◌≤◌, ◌^◌, ◌<◌, pos, ◌≤ℤ◌, length, map, true, false, IfOk, OnOk, Err};
-ghost use Rattle.std.specs.List.{All};
+ghost use Rattle.std.specs.Prelude.{◌≡◌, ◌≤◌, ◌^◌, ◌<◌, pos, ◌≤ℤ◌, length, map, true, false, is_none, IfOk, OnOk, Err};
+ghost use Rattle.std.specs.List.{All, list_all};
 ghost use Rattle.fixed_units.specs.declared.refusal.LayRefusal.TheVariants.{Range};
 ghost use Rattle.embellished.specs.Fences.{fences_in};
 ghost use Rattle.embellished.specs.Seen.{seen_of};
 ghost use Rattle.style_scope.specs.Sizes.{IsStyle, size_of};
-ghost use Rattle.layout_model.specs.Questions.{IsAskBelow, asked_all, first, second, second_as};
+ghost use Rattle.layout_model.specs.Questions.{IsAskBelow, asked_all, first, second};
 ghost use Rattle.layout_model.specs.Fits.{AreAnswers, HasStyle};
 ghost use Rattle.layout_model.specs.Range.{is_font_size};
+ghost use Rattle.child_questions.specs.Surveys.{survey_of};
 
-use crate::asks::{asking, first_asks, kid_pulls, second_asks};
+use crate::asks::{first_asks, second_asks};
 use crate::children::{pull_of, pulled_context};
+use crate::survey::Survey;
 use crate::tables::rows_asked;
-use embellished::{Fences, View, fences_of};
+use embellished::{Fences, View};
 use fixed_units::{LayRefusal, List, MathBox, Memory};
 use font_metrics::Metrics;
 use layout_model::{Answer, Asking, Context, Question};
-use row_stretch::Ask;
+use row_stretch::{Ask, KidPull};
 use std::alloc::Global;
-use style_scope::{Style, font_size};
 
 /// The questions of an element in the first wave. It is refused with `Range` exactly where the font
 /// size lies outside 0 to 2^20 units.
-#[tactic(auto, unfolding(layout_model::specs::Questions::first))]
 pub fn wave_one<V: View>(
     alloc: Global,
     view: &V,
@@ -34,18 +34,11 @@ pub fn wave_one<V: View>(
     ensures range { result ≡ Err Range → is_font_size (size_of metrics.now context.now.style) ≡ false }
     ensures styles { IfOk result (All HasStyle) }
 {
-    if !has_font_size(&context.style, metrics) {
-        return Err(LayRefusal::Range);
-    }
-    let fences = fences_of(view);
-    let kids = kid_pulls(alloc, view, fences, context, metrics)?;
-    let asking = asking(view, fences, context, metrics);
-    let asks = first_asks(alloc, asking, &kids, pull_of(&context.stretch))?;
-    Ok(asked_all(alloc, view, fences, context, metrics, &asks)?)
+    let survey = Survey::make(alloc, view, context, metrics)?;
+    Ok(first_questions(alloc, view, &survey, context, metrics)?)
 }
 
 /// The questions of an element in the second wave, over the answers to those of the first.
-#[tactic(auto, unfolding(layout_model::specs::Questions::second))]
 pub fn wave_two<V: View>(
     alloc: Global,
     view: &V,
@@ -59,23 +52,68 @@ pub fn wave_two<V: View>(
     ensures styles { IfOk result (All HasStyle) }
     ensures value { IfOk result (λ asks. asks ≡ second metrics.now (seen_of (V.element view.now)) context.now first.now) }
 {
-    let fences = fences_of(view);
-    let asking = asking(view, fences, context, metrics);
-    if matches!(asking, Asking::AsTable) {
-        return rows_asked(alloc, view, fences, context, metrics, first);
-    }
-    let kids = kid_pulls(alloc, view, fences, context, metrics)?;
-    let frames = frames_of(alloc, first.as_slice())?;
-    let asks = second_asks(alloc, asking, &kids, pull_of(&context.stretch), &frames)?;
-    asked_all(alloc, view, fences, context, metrics, &asks)
+    let survey = Survey::look(alloc, view, context, metrics)?;
+    second_questions(alloc, view, &survey, context, metrics, first)
 }
 
-/// Whether the font size of a style lies in 0 to 2^20 units.
-pub fn has_font_size(style: &Style, metrics: &Metrics) -> bool
-    requires { IsStyle style.now }
-    ensures { result ≡ is_font_size (size_of metrics.now style.now) }
+/// The questions of the first wave, by what the element sees.
+#[tactic(auto, unfolding(layout_model::specs::Questions::first))]
+pub fn first_questions<V: View>(
+    alloc: Global,
+    view: &V,
+    survey: &Survey,
+    context: &Context,
+    metrics: &Metrics,
+) -> Result<List<Question>, Memory>
+    requires known { survey.now ≡ survey_of metrics.now (seen_of (V.element view.now)) context.now }
+    requires style { IsStyle context.now.style }
+    requires size { size_of metrics.now context.now.style ≤ℤ pos (2 ^ 20) }
+    ensures ok { IfOk result (λ asks. asks ≡ first metrics.now (seen_of (V.element view.now)) context.now) }
+    ensures styles { IfOk result (All HasStyle) }
 {
-    font_size(style, metrics).is_some()
+    // The view's count bounds how many pulls there are.
+    let _count = view.kids();
+    let own = pull_of(&context.stretch);
+    let asks = first_asks(alloc, survey.asking, &survey.pulls, own)?;
+    asked_all(alloc, view, survey.fences, context, metrics, &asks)
+}
+
+/// The questions of the second wave, by what the element sees, over the answers to those of the first.
+#[tactic(auto, unfolding(layout_model::specs::Questions::second))]
+pub fn second_questions<V: View>(
+    alloc: Global,
+    view: &V,
+    survey: &Survey,
+    context: &Context,
+    metrics: &Metrics,
+    first: &List<Answer>,
+) -> Result<List<Question>, Memory>
+    requires known { survey.now ≡ survey_of metrics.now (seen_of (V.element view.now)) context.now }
+    requires style { IsStyle context.now.style }
+    requires size { size_of metrics.now context.now.style ≤ℤ pos (2 ^ 20) }
+    requires answers { AreAnswers first.now }
+    ensures styles { IfOk result (All HasStyle) }
+    ensures value { IfOk result (λ asks. asks ≡ second metrics.now (seen_of (V.element view.now)) context.now first.now) }
+{
+    if matches!(survey.asking, Asking::AsTable) {
+        return rows_asked(alloc, view, survey.fences, context, metrics, first);
+    }
+    if none_stretches(survey.pulls.as_slice()) {
+        return Ok(List::make(alloc));
+    }
+    // The view's count bounds how many pulls there are.
+    let _count = view.kids();
+    let frames = frames_of(alloc, first.as_slice())?;
+    let own = pull_of(&context.stretch);
+    let asks = second_asks(alloc, survey.asking, &survey.pulls, own, &frames)?;
+    asked_all(alloc, view, survey.fences, context, metrics, &asks)
+}
+
+/// Whether no child stretches along any axis: then no element has further questions, but for a table.
+fn none_stretches(pulls: &[KidPull]) -> bool
+    ensures { result ≡ list_all (λ kid. is_none kid.axis) pulls.now }
+{
+    pulls.iter().all(|kid| kid.axis.is_none())
 }
 
 /// The questions to children with their pulls.

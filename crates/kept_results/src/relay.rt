@@ -15,7 +15,7 @@ use crate::memo::Memo;
 use embellished::{NodeView, View};
 use fixed_units::{LayRefusal, List, Steps};
 use font_metrics::Metrics;
-use layout_core::{finish_asked, wave_one, wave_two};
+use layout_core::{Survey, finish_asked, first_questions, second_questions};
 use layout_model::{Answer, Context, Question};
 use math_tree::Node;
 use std::alloc::Global;
@@ -50,9 +50,10 @@ pub fn relay_element<L: Ledger>(
     }
     let kids = facts_below(alloc, memo.below.as_slice())?;
     let view = NodeView::make(alloc, node, memo.facts, &kids)?;
-    let ones = wave_one(alloc, &view, context, metrics)?;
+    let survey = Survey::make(alloc, &view, context, metrics)?;
+    let ones = first_questions(alloc, &view, &survey, context, metrics)?;
     let one = relay_all(alloc, node, memo, &view, &ones, metrics, steps)?;
-    let twos = wave_two(alloc, &view, context, metrics, &one)?;
+    let twos = second_questions(alloc, &view, &survey, context, metrics, &one)?;
     let two = relay_all(alloc, node, memo, &view, &twos, metrics, steps)?;
     let outcome = finish_asked(
         alloc, &view, context, metrics, &ones, &twos, &one, &two, steps,

@@ -232,12 +232,16 @@ pub relay_element-returns-in_err-ones-clause-passes : goal.relay_element-returns
 relay_element-returns-in_err-ones-clause-passes g t c =
     passes_none c.args.metrics.now c.args.node.now (Needs c.args.metrics.now c.args.node.now c.args.context.now) c.args.memo.now c.args.steps.now false c.requires.agrees
 
-pub relay_element-returns-in_err-ones-clause-range : goal.relay_element-returns-in_err-ones-clause-range
-relay_element-returns-in_err-ones-clause-range g t c =
+pub relay_element-returns-in_err-survey-clause-passes : goal.relay_element-returns-in_err-survey-clause-passes
+relay_element-returns-in_err-survey-clause-passes g t c =
+    passes_none c.args.metrics.now c.args.node.now (Needs c.args.metrics.now c.args.node.now c.args.context.now) c.args.memo.now c.args.steps.now false c.requires.agrees
+
+pub relay_element-returns-in_err-survey-clause-range : goal.relay_element-returns-in_err-survey-clause-range
+relay_element-returns-in_err-survey-clause-range g t c =
     λ e.
-    let same = rw e at c.from_residual-in_err-ones.ensures.1 in
+    let same = rw e at c.from_residual-in_err-survey.ensures.1 in
     range_is c.args.metrics.now c.args.node.now c.args.context.now
-    ∙ size_false _ _ (size_false _ _ ((c.in_err-ones.ensures {u = tt}).range (ap Err (sym same))))
+    ∙ size_false _ _ (size_false _ _ ((c.in_err-survey.ensures {u = tt}).range (ap Err (sym same))))
 
 pub relay_element-relay_all-requires : goal.relay_element-relay_all-requires
 relay_element-relay_all-requires g t c κs within =
@@ -269,8 +273,8 @@ relay_element-returns-in_err-one-clause-range g t c =
     let whole = range_waves m node _ context shown c.in_ok-ones.ones o.ok (map (answer_of m node) c.in_ok-ones.ones) refl _ refl in
     ones_false _ _ _ _ whole ((c.in_err-one.ensures {u = tt}).range (ap Err (sym same)))
 
-pub relay_element-wave_two-requires-clause-answers : goal.relay_element-wave_two-requires-clause-answers
-relay_element-wave_two-requires-clause-answers g t c =
+pub relay_element-second_questions-requires-clause-answers : goal.relay_element-second_questions-requires-clause-answers
+relay_element-second_questions-requires-clause-answers g t c =
     let m = c.args.metrics.now in
     let node = c.args.node.now in
     let one = (c.in_ok-one.ensures {u = tt}) in
@@ -403,7 +407,7 @@ relay_element-returns-clause-passes g t c =
     let waves : Waves m node c.in_ok-view.view.node.now context c.in_ok-ones.ones c.in_ok-twos.twos c.in_ok-one.one c.in_ok-two.two =
     record { shown_is = shown; ones_are = o.ok; one_is = one.ok; twos_are = w; two_is = two.ok } in
     let made = (c.in_ok-outcome.ensures {u = tt}) in
-    let whole = waves_fit waves o.fit made.fit one.fit two.fit in
+    let whole = waves_fit waves (c.in_ok-survey.ensures {u = tt}).fit made.fit one.fit two.fit in
     let kept = (c.in_ok-keep.ensures {u = tt}).kept in
     let named = all_then (NamesKept node (out-Memo c.relay_all.new.memo).below) (NamesKept node (out-Memo c.relay_all-2.new.memo).below) (names_still node two.passed.keeps) c.in_ok-ones.ones one.kept in
     let sound = sound_made waves c.relay_all-2.new.memo c.keep.new.memo c.in_ok-outcome.outcome kept made.ok c.requires.context whole named two.kept in
@@ -427,7 +431,7 @@ relay_element-returns-clause-passed g t c =
     let waves : Waves m node c.in_ok-view.view.node.now context c.in_ok-ones.ones c.in_ok-twos.twos c.in_ok-one.one c.in_ok-two.two =
     record { shown_is = shown; ones_are = o.ok; one_is = one.ok; twos_are = w; two_is = two.ok } in
     let made = (c.in_ok-outcome.ensures {u = tt}) in
-    let whole = waves_fit waves o.fit made.fit one.fit two.fit in
+    let whole = waves_fit waves (c.in_ok-survey.ensures {u = tt}).fit made.fit one.fit two.fit in
     let kept = (c.in_ok-keep.ensures {u = tt}).kept in
     let named = all_then (NamesKept node (out-Memo c.relay_all.new.memo).below) (NamesKept node (out-Memo c.relay_all-2.new.memo).below) (names_still node two.passed.keeps) c.in_ok-ones.ones one.kept in
     let sound = sound_made waves c.relay_all-2.new.memo c.keep.new.memo c.in_ok-outcome.outcome kept made.ok c.requires.context whole named two.kept in
@@ -476,4 +480,4 @@ relay_element-returns-clause-fit g t c =
     let waves : Waves m node c.in_ok-view.view.node.now context c.in_ok-ones.ones c.in_ok-twos.twos c.in_ok-one.one c.in_ok-two.two =
     record { shown_is = shown; ones_are = o.ok; one_is = one.ok; twos_are = w; two_is = two.ok } in
     let made = (c.in_ok-outcome.ensures {u = tt}) in
-    waves_fit waves o.fit made.fit one.fit two.fit
+    waves_fit waves (c.in_ok-survey.ensures {u = tt}).fit made.fit one.fit two.fit

@@ -1,0 +1,75 @@
+ghost use Rattle.std.specs.Prelude.{◌≡◌, true, false, IfOk, OnOk, Err};
+ghost use Rattle.fixed_units.specs.declared.refusal.LayRefusal.TheVariants.{Range};
+ghost use Rattle.embellished.specs.Seen.{seen_of};
+ghost use Rattle.style_scope.specs.Sizes.{IsStyle, size_of};
+ghost use Rattle.layout_model.specs.Range.{is_font_size};
+ghost use Rattle.child_questions.specs.Surveys.{survey_of};
+
+use crate::asks::{asking, kid_pulls};
+use embellished::{Fences, View, fences_of};
+use fixed_units::{LayRefusal, List, Memory};
+use font_metrics::Metrics;
+use layout_model::{Asking, Context};
+use row_stretch::KidPull;
+use std::alloc::Global;
+use style_scope::{Style, font_size};
+
+/// What an element that is to be laid out in a context sees of its children before it asks them: the
+/// questions of both waves come from it.
+#[derive(Debug, Drop)]
+pub struct Survey {
+    /// How it asks them.
+    pub asking: Asking,
+    /// Which of them are fences.
+    pub fences: Fences,
+    /// Along which axis each of them stretches.
+    pub pulls: List<KidPull>,
+}
+
+impl Survey {
+    /// That of an element, which looks at each child once. It is refused with `Range` exactly where the
+    /// font size lies outside 0 to 2^20 units.
+    pub fn make<V: View>(
+        alloc: Global,
+        view: &V,
+        context: &Context,
+        metrics: &Metrics,
+    ) -> Result<Survey, LayRefusal>
+        requires style { IsStyle context.now.style }
+        ensures ok { IfOk result (λ survey. survey ≡ survey_of metrics.now (seen_of (V.element view.now)) context.now) }
+        ensures fit { OnOk result (is_font_size (size_of metrics.now context.now.style) ≡ true) }
+        ensures range { result ≡ Err Range → is_font_size (size_of metrics.now context.now.style) ≡ false }
+    {
+        if !has_font_size(&context.style, metrics) {
+            return Err(LayRefusal::Range);
+        }
+        Ok(Survey::look(alloc, view, context, metrics)?)
+    }
+
+    /// The same where the font size isn't looked at.
+    pub fn look<V: View>(
+        alloc: Global,
+        view: &V,
+        context: &Context,
+        metrics: &Metrics,
+    ) -> Result<Survey, Memory>
+        ensures { IfOk result (λ survey. survey ≡ survey_of metrics.now (seen_of (V.element view.now)) context.now) }
+    {
+        let fences = fences_of(view);
+        let asking = asking(view, fences, context, metrics);
+        let pulls = kid_pulls(alloc, view, fences, context, metrics)?;
+        Ok(Survey {
+            asking,
+            fences,
+            pulls,
+        })
+    }
+}
+
+/// Whether the font size of a style lies in 0 to 2^20 units.
+fn has_font_size(style: &Style, metrics: &Metrics) -> bool
+    requires { IsStyle style.now }
+    ensures { result ≡ is_font_size (size_of metrics.now style.now) }
+{
+    font_size(style, metrics).is_some()
+}
