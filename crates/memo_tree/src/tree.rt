@@ -25,7 +25,7 @@ use kept_laid::{box_of, count, count_or_most, laid_of, root_box};
 use kept_results::{Memo, relay_element, seal, undo_pass};
 use kept_sweep::{start_layout, sweep_layouts};
 use layout_model::Laid;
-use math_tree::{NodeId, Tree};
+use math_tree::{Node, NodeId, Tree};
 use std::alloc::Global;
 use std::marker::Model;
 use std::sync::ledger::Ledger;
@@ -69,14 +69,19 @@ impl MemoTree {
         ensures memo { IfOk result (λ laid. laid.memo ≡ blank tree.root) }
         ensures changed { IfOk result (IsIn Changed) }
     {
-        let memo = blank(alloc, tree.root())?;
-        let parents = Parents::make(alloc, tree.root())?;
-        Ok(MemoTree {
-            tree,
-            metrics,
-            memo,
-            parents,
-        })
+        match unlaid(alloc, tree.root()) {
+            Ok((memo, parents)) => Ok(MemoTree {
+                tree,
+                metrics,
+                memo,
+                parents,
+            }),
+            Err(refusal) => {
+                drop(tree);
+                drop(metrics);
+                Err(refusal)
+            }
+        }
     }
 
     /// Takes a tree and metrics over, and lays the tree out. Exactly the layouts are kept that the one of
@@ -97,15 +102,19 @@ impl MemoTree {
         ensures fit { IfOk result (IsIn Sealed) }
         ensures range { result ≡ Err Range → is_tree_in_range metrics tree ≡ false }
     {
-        let context = context_of(&tree, &metrics);
-        let memo = start_layout(alloc, tree.root(), &context, &metrics, steps)?;
-        let parents = Parents::make(alloc, tree.root())?;
-        Ok(MemoTree {
-            tree,
-            metrics,
-            memo,
-            parents,
-        })
+        match laid_out(alloc, &tree, &metrics, steps) {
+            Ok((memo, parents)) => Ok(MemoTree {
+                tree,
+                metrics,
+                memo,
+                parents,
+            }),
+            Err(refusal) => {
+                drop(tree);
+                drop(metrics);
+                Err(refusal)
+            }
+        }
     }
 
     /// Edits the tree, and changes what is kept beside it: what is kept of elements that the edit leaves
@@ -274,4 +283,33 @@ impl MemoTree {
     {
         &self.metrics
     }
+}
+
+/// What is kept of a tree that was never laid out, and notes of its elements.
+fn unlaid(alloc: Global, root: &Node) -> Result<(Memo, Parents), Memory>
+    ensures { IfOk result (λ made. made.0 ≡ blank root.now) }
+{
+    let memo = blank(alloc, root)?;
+    let parents = Parents::make(alloc, root)?;
+    Ok((memo, parents))
+}
+
+/// The layouts that the one of a tree needs, and notes of its elements.
+fn laid_out<L: Ledger>(
+    alloc: Global,
+    tree: &Tree,
+    metrics: &Metrics,
+    steps: &mut Steps<L>,
+) -> Result<(Memo, Parents), LayRefusal>
+    ensures kept { IfOk result (λ made. KeepsNeeded metrics.now tree.now.root (context_of metrics.now tree.now) made.0) }
+    ensures steps { CountsNeeded metrics.now tree.now.root (context_of metrics.now tree.now) steps.old steps.new }
+    ensures visits { TakesVisits metrics.now tree.now steps.old steps.new }
+    ensures all { IfOk result (λ made. steps.new ≡ steps.old + kept_count made.0) }
+    ensures fit { OnOk result (is_tree_in_range metrics.now tree.now ≡ true) }
+    ensures range { result ≡ Err Range → is_tree_in_range metrics.now tree.now ≡ false }
+{
+    let context = context_of(tree, metrics);
+    let memo = start_layout(alloc, tree.root(), &context, metrics, steps)?;
+    let parents = Parents::make(alloc, tree.root())?;
+    Ok((memo, parents))
 }

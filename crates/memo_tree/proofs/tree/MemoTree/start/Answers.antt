@@ -1,40 +1,13 @@
-use Rattle.std.proofs.Common.{◌∙◌, sym}
-use Rattle.math_tree.specs.declared.node.Node.{Node}
-use Rattle.layout_model.specs.declared.context.Context.{Context}
-use Rattle.kept_sweep.specs.Swept.{CountsNeeded}
-use Rattle.memo_tree.proofs.Changes.{visits_law}
-use Rattle.memo_tree.proofs.Roots.{laid_out, of_tree, ranged, sealed_of}
+use Rattle.std.proofs.Common.{refl}
+use Rattle.memo_tree.specs.Trees.{context_of}
+use Rattle.memo_tree.proofs.Roots.{laid_out, sealed_of}
 use Rattle.memo_tree.proofs.tree.MemoTree.start.Goals as goal
 
-pub returns-clause-fit : goal.returns-clause-fit
-returns-clause-fit g c =
+pub returns-in-Ok-clause-fit : goal.returns-in-Ok-clause-fit
+returns-in-Ok-clause-fit g c =
     let m = c.args.metrics in
-    let root = c.root.result.now in
-    let context = c.context_of-context.result in
-    let done = c.in_ok-memo.ensures {u = tt} in
-    laid_out m c.args.tree root context c.in_ok-memo.memo c.root.ensures.exact c.context_of-context.ensures.exact (sealed_of m root context c.in_ok-memo.memo done.kept)
-    (sym (ranged m c.args.tree root context c.root.ensures.exact c.context_of-context.ensures.exact) ∙ done.fit)
-
-pub returns-in_err-memo-clause-visits : goal.returns-in_err-memo-clause-visits
-returns-in_err-memo-clause-visits g c =
-    let m = c.args.metrics in
-    let from = c.args.steps.now in
-    let to = c.start_layout.new.steps in
-    visits_law m c.args.tree from to c.root.ensures.whole
-    (of_tree m c.args.tree c.root.result.now c.context_of-context.result (λ (n : Node) (k : Context). CountsNeeded m n k from to) c.root.ensures.exact c.context_of-context.ensures.exact c.start_layout.ensures.steps)
-
-pub returns-clause-visits : goal.returns-clause-visits
-returns-clause-visits g c =
-    let m = c.args.metrics in
-    let from = c.args.steps.now in
-    let to = c.start_layout.new.steps in
-    visits_law m c.args.tree from to c.root.ensures.whole
-    (of_tree m c.args.tree c.root.result.now c.context_of-context.result (λ (n : Node) (k : Context). CountsNeeded m n k from to) c.root.ensures.exact c.context_of-context.ensures.exact c.start_layout.ensures.steps)
-
-pub returns-in_err-parents-clause-visits : goal.returns-in_err-parents-clause-visits
-returns-in_err-parents-clause-visits g c =
-    let m = c.args.metrics in
-    let from = c.args.steps.now in
-    let to = c.start_layout.new.steps in
-    visits_law m c.args.tree from to c.root.ensures.whole
-    (of_tree m c.args.tree c.root.result.now c.context_of-context.result (λ (n : Node) (k : Context). CountsNeeded m n k from to) c.root.ensures.exact c.context_of-context.ensures.exact c.start_layout.ensures.steps)
+    let root = c.args.tree.root in
+    let context = context_of m c.args.tree in
+    let memo = c.in-Ok.memo in
+    let done = c.in-Ok.ensures {u = tt} in
+    laid_out m c.args.tree root context memo refl refl (sealed_of m root context memo done.kept) done.fit
