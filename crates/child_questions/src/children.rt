@@ -4,7 +4,9 @@ ghost use Rattle.embellished.specs.Seen.{seen_of};
 ghost use Rattle.style_scope.specs.Sizes.{IsStyle, size_of};
 ghost use Rattle.layout_model.specs.Contexts.{is_subscript, is_true, kid_axis, kid_context, kid_style, place_of, pull_of, stretch_of};
 ghost use Rattle.layout_model.specs.Questions.{base_properties};
+ghost use Rattle.child_questions.specs.Surveys.{survey_of};
 
+use crate::survey::Survey;
 use embellished::{Fences, View, form_within, operator_properties, stretch_axis};
 use fixed_units::{Pull, is_word};
 use font_metrics::Metrics;
@@ -54,44 +56,58 @@ fn is_subscript<V: View>(parent: &V, index: usize) -> bool
 }
 
 /// Where a child in flow stands.
-fn place_of<V: View>(parent: &V, index: usize) -> Place
-    requires { index < 2 ^ 32 }
+fn place_of<V: View>(
+    parent: &V,
+    survey: &Survey,
+    context: &Context,
+    metrics: &Metrics,
+    index: usize,
+) -> Place
+    requires known { survey.now ≡ survey_of metrics.now (seen_of (V.element parent.now)) context.now }
+    requires index { index < 2 ^ 32 }
     ensures { result ≡ place_of (seen_of (V.element parent.now)) index }
 {
     let subscript = is_subscript(parent, index);
-    let head = parent.head();
     Place {
-        parent: head.kind,
+        parent: parent.head().kind,
         index: index as u32,
-        accent: is_true("accent", &head.attributes),
-        accentunder: is_true("accentunder", &head.attributes),
+        accent: survey.accent,
+        accentunder: survey.accentunder,
         subscript,
     }
 }
 
-/// The style of a child in flow, below an element of this style.
+/// The style of a child in flow.
 #[tactic(auto, unfolding(layout_model::specs::Contexts::kid_style))]
-fn kid_style<V: View>(parent: &V, style: &Style, index: usize, metrics: &Metrics) -> Style
+fn kid_style<V: View>(
+    parent: &V,
+    survey: &Survey,
+    context: &Context,
+    metrics: &Metrics,
+    index: usize,
+) -> Style
+    requires known { survey.now ≡ survey_of metrics.now (seen_of (V.element parent.now)) context.now }
     requires within { index < length (seen_of (V.element parent.now)).kids }
-    requires style { IsStyle style.now }
-    requires size { size_of metrics.now style.now ≤ℤ pos (2 ^ 20) }
-    ensures value { result ≡ kid_style metrics.now (seen_of (V.element parent.now)) style.now index }
+    requires style { IsStyle context.now.style }
+    requires size { size_of metrics.now context.now.style ≤ℤ pos (2 ^ 20) }
+    ensures value { result ≡ kid_style metrics.now (seen_of (V.element parent.now)) context.now.style index }
     ensures style { IsStyle result }
 {
     let _count = parent.kids();
-    child_style(style, place_of(parent, index), parent.kid(index), metrics)
+    let place = place_of(parent, survey, context, metrics, index);
+    child_style(&context.style, place, parent.kid(index), metrics)
 }
 
-/// What a child in flow is asked with.
+/// What a child in flow is asked with, by what its parent sees.
 pub fn kid_context<V: View>(
     parent: &V,
-    fences: Fences,
+    survey: &Survey,
     context: &Context,
     metrics: &Metrics,
     index: usize,
     stretch: Stretch,
 ) -> Context
-    requires known { fences ≡ fences_in (seen_of (V.element parent.now)).kids }
+    requires known { survey.now ≡ survey_of metrics.now (seen_of (V.element parent.now)) context.now }
     requires within { index < length (seen_of (V.element parent.now)).kids }
     requires style { IsStyle context.now.style }
     requires size { size_of metrics.now context.now.style ≤ℤ pos (2 ^ 20) }
@@ -99,8 +115,8 @@ pub fn kid_context<V: View>(
     ensures style { IsStyle result.style }
 {
     Context {
-        style: kid_style(parent, &context.style, index, metrics),
-        form: form_within(parent, fences, index, context.form),
+        style: kid_style(parent, survey, context, metrics, index),
+        form: form_within(parent, survey.fences, index, context.form),
         stretch,
     }
 }
@@ -108,20 +124,20 @@ pub fn kid_context<V: View>(
 /// The same, where a pull stretches the child.
 pub fn pulled_context<V: View>(
     parent: &V,
-    fences: Fences,
+    survey: &Survey,
     context: &Context,
     metrics: &Metrics,
     index: usize,
     pull: Pull,
 ) -> Context
-    requires known { fences ≡ fences_in (seen_of (V.element parent.now)).kids }
+    requires known { survey.now ≡ survey_of metrics.now (seen_of (V.element parent.now)) context.now }
     requires within { index < length (seen_of (V.element parent.now)).kids }
     requires style { IsStyle context.now.style }
     requires size { size_of metrics.now context.now.style ≤ℤ pos (2 ^ 20) }
     ensures value { result ≡ kid_context metrics.now (seen_of (V.element parent.now)) context.now index (stretch_of pull) }
     ensures style { IsStyle result.style }
 {
-    kid_context(parent, fences, context, metrics, index, stretch_of(pull))
+    kid_context(parent, survey, context, metrics, index, stretch_of(pull))
 }
 
 /// The axis along which a child in flow stretches, where it does, below an element of this form.

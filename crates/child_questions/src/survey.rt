@@ -6,6 +6,7 @@ ghost use Rattle.layout_model.specs.Range.{is_font_size};
 ghost use Rattle.child_questions.specs.Surveys.{survey_of};
 
 use crate::asks::{asking, kid_pulls};
+use crate::children::is_true;
 use embellished::{Fences, View, fences_of};
 use fixed_units::{LayRefusal, List, Memory};
 use font_metrics::Metrics;
@@ -24,6 +25,10 @@ pub struct Survey {
     pub fences: Fences,
     /// Along which axis each of them stretches.
     pub pulls: List<KidPull>,
+    /// Whether its attributes say that what stands over it is an accent.
+    pub accent: bool,
+    /// The same of what stands under it.
+    pub accentunder: bool,
 }
 
 impl Survey {
@@ -58,10 +63,13 @@ impl Survey {
         let fences = fences_of(view);
         let asking = asking(view, fences, context, metrics);
         let pulls = kid_pulls(alloc, view, fences, context, metrics)?;
+        let attributes = &view.head().attributes;
         Ok(Survey {
             asking,
             fences,
             pulls,
+            accent: is_true("accent", attributes),
+            accentunder: is_true("accentunder", attributes),
         })
     }
 }

@@ -1,6 +1,5 @@
 ghost use Rattle.std.specs.Prelude.{◌≡◌, ◌<◌, ◌≤◌, ◌^◌, pos, ◌≤ℤ◌, length, map, take, ◌∷◌, IfOk};
 ghost use Rattle.std.specs.List.{All};
-ghost use Rattle.embellished.specs.Fences.{fences_in};
 ghost use Rattle.embellished.specs.Seen.{seen_of};
 ghost use Rattle.math_tables.specs.Placing.{table_width_of};
 ghost use Rattle.style_scope.specs.Sizes.{IsStyle, size_of};
@@ -8,9 +7,11 @@ ghost use Rattle.layout_model.specs.Questions.{columns_over, rows_asked};
 ghost use Rattle.layout_model.specs.Questions as spec;
 ghost use Rattle.layout_model.specs.declared.context.Stretch.TheVariants.{Columns};
 ghost use Rattle.layout_model.specs.Fits.{AreAnswers, HasStyle};
+ghost use Rattle.child_questions.specs.Surveys.{survey_of};
 
 use crate::children::kid_context;
-use embellished::{Fences, View};
+use crate::survey::Survey;
+use embellished::View;
 use fixed_units::{List, Memory};
 use font_metrics::Metrics;
 use layout_model::{Answer, Context, Question, Stretch};
@@ -21,12 +22,12 @@ use std::alloc::Global;
 pub fn rows_asked<V: View>(
     alloc: Global,
     parent: &V,
-    fences: Fences,
+    survey: &Survey,
     context: &Context,
     metrics: &Metrics,
     rows: &List<Answer>,
 ) -> Result<List<Question>, Memory>
-    requires known { fences ≡ fences_in (seen_of (V.element parent.now)).kids }
+    requires known { survey.now ≡ survey_of metrics.now (seen_of (V.element parent.now)) context.now }
     requires style { IsStyle context.now.style }
     requires size { size_of metrics.now context.now.style ≤ℤ pos (2 ^ 20) }
     requires answers { AreAnswers rows.now }
@@ -39,7 +40,7 @@ pub fn rows_asked<V: View>(
     let mut asks = List::with_room(alloc, parent.kids())?;
     for index in 0..parent.kids() {
         let columns = columns_at(alloc, total, &widths, cells_at(rows, index))?;
-        let context = kid_context(parent, fences, context, metrics, index, columns);
+        let context = kid_context(parent, survey, context, metrics, index, columns);
         asks.push(Question {
             kid: index as u32,
             context,

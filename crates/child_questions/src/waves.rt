@@ -1,7 +1,6 @@
 ghost use Rattle.std.specs.Prelude.{◌≡◌, ◌≤◌, ◌^◌, ◌<◌, pos, ◌≤ℤ◌, length, map, true, false, is_none, IfOk, OnOk, Err};
 ghost use Rattle.std.specs.List.{All, list_all};
 ghost use Rattle.fixed_units.specs.declared.refusal.LayRefusal.TheVariants.{Range};
-ghost use Rattle.embellished.specs.Fences.{fences_in};
 ghost use Rattle.embellished.specs.Seen.{seen_of};
 ghost use Rattle.style_scope.specs.Sizes.{IsStyle, size_of};
 ghost use Rattle.layout_model.specs.Questions.{IsAskBelow, asked_all, first, second};
@@ -13,7 +12,7 @@ use crate::asks::{first_asks, second_asks};
 use crate::children::{pull_of, pulled_context};
 use crate::survey::Survey;
 use crate::tables::rows_asked;
-use embellished::{Fences, View};
+use embellished::View;
 use fixed_units::{LayRefusal, List, MathBox, Memory};
 use font_metrics::Metrics;
 use layout_model::{Answer, Asking, Context, Question};
@@ -75,7 +74,7 @@ pub fn first_questions<V: View>(
     let _count = view.kids();
     let own = pull_of(&context.stretch);
     let asks = first_asks(alloc, survey.asking, &survey.pulls, own)?;
-    asked_all(alloc, view, survey.fences, context, metrics, &asks)
+    asked_all(alloc, view, survey, context, metrics, &asks)
 }
 
 /// The questions of the second wave, by what the element sees, over the answers to those of the first.
@@ -96,7 +95,7 @@ pub fn second_questions<V: View>(
     ensures value { IfOk result (λ asks. asks ≡ second metrics.now (seen_of (V.element view.now)) context.now first.now) }
 {
     if matches!(survey.asking, Asking::AsTable) {
-        return rows_asked(alloc, view, survey.fences, context, metrics, first);
+        return rows_asked(alloc, view, survey, context, metrics, first);
     }
     if none_stretches(survey.pulls.as_slice()) {
         return Ok(List::make(alloc));
@@ -106,7 +105,7 @@ pub fn second_questions<V: View>(
     let frames = frames_of(alloc, first.as_slice())?;
     let own = pull_of(&context.stretch);
     let asks = second_asks(alloc, survey.asking, &survey.pulls, own, &frames)?;
-    asked_all(alloc, view, survey.fences, context, metrics, &asks)
+    asked_all(alloc, view, survey, context, metrics, &asks)
 }
 
 /// Whether no child stretches along any axis: then no element has further questions, but for a table.
@@ -120,12 +119,12 @@ fn none_stretches(pulls: &[KidPull]) -> bool
 fn asked_all<V: View>(
     alloc: Global,
     view: &V,
-    fences: Fences,
+    survey: &Survey,
     context: &Context,
     metrics: &Metrics,
     asks: &List<Ask>,
 ) -> Result<List<Question>, Memory>
-    requires known { fences ≡ fences_in (seen_of (V.element view.now)).kids }
+    requires known { survey.now ≡ survey_of metrics.now (seen_of (V.element view.now)) context.now }
     requires style { IsStyle context.now.style }
     requires size { size_of metrics.now context.now.style ≤ℤ pos (2 ^ 20) }
     requires within { All (IsAskBelow (length (seen_of (V.element view.now)).kids)) asks.now }
@@ -134,7 +133,7 @@ fn asked_all<V: View>(
 {
     let mut all = List::with_room(alloc, asks.len())?;
     for ask in asks.as_slice() {
-        let context = pulled_context(view, fences, context, metrics, ask.kid as usize, ask.pull);
+        let context = pulled_context(view, survey, context, metrics, ask.kid as usize, ask.pull);
         all.push(Question {
             kid: ask.kid,
             context,

@@ -1,13 +1,12 @@
-use Rattle.std.proofs.Common.{◌∙◌, ap, codes}
+use Rattle.std.proofs.Common.{ap}
 use Rattle.math_tree.specs.declared.node.Head.{Head}
-use Rattle.layout_model.specs.Contexts.{is_true}
+use Rattle.child_questions.specs.declared.survey.Survey.{Survey}
 use Rattle.child_questions.proofs.children.place_of.Goals as goal
 
 pub returns : goal.returns
 returns g c =
-    let head = c.head-head.ensures in
-    let kind = ap (λ (h : Head). h.kind) head in
-    let accent = c.is_true.ensures ∙ ap (λ (h : Head). is_true (codes "accent") h.attributes) head in
-    let accentunder = c.is_true-2.ensures ∙ ap (λ (h : Head). is_true (codes "accentunder") h.attributes) head in
+    let kind = ap (λ (h : Head). h.kind) c.head.ensures in
+    let accent = ap (λ (s : Survey). s.accent) c.requires.known in
+    let accentunder = ap (λ (s : Survey). s.accentunder) c.requires.known in
     let subscript = c.is_subscript-subscript.ensures in
     cc
