@@ -1,7 +1,7 @@
 ghost use Rattle.std.specs.Prelude.{◌≡◌, ◌≤◌, length};
 ghost use Rattle.font_metrics.specs.Taken.{most_glyphs};
 ghost use Rattle.font_metrics.specs.Lines.{lent};
-ghost use Rattle.font_metrics.specs.Reading.{after, after_first, after_words, after_fields, first_in, is_first, is_version, needed, lines_of, metrics_of, most_file_bytes};
+ghost use Rattle.font_metrics.specs.Reading.{after, after_first, after_words, after_fields, first_in, is_version, needed, lines_of, metrics_of, most_file_bytes};
 ghost use Rattle.font_metrics.specs.Reads.{Takes, Begins, Ends};
 ghost use Rattle.font_metrics.specs.Said.{IsOfNoTable};
 
@@ -137,13 +137,7 @@ fn is_version(words: &[&[u8]]) -> bool
     ensures { result ≡ is_version (lent words.now) }
 {
     match words {
-        [name, version] => is_first(name, version),
+        [name, version] => is_text(name, "mathlay-metrics") & is_text(version, "1"),
         _ => false,
     }
-}
-
-fn is_first(name: &[u8], version: &[u8]) -> bool
-    ensures { result ≡ is_first name.now version.now }
-{
-    is_text(name, "mathlay-metrics") & is_text(version, "1")
 }

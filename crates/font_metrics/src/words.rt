@@ -5,7 +5,7 @@ ghost use Rattle.fixed_units.specs.Numbers.{IsWithin};
 ghost use Rattle.op_dictionary.specs.Pairs.{IsLineText};
 ghost use Rattle.font_metrics.specs.Faults.{step_map, or_fault};
 ghost use Rattle.font_metrics.specs.declared.fault.LineFault.TheVariants as fault;
-ghost use Rattle.font_metrics.specs.Words.{value_of_digits, numeral_of, number_of, number_in, natural_in, code_of, letter_in, in_pair, one_in, pair_in, operator_text_in, is_name_mark, is_name_byte, is_name, name_in};
+ghost use Rattle.font_metrics.specs.Words.{value_of_digits, numeral_of, number_of, number_in, natural_in, code_of, letter_in, in_pair, one_in, pair_in, operator_text_in, is_name_byte, is_name, name_in};
 
 use crate::fault::{LineFault, fault_if};
 use op_dictionary::OpText;
@@ -122,13 +122,7 @@ fn has_name_bytes(word: &[u8]) -> bool
 fn is_name_byte(byte: u8) -> bool
     ensures { result ≡ is_name_byte byte }
 {
-    byte.is_ascii_alphanumeric() | is_name_mark(byte)
-}
-
-fn is_name_mark(byte: u8) -> bool
-    ensures { result ≡ is_name_mark byte }
-{
-    (byte == b'_') | (byte == b'.') | (byte == b'-')
+    byte.is_ascii_alphanumeric() | (byte == b'_') | (byte == b'.') | (byte == b'-')
 }
 
 /// A whole number: an optional minus and 1 to 6 decimal digits.
