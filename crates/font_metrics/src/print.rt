@@ -11,9 +11,7 @@ use crate::glyphs::GlyphTable;
 use crate::metrics::Metrics;
 use crate::printed::{PrintedLines, Word};
 use crate::table::{TABLES, Table};
-use crate::texts::{
-    axis_text, category_text, extender_text, form_text, part_keyword, variant_keyword,
-};
+use crate::texts::{axis_text, category_text, extender_text, form_text};
 use fixed_units::{List, Memory};
 use op_dictionary::{Axis, Extra};
 use std::alloc::Global;
@@ -113,7 +111,7 @@ impl Metrics {
         requires { base.0 < length self.now.glyphs }
         ensures { OnOk result (lines.new ≡ lines.old ++ flat_map line_text (table_lines self.now base.0 (Variants axis))) }
     {
-        let keyword = variant_keyword(axis);
+        let keyword = Table::Variants(axis).keyword();
         let base_name = self.name(base);
         for variant in self.variants(base, axis) {
             let words = [
@@ -130,7 +128,7 @@ impl Metrics {
         requires { base.0 < length self.now.glyphs }
         ensures { OnOk result (lines.new ≡ lines.old ++ flat_map line_text (table_lines self.now base.0 (Parts axis))) }
     {
-        let keyword = part_keyword(axis);
+        let keyword = Table::Parts(axis).keyword();
         let base_name = self.name(base);
         for part in self.assembly(base, axis) {
             let words = [

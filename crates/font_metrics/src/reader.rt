@@ -53,7 +53,9 @@ impl Given {
         requires { length self.old.glyphs ≤ most_glyphs }
         ensures { Takes (after self.old line.now) self.new result }
     {
-        fault_if(is_foreign(line), LineFault::ForeignByte)?;
+        if is_foreign(line) {
+            return Err(LineRefusal::Fault(LineFault::ForeignByte));
+        }
         if is_comment(line) {
             return Ok(());
         }
@@ -126,7 +128,9 @@ impl Given {
 fn take_first(line: &[u8]) -> Result<(), LineFault>
     ensures { result ≡ first_in line.now }
 {
-    fault_if(is_foreign(line), LineFault::ForeignByte)?;
+    if is_foreign(line) {
+        return Err(LineFault::ForeignByte);
+    }
     let mut words = LineWords::new();
     cut(line, &mut words);
     fault_if(!is_version(words.as_slice()), LineFault::WrongFirstLine)

@@ -18,11 +18,10 @@ pub fn number_in(low: i32, high: i32, word: &[u8]) -> Result<i32, LineFault>
     ensures low { IfOk result (λ n. low ≤ℤ n) }
     ensures high { IfOk result (λ n. n ≤ℤ high) }
 {
-    let number = number(word).ok_or(LineFault::NotANumber)?;
-    if (low <= number) & (number <= high) {
-        Ok(number)
-    } else {
-        Err(LineFault::OutOfRange)
+    match number(word) {
+        None => Err(LineFault::NotANumber),
+        Some(number) if (low <= number) & (number <= high) => Ok(number),
+        Some(_) => Err(LineFault::OutOfRange),
     }
 }
 
@@ -40,8 +39,10 @@ pub fn natural_in(low: u16, high: u16, word: &[u8]) -> Result<u16, LineFault>
 pub fn letter(word: &[u8]) -> Result<char, LineFault>
     ensures { result ≡ letter_in word.now }
 {
-    let code = code(word).ok_or(LineFault::NotANumber)?;
-    char::from_u32(code).ok_or(LineFault::OutOfRange)
+    match code(word) {
+        None => Err(LineFault::NotANumber),
+        Some(code) => char::from_u32(code).ok_or(LineFault::OutOfRange),
+    }
 }
 
 /// The text of an operator: one code, or two of at most `FFFF` that a plus joins.
@@ -79,11 +80,14 @@ fn pair(first: &[u8], second: &[u8]) -> Result<OpText, LineFault>
     ensures value { result ≡ pair_in first.now second.now }
     ensures text { IfOk result IsLineText }
 {
-    let first = code(first).ok_or(LineFault::NotANumber)?;
-    let second = code(second).ok_or(LineFault::NotANumber)?;
-    let first = in_pair(first)?;
-    let second = in_pair(second)?;
-    Ok(OpText::Two(first, second))
+    match (code(first), code(second)) {
+        (Some(first), Some(second)) => {
+            let first = in_pair(first)?;
+            let second = in_pair(second)?;
+            Ok(OpText::Two(first, second))
+        }
+        _ => Err(LineFault::NotANumber),
+    }
 }
 
 /// The character of a code of a pair: it has at most 16 bits.

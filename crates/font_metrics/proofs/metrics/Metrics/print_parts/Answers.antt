@@ -22,7 +22,7 @@ loop-part-preserved c =
     let full =
     field-back (IsPart (length c.args.self.now.glyphs)) (λ part. part.full) (λ part is. is.full) items c.loop-part.part-index
     c.loop-part-test.true c.assembly-part-items.ensures.items in
-    let added = rw (c.name-base_name.ensures, c.name.ensures, c.part_keyword-keyword.ensures, c.extender_text.ensures, start, end, full) at c.in_ok-add_line.ensures in
+    let added = rw (c.name-base_name.ensures, c.name.ensures, c.keyword-keyword.ensures, c.extender_text.ensures, start, end, full) at c.in_ok-add_line.ensures in
     front-more (entry_words (Parts c.args.axis) c.args.self.now.glyphs c.args.base.0) items c.loop-part.part-index _ _ _ _
     (slice_get-get_or items c.loop-part.part-index _ c.loop-part-test.true) c.loop-part.invariant added
 

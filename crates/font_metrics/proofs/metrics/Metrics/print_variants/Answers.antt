@@ -16,7 +16,7 @@ loop-variant-preserved c =
     let measure =
     field-back (IsVariant (length c.args.self.now.glyphs)) (λ variant. variant.measure) (λ variant is. is.measure) items c.loop-variant.variant-index
     c.loop-variant-test.true c.variants-variant-items.ensures.items in
-    let added = rw (c.name-base_name.ensures, c.name.ensures, c.variant_keyword-keyword.ensures, measure) at c.in_ok-add_line.ensures in
+    let added = rw (c.name-base_name.ensures, c.name.ensures, c.keyword-keyword.ensures, measure) at c.in_ok-add_line.ensures in
     front-more (entry_words (Variants c.args.axis) c.args.self.now.glyphs c.args.base.0) items c.loop-variant.variant-index _ _ _ _
     (slice_get-get_or items c.loop-variant.variant-index _ c.loop-variant-test.true) c.loop-variant.invariant added
 
