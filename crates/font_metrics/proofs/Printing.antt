@@ -1,5 +1,5 @@
 -- Loops that print: the lines of a list, one after another.
-use Rattle.std.proofs.Common.{◌≡◌, ◌∙◌, ap, refl, sym, ℕ, ◌+◌, ◌<◌, zero, suc, ℤ, List, [], ◌∷◌, ◌++◌, length, map, flat_map, take, codes, slice_get, Option, Some, None, append_assoc, append-nil, add-one, add-zero, zero-add, arith, All, to_z, of_z, w32, w64, SFits, get_or}
+use Rattle.std.proofs.Common.{◌≡◌, ◌∙◌, ap, refl, sym, ℕ, ◌+◌, ◌<◌, zero, suc, ℤ, List, [], ◌∷◌, ◌++◌, length, map, flat_map, take, slice_get, Some, append_assoc, append-nil, add-one, add-zero, zero-add, arith, All, to_z, of_z, w32, w64, SFits, get_or}
 use Rattle.std.specs.List.{range_with_len, join_with_byte}
 use Rattle.std.proofs.lemmas.Int.{to_z-of_z}
 use Rattle.std.proofs.lemmas.List.{map_push}

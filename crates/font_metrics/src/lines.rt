@@ -73,7 +73,9 @@ pub fn constant_line<'a>(fields: &[&'a [u8]]) -> Result<Said<'a>, LineFault>
 fn constant_with<'a>(name: &'a [u8], value: &'a [u8]) -> Result<Said<'a>, LineFault>
     ensures { step_map item_of result ≡ step_map SaysConstant (constant_with name.now value.now) }
 {
-    let place = place_of_text(name).ok_or(LineFault::NotNamed)?;
+    let Some(place) = place_of_text(name) else {
+        return Err(LineFault::NotNamed);
+    };
     let value = number_in(lowest(place), highest(place), value)?;
     Ok(Said::Constant((place, value)))
 }

@@ -111,10 +111,18 @@ impl Given {
         requires { length self.now.glyphs ≤ most_glyphs }
         ensures { result ≡ needed self.now }
     {
-        let upem = self.upem.ok_or(LineFault::NoUpem)?;
-        let line = self.line.ok_or(LineFault::NoLine)?;
-        let x_height = self.x_height.ok_or(LineFault::NoXHeight)?;
-        let missing = self.glyphs.place("missing").ok_or(LineFault::NoMissing)?;
+        let Some(upem) = self.upem else {
+            return Err(LineFault::NoUpem);
+        };
+        let Some(line) = self.line else {
+            return Err(LineFault::NoLine);
+        };
+        let Some(x_height) = self.x_height else {
+            return Err(LineFault::NoXHeight);
+        };
+        let Some(missing) = self.glyphs.place("missing") else {
+            return Err(LineFault::NoMissing);
+        };
         Ok(Needed {
             upem,
             line,
