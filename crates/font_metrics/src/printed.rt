@@ -66,6 +66,7 @@ impl PrintedLines {
         self.add_text("\n")
     }
 
+    /// A word.
     fn add_word(&mut self, word: Word<'_>) -> Result<(), Memory>
         ensures { OnOk result (self.new ≡ self.old ++ word_text word.entry) }
     {
@@ -78,6 +79,7 @@ impl PrintedLines {
         }
     }
 
+    /// A text as it stands.
     fn add_text(&mut self, text: &str) -> Result<(), Memory>
         ensures { OnOk result (self.new ≡ self.old ++ text.now) }
     {
@@ -85,6 +87,7 @@ impl PrintedLines {
         Ok(())
     }
 
+    /// A number in decimal digits.
     fn add_number(&mut self, number: i64) -> Result<(), Memory>
         ensures { OnOk result (self.new ≡ self.old ++ signed_decimal number) }
     {
@@ -92,6 +95,7 @@ impl PrintedLines {
         Ok(())
     }
 
+    /// A character's code in at least 4 hexadecimal digits.
     fn add_code(&mut self, letter: char) -> Result<(), Memory>
         ensures { OnOk result (self.new ≡ self.old ++ code_text letter) }
     {
@@ -99,6 +103,7 @@ impl PrintedLines {
         Ok(())
     }
 
+    /// One code, or two that a plus joins.
     fn add_codes(&mut self, text: OpText) -> Result<(), Memory>
         ensures { OnOk result (self.new ≡ self.old ++ operator_text text) }
     {
