@@ -25,3 +25,4 @@ pub mod ReadBack
 mod Padding
 mod Printing
 mod ConstantTexts
+mod Choosing

@@ -1,14 +1,15 @@
 -- Loops that print: the lines of a list, one after another.
-use Rattle.std.proofs.Common.{◌≡◌, ◌∙◌, ap, refl, sym, ℕ, ◌+◌, zero, suc, ℤ, List, [], ◌∷◌, ◌++◌, length, map, flat_map, take, codes, slice_get, Option, Some, None, append_assoc, append-nil, add-one, add-zero, zero-add, arith, All}
-use Rattle.std.specs.Fmt.{signed_decimal}
-use Rattle.font_metrics.specs.declared.glyph.Glyph.{Glyph}
+use Rattle.std.proofs.Common.{◌≡◌, ◌∙◌, ap, refl, sym, ℕ, ◌+◌, ◌<◌, zero, suc, ℤ, List, [], ◌∷◌, ◌++◌, length, map, flat_map, take, slice_get, Some, append_assoc, append-nil, add-one, add-zero, zero-add, arith, All, to_z, of_z, w32, w64, SFits, get_or}
 use Rattle.std.specs.List.{range_with_len, join_with_byte}
+use Rattle.std.proofs.lemmas.Int.{to_z-of_z}
 use Rattle.std.proofs.lemmas.List.{map_push}
-use Rattle.std.proofs.lemmas.List.Elements.{All-head, All-same}
+use Rattle.std.proofs.lemmas.List.Elements.{All-head, All-same, All-get_or}
 use Rattle.std.proofs.lemmas.List.Concat.{flat_map-append}
+use Rattle.fixed_units.proofs.Signed.{signed}
 use Rattle.font_metrics.specs.Lines.{Words}
 use Rattle.font_metrics.specs.Metrics.{MetricsValue}
-use Rattle.font_metrics.specs.Print.{constant_words, accent_words, accent_text, measures_words, glyph_words, character_words, growth_lines, operator_words, header_lines, line_text, print_of}
+use Rattle.font_metrics.specs.Print.{constant_words, glyph_words, character_words, growth_lines, operator_words, header_lines, line_text, print_of}
+use Rattle.font_metrics.specs.Ranges.{IsLength}
 
 -- the bytes of lines
 abbrev texts : List Words → List ℕ
@@ -30,6 +31,20 @@ take-more : {X : Type 0} (xs : List X) (i : ℕ) (x : X) → slice_get xs i ≡ 
 take-more [] i x h = cc
 take-more (y ∷ ys) zero x h = cc
 take-more (y ∷ ys) (suc i) x h = ap (λ rest. y ∷ rest) (take-more ys i x h)
+
+-- a length is as it was written
+pub length-back : {z : ℤ} → IsLength z → to_z w64 (of_z w64 z) ≡ z
+length-back h = to_z-of_z w64 _ (omega (arith, signed, h.0, h.1))
+
+-- so is that of an item, where each item has one
+pub field-back : {X : Type 0} (Is : X → Type 0) (field : X → ℤ) → ((x : X) → Is x → IsLength (field x))
+    → (xs : List X) (i : ℕ) → i < length xs → All Is xs → (d : X)
+    → to_z w64 (of_z w64 (field (get_or xs i d))) ≡ field (get_or xs i d)
+field-back Is field has xs i below all d = length-back (has (get_or xs i d) (All-get_or Is xs i d below all))
+
+-- a number of 32 bits is as it was written at 64
+pub wide-back : {z : ℤ} → SFits w32 z → to_z w64 (of_z w64 z) ≡ z
+wide-back h = to_z-of_z w64 _ (omega (arith, signed, h))
 
 -- the front is printed: one item more
 pub front-more : {X : Type 0} (words : X → Words) (xs : List X) (i : ℕ) (x : X) (old now new : List ℕ)
@@ -99,68 +114,19 @@ joined-more word [] w = refl
 joined-more word (x ∷ ws) w =
     ap (λ t. word ++ 32 ∷ t) (joined-more x ws w) ∙ sym (append_assoc word (32 ∷ joined x ws) (32 ∷ w))
 
-word-more : (old word : List ℕ) (ws : Words) (w now new : List ℕ) → now ≡ old ++ joined word ws
-    → new ≡ now ++ 32 ∷ w → new ≡ old ++ joined word (ws ++ w ∷ [])
-word-more old word ws w now new h k =
-    k ∙ ap (λ t. t ++ 32 ∷ w) h ∙ append_assoc old (joined word ws) (32 ∷ w)
-    ∙ ap (λ t. old ++ t) (sym (joined-more word ws w))
+-- the front is printed behind the first word: one word more
+pub word-more : {X : Type 0} (text : X → List ℕ) (old first : List ℕ) (xs : List X) (i : ℕ) (x : X)
+    (now space new : List ℕ) → slice_get xs i ≡ Some x → now ≡ old ++ joined first (map text (take i xs))
+    → space ≡ now ++ 32 ∷ [] → new ≡ space ++ text x → new ≡ old ++ joined first (map text (take (i + 1) xs))
+word-more text old first xs i x now space new at h s k =
+    let front : take (i + 1) xs ≡ take i xs ++ x ∷ [] = rw add-one (take-more xs i x at) in
+    let ws = map text (take i xs) in
+    rw (front, map_push)
+    (k ∙ ap (λ t. t ++ text x) (s ∙ ap (λ t. t ++ 32 ∷ []) h)
+    ∙ append_assoc (old ++ joined first ws) (32 ∷ []) (text x) ∙ append_assoc old (joined first ws) (32 ∷ text x)
+    ∙ ap (λ t. old ++ t) (sym (joined-more first ws (text x))))
 
-line-end : (old word : List ℕ) (ws : Words) (now new : List ℕ) → now ≡ old ++ joined word ws
-    → new ≡ now ++ 10 ∷ [] → new ≡ old ++ line_text (word ∷ ws)
-line-end old word ws now new h k = k ∙ ap (λ t. t ++ 10 ∷ []) h ∙ append_assoc old (joined word ws) (10 ∷ [])
-
--- a line of four words
-pub four-words : (old word a b c one two three four new : List ℕ) → one ≡ old ++ word → two ≡ one ++ 32 ∷ a
-    → three ≡ two ++ 32 ∷ b → four ≡ three ++ 32 ∷ c → new ≡ four ++ 10 ∷ []
-    → new ≡ old ++ line_text (word ∷ a ∷ b ∷ c ∷ [])
-four-words old word a b c one two three four new h i j k l =
-    let second = word-more old word [] a one two h i in
-    let third = word-more old word (a ∷ []) b two three second j in
-    let fourth = word-more old word (a ∷ b ∷ []) c three four third k in
-    line-end old word (a ∷ b ∷ c ∷ []) four new fourth l
-
--- a line of seven words
-pub seven-words : (old word a b c d e f one two three four five six seven new : List ℕ)
-    → one ≡ old ++ word → two ≡ one ++ 32 ∷ a → three ≡ two ++ 32 ∷ b → four ≡ three ++ 32 ∷ c
-    → five ≡ four ++ 32 ∷ d → six ≡ five ++ 32 ∷ e → seven ≡ six ++ 32 ∷ f → new ≡ seven ++ 10 ∷ []
-    → new ≡ old ++ line_text (word ∷ a ∷ b ∷ c ∷ d ∷ e ∷ f ∷ [])
-seven-words old word a b c d e f one two three four five six seven new h i j k l m n o =
-    let second = word-more old word [] a one two h i in
-    let third = word-more old word (a ∷ []) b two three second j in
-    let fourth = word-more old word (a ∷ b ∷ []) c three four third k in
-    let fifth = word-more old word (a ∷ b ∷ c ∷ []) d four five fourth l in
-    let sixth = word-more old word (a ∷ b ∷ c ∷ d ∷ []) e five six fifth m in
-    let seventh = word-more old word (a ∷ b ∷ c ∷ d ∷ e ∷ []) f six seven sixth n in
-    line-end old word (a ∷ b ∷ c ∷ d ∷ e ∷ f ∷ []) seven new seventh o
-
--- the fields of a glyph up to its accent's place
-abbrev fields : List ℕ → Glyph → Words → Words
-fields name g accent =
-    name ∷ signed_decimal g.advance ∷ signed_decimal g.ink_ascent ∷ signed_decimal g.ink_descent
-    ∷ signed_decimal g.italic ∷ accent
-
--- a glyph's line, whose accent may lack
-pub glyph-printed : (old name : List ℕ) (g : Glyph) (one two three four five six seven new : List ℕ)
-    → one ≡ old ++ codes "glyph" → two ≡ one ++ 32 ∷ name → three ≡ two ++ 32 ∷ signed_decimal g.advance
-    → four ≡ three ++ 32 ∷ signed_decimal g.ink_ascent → five ≡ four ++ 32 ∷ signed_decimal g.ink_descent
-    → six ≡ five ++ 32 ∷ signed_decimal g.italic → seven ≡ six ++ accent_text g.accent → new ≡ seven ++ 10 ∷ []
-    → new ≡ old ++ line_text (measures_words name g)
-glyph-printed old name g one two three four five six seven new h i j k l m n o =
-    let word = codes "glyph" in
-    let a = signed_decimal g.advance in
-    let b = signed_decimal g.ink_ascent in
-    let c = signed_decimal g.ink_descent in
-    let d = signed_decimal g.italic in
-    let second = word-more old word [] name one two h i in
-    let third = word-more old word (name ∷ []) a two three second j in
-    let fourth = word-more old word (name ∷ a ∷ []) b three four third k in
-    let fifth = word-more old word (name ∷ a ∷ b ∷ []) c four five fourth l in
-    by g.accent (word-more old word (name ∷ a ∷ b ∷ c ∷ []) d five six fifth m) n
-  where
-    by : (accent : Option ℤ)
-        → six ≡ old ++ joined (codes "glyph") (fields name g []) → seven ≡ six ++ accent_text accent
-        → new ≡ old ++ line_text (codes "glyph" ∷ fields name g (accent_words accent))
-    by None sixth n = line-end old (codes "glyph") (fields name g []) seven new (n ∙ append-nil six ∙ sixth) o
-    by (Some accent) sixth n =
-        line-end old (codes "glyph") (fields name g (signed_decimal accent ∷ [])) seven new
-        (word-more old (codes "glyph") (fields name g []) (signed_decimal accent) six seven sixth n) o
+-- all words are printed: the line feed
+pub line-end : (old first : List ℕ) (ws : Words) (now new : List ℕ) → now ≡ old ++ joined first ws
+    → new ≡ now ++ 10 ∷ [] → new ≡ old ++ line_text (first ∷ ws)
+line-end old first ws now new h k = k ∙ ap (λ t. t ++ 10 ∷ []) h ∙ append_assoc old (joined first ws) (10 ∷ [])

@@ -1,5 +1,5 @@
 -- The fields of each kind of line of a metrics file, from left to right.
-use Rattle.std.specs.Prelude.{ℕ, ℤ, pos, negsuc, List, [], ◌∷◌, map, Option, Some, None, unwrap_or, Ok, Err}
+use Rattle.std.specs.Prelude.{ℕ, ℤ, pos, negsuc, List, [], ◌∷◌, map, Option, Some, None, unwrap_or, slice_get, Ok, Err}
 use Rattle.std.specs.Borrow.{Bor}
 use Rattle.op_dictionary.specs.declared.extra.OperatorLine.{OperatorLine}
 use Rattle.font_metrics.specs.declared.fault.LineFault.TheVariants.{FieldCount, NotNamed}
@@ -18,10 +18,9 @@ Words = List (List ℕ)
 abbrev pub lent : List (Bor (List ℕ)) → Words
 lent words = map (λ w. w.now) words
 
--- a word that may be absent
-abbrev pub lent_if : Option (Bor (List ℕ)) → Option (List ℕ)
-lent_if None = None
-lent_if (Some word) = Some word.now
+-- the word at a place, where there are so many
+abbrev pub word_at : ℕ → Words → Option (List ℕ)
+word_at place words = slice_get words place
 
 -- ---- fields
 

@@ -10,7 +10,7 @@ use Rattle.font_metrics.specs.declared.table.Table.{Table}
 use Rattle.font_metrics.specs.Faults.{Step, step_map}
 use Rattle.font_metrics.specs.Metrics.{NamedGlyph}
 use Rattle.font_metrics.specs.Tables.{EntryOf, slot, all_tables}
-pub use Rattle.font_metrics.specs.Fields.{Words, lent, lent_if, length_in, reach_in, reach_if_given, named_in, upem_in, line_with, line_in, one_length_in, constant_with, constant_in, glyph_with, glyph_in, character_with, character_in, variant_with, variant_in, part_with, based_on, part_in, operator_with, operator_in}
+pub use Rattle.font_metrics.specs.Fields.{Words, lent, word_at, length_in, reach_in, reach_if_given, named_in, upem_in, line_with, line_in, one_length_in, constant_with, constant_in, glyph_with, glyph_in, character_with, character_in, variant_with, variant_in, part_with, based_on, part_in, operator_with, operator_in}
 
 -- the table whose lines have this first word
 abbrev pub table_of : List ℕ → Option Table

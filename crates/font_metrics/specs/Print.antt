@@ -4,6 +4,8 @@ use Rattle.std.specs.Fmt.{decimal, signed_decimal}
 use Rattle.std.specs.List.{join_with_byte, range_with_len}
 use Rattle.op_dictionary.specs.declared.extra.OperatorLine.{OperatorLine}
 use Rattle.font_metrics.specs.declared.glyph.Glyph.{Glyph}
+use Rattle.font_metrics.specs.declared.printed.Word.{Word}
+use Rattle.font_metrics.specs.declared.printed.Word.TheVariants.{Text, Natural, Number, Code, Codes}
 use Rattle.font_metrics.specs.declared.table.Table.{Table}
 use Rattle.font_metrics.specs.Lines.{Words}
 use Rattle.font_metrics.specs.Metrics.{NamedGlyph, MetricsValue, name_in_list, items_of}
@@ -39,11 +41,6 @@ constant_words constant =
 abbrev pub accent_words : Option ℤ → Words
 accent_words None = []
 accent_words (Some accent) = signed_decimal accent ∷ []
-
--- the same behind a space
-abbrev pub accent_text : Option ℤ → List ℕ
-accent_text None = []
-accent_text (Some accent) = 32 ∷ signed_decimal accent
 
 -- a glyph's name and what is known of it, with its italics correction always
 abbrev pub measures_words : List ℕ → Glyph → Words
@@ -95,6 +92,14 @@ printed_lines m =
     ++ map (character_words m.glyphs) m.characters
     ++ flat_map (growth_lines m) (range_with_len 0 (length m.glyphs))
     ++ map operator_words m.operators
+
+-- a word as it is printed
+abbrev pub word_text : Word → List ℕ
+word_text (Text text) = text.now
+word_text (Natural number) = decimal number
+word_text (Number number) = signed_decimal number
+word_text (Code letter) = code_text letter
+word_text (Codes text) = operator_text text
 
 -- the words of a line stand one space apart, and a line feed ends it
 abbrev pub line_text : Words → List ℕ

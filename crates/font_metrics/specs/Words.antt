@@ -1,6 +1,7 @@
 -- The forms of the words of a metrics file.
 use Rattle.std.specs.Prelude.{ℕ, ℤ, pos, neg_ℤ, int_le, unsigned_abs, Bool, true, false, not, ◌&&◌, ◌||◌, nat_eq, nat_lt, nat_le, if◌then◌else◌, List, [], ◌∷◌, length, codes, Option, Some, None, option_map, Ok, Err}
 use Rattle.std.specs.List.{list_all, slice_split}
+use Rattle.std.specs.Borrow.{Bor}
 use Rattle.std.specs.Char.{is_digit, is_ascii_alphanumeric}
 use Rattle.std.specs.Str.{bytes_eq}
 use Rattle.std.specs.Str.Parse.{digits_value}
@@ -126,6 +127,12 @@ name_in word = do
   Ok word
 
 -- ---- words of a small choice, compared exactly
+
+-- the first choice whose text the word is
+unfoldable pub choice_in : {X : Type 0} → List (Bor (List ℕ) × X) → List ℕ → Option X
+choice_in [] word = None
+choice_in (choice ∷ choices) word =
+    if bytes_eq word choice.0.now then Some choice.1 else choice_in choices word
 
 abbrev pub is_extender_of : List ℕ → Option Bool
 is_extender_of word =

@@ -3,7 +3,7 @@ ghost use Rattle.font_metrics.specs.Metrics.{items_of, with_item};
 ghost use Rattle.font_metrics.specs.Reading.{taken_into};
 ghost use Rattle.font_metrics.specs.Reads.{Takes};
 
-use crate::fault::{LineFault, fault_if};
+use crate::fault::LineFault;
 use crate::refusal::LineRefusal;
 use fixed_units::Memory;
 use std::alloc::Global;
@@ -60,7 +60,9 @@ impl<T: Copy> ByGlyph<T> {
     ) -> Result<(), LineRefusal>
         ensures { Takes (taken_into most self.old place item) self.new result }
     {
-        fault_if(self.items(place).len() >= most, LineFault::TooMany)?;
+        if self.items(place).len() >= most {
+            return Err(LineRefusal::Fault(LineFault::TooMany));
+        }
         self.add(alloc, place, item)?;
         Ok(())
     }

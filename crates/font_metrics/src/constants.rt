@@ -2,6 +2,8 @@ ghost use Rattle.std.specs.Prelude.{◌≡◌, ◌<◌, IfSome};
 ghost use Rattle.font_metrics.specs.Constants.{place_of_constant, place_of_text};
 ghost use Rattle.font_metrics.specs.Print.{constant_text};
 
+use crate::texts::is_text;
+
 /// A constant of a font for mathematics, in the order of OpenType MATH, "MathConstants".
 #[derive(Clone, Copy, Debug, PartialEq, Eq)]
 pub enum ConstName {
@@ -138,8 +140,12 @@ pub fn place_of_text(word: &[u8]) -> Option<u8>
     ensures place { result ≡ place_of_text word.now }
     ensures within { IfSome result (λ place. place < 56) }
 {
-    let place = TEXTS.iter().position(|text| word == text.as_bytes())?;
-    Some(place as u8)
+    for place in 0..56 {
+        if is_text(word, text_of_place(place)) {
+            return Some(place);
+        }
+    }
+    None
 }
 
 /// The name that a file writes for the constant at a place.

@@ -1,8 +1,8 @@
 ghost use Rattle.std.specs.Prelude.{◌≡◌};
 ghost use Rattle.font_metrics.specs.Lines.{keyword_of, table_of, table_or_unknown};
 
+use crate::choices::choice_of;
 use crate::table::{Table, table_of};
-use crate::texts::is_text;
 
 /// The first word of a line, which says what its fields are.
 #[derive(Clone, Copy)]
@@ -29,29 +29,25 @@ pub enum Keyword {
     Unknown,
 }
 
+/// The first words of the lines of no table.
+const KEYWORDS: [(&str, Keyword); 8] = [
+    ("upem", Keyword::Upem),
+    ("line", Keyword::Line),
+    ("xheight", Keyword::XHeight),
+    ("overlap", Keyword::Overlap),
+    ("const", Keyword::Constant),
+    ("glyph", Keyword::Glyph),
+    ("char", Keyword::Char),
+    ("operator", Keyword::Operator),
+];
+
 /// What the first word of a line says; words are compared exactly.
-#[tactic(auto, unfolding(crate::specs::Lines::keyword_of))]
 pub fn keyword_of(word: &[u8]) -> Keyword
     ensures { result ≡ keyword_of word.now }
 {
-    if is_text(word, "upem") {
-        Keyword::Upem
-    } else if is_text(word, "line") {
-        Keyword::Line
-    } else if is_text(word, "xheight") {
-        Keyword::XHeight
-    } else if is_text(word, "overlap") {
-        Keyword::Overlap
-    } else if is_text(word, "const") {
-        Keyword::Constant
-    } else if is_text(word, "glyph") {
-        Keyword::Glyph
-    } else if is_text(word, "char") {
-        Keyword::Char
-    } else if is_text(word, "operator") {
-        Keyword::Operator
-    } else {
-        table_or_unknown(word)
+    match choice_of(word, &KEYWORDS) {
+        Some(keyword) => keyword,
+        None => table_or_unknown(word),
     }
 }
 

@@ -14,7 +14,7 @@
 //! - Laws (`specs/Laws.antt`): metrics are what the lines say, each behind those before it; the first
 //!   fault is told; whatever is given is in its range. Bounds for crates above: `proofs/Bounds.antt`.
 //! - Change a line of the format: `specs/Fields.antt`, `specs/Reading.antt` and `specs/Print.antt`,
-//!   then `src/lines.rt`, `src/said.rt`, `src/taking.rt` and the mirror `src/printed.rt`.
+//!   then `src/lines.rt`, `src/said.rt`, `src/taking.rt` and the mirror `src/print.rt`.
 //! - Add a table by glyph: a case of `Table` and a field of `Tables` (`src/table.rt`), its `Slot` in
 //!   `specs/Tables.antt`, how its lines are taken and printed (`Given::take_entry`, `print_table`), and
 //!   what is proved of its kind (`IsKind`, `proofs/TableKinds`). The rest is proved of all tables.
@@ -39,7 +39,7 @@ mod metrics; // Metrics
 mod named_lines; // those that name a glyph
 mod pieces; // lines of a file, words of a line
 mod print; // Metrics::print
-mod printed; // the lines of a print
+mod printed; // PrintedLines: what is printed, by words
 mod read; // read_metrics
 mod reader; // line after line
 mod refusal; // MetricsFault, MetricsRefusal

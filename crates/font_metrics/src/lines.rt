@@ -1,6 +1,6 @@
 ghost use Rattle.std.specs.Prelude.{◌≡◌, IfOk};
 ghost use Rattle.font_metrics.specs.Faults.{step_map};
-ghost use Rattle.font_metrics.specs.Lines.{lent, lent_if, upem_in, line_with, line_in, one_length_in, length_in, reach_in, reach_if_given, constant_with, constant_in, glyph_with, glyph_in, operator_with, operator_in, SaysUpem, SaysLine, SaysXHeight, SaysOverlap, SaysConstant, SaysGlyph, SaysOperator};
+ghost use Rattle.font_metrics.specs.Lines.{lent, word_at, upem_in, line_with, line_in, one_length_in, length_in, reach_in, reach_if_given, constant_with, constant_in, glyph_with, glyph_in, operator_with, operator_in, SaysUpem, SaysLine, SaysXHeight, SaysOverlap, SaysConstant, SaysGlyph, SaysOperator};
 ghost use Rattle.font_metrics.specs.Said.{item_of, HasLineText};
 ghost use Rattle.font_metrics.specs.Constants.{lowest_of, highest_of};
 
@@ -73,7 +73,9 @@ pub fn constant_line<'a>(fields: &[&'a [u8]]) -> Result<Said<'a>, LineFault>
 fn constant_with<'a>(name: &'a [u8], value: &'a [u8]) -> Result<Said<'a>, LineFault>
     ensures { step_map item_of result ≡ step_map SaysConstant (constant_with name.now value.now) }
 {
-    let place = place_of_text(name).ok_or(LineFault::NotNamed)?;
+    let Some(place) = place_of_text(name) else {
+        return Err(LineFault::NotNamed);
+    };
     let value = number_in(lowest(place), highest(place), value)?;
     Ok(Said::Constant((place, value)))
 }
@@ -96,14 +98,8 @@ pub fn glyph_line<'a>(fields: &[&'a [u8]]) -> Result<Said<'a>, LineFault>
     ensures { step_map item_of result ≡ step_map SaysGlyph (glyph_in (lent fields.now)) }
 {
     match fields {
-        [name, advance, ascent, descent] => {
-            glyph_with(name, advance, ascent, descent, None, None)
-        }
-        [name, advance, ascent, descent, italic] => {
-            glyph_with(name, advance, ascent, descent, Some(italic), None)
-        }
-        [name, advance, ascent, descent, italic, accent] => {
-            glyph_with(name, advance, ascent, descent, Some(italic), Some(accent))
+        [name, advance, ascent, descent, more @ ..] if more.len() <= 2 => {
+            glyph_with(name, advance, ascent, descent, more)
         }
         _ => Err(LineFault::FieldCount),
     }
@@ -114,18 +110,17 @@ fn glyph_with<'a>(
     advance: &[u8],
     ascent: &[u8],
     descent: &[u8],
-    italic: Option<&[u8]>,
-    accent: Option<&[u8]>,
+    more: &[&[u8]],
 ) -> Result<Said<'a>, LineFault>
     ensures { step_map item_of result ≡ step_map SaysGlyph
-        (glyph_with name.now advance.now ascent.now descent.now (lent_if italic.entry) (lent_if accent.entry)) }
+        (glyph_with name.now advance.now ascent.now descent.now (word_at 0 (lent more.now)) (word_at 1 (lent more.now))) }
 {
     let name = glyph_name(name)?;
     let advance = length(advance)?;
     let ink_ascent = reach(ascent)?;
     let ink_descent = reach(descent)?;
-    let italic = reach_if_given(italic)?;
-    let accent = reach_if_given(accent)?;
+    let italic = reach_at(0, more)?;
+    let accent = reach_at(1, more)?;
     let measures = Measures {
         advance,
         ink_ascent,
@@ -184,10 +179,11 @@ pub fn reach(word: &[u8]) -> Result<i32, LineFault>
     number_in(-32768, 65535, word)
 }
 
-fn reach_if_given(word: Option<&[u8]>) -> Result<Option<i32>, LineFault>
-    ensures { result ≡ reach_if_given (lent_if word.entry) }
+/// The same, where there is a word at the place.
+fn reach_at(place: usize, words: &[&[u8]]) -> Result<Option<i32>, LineFault>
+    ensures { result ≡ reach_if_given (word_at place (lent words.now)) }
 {
-    match word {
+    match words.get(place) {
         None => Ok(None),
         Some(word) => Ok(Some(reach(word)?)),
     }

@@ -121,6 +121,8 @@ pub fn named(glyphs: &GlyphTable, word: &[u8]) -> Result<u16, LineFault>
     ensures { result ≡ named_in glyphs.now word.now }
 {
     let name = glyph_name(word)?;
-    let place = glyphs.place(name).ok_or(LineFault::NotNamed)?;
-    Ok(place as u16)
+    match glyphs.place(name) {
+        None => Err(LineFault::NotNamed),
+        Some(place) => Ok(place as u16),
+    }
 }

@@ -1,17 +1,17 @@
 ghost use Rattle.std.specs.Prelude.{◌≡◌, ◌<◌, [], ◌++◌, All, length, map, flat_map, IfOk, OnOk, Ok};
 ghost use Rattle.std.specs.List.{range_with_len};
-ghost use Rattle.op_dictionary.specs.Pairs.{IsLineText};
-ghost use Rattle.font_metrics.specs.Print.{constant_words, glyph_words, character_words, table_lines, growth_lines, operator_words, header_lines, line_text, print_of};
+ghost use Rattle.font_metrics.specs.Print.{constant_words, glyph_words, character_words, table_lines, growth_lines, operator_words, header_lines, measures_words, overlap_lines, line_text, print_of};
 ghost use Rattle.font_metrics.specs.Reading.{metrics_of};
 ghost use Rattle.font_metrics.specs.declared.table.Table.TheVariants.{Variants, Parts};
 
 use crate::constant_table::ConstantTable;
-use crate::glyph::GlyphId;
+use crate::constants::text_of_place;
+use crate::glyph::{Glyph, GlyphId};
 use crate::glyphs::GlyphTable;
 use crate::metrics::Metrics;
-use crate::printed::PrintedLines;
+use crate::printed::{PrintedLines, Word};
 use crate::table::{TABLES, Table};
-use crate::texts::{part_keyword, variant_keyword};
+use crate::texts::{axis_text, category_text, extender_text, form_text};
 use fixed_units::{List, Memory};
 use op_dictionary::{Axis, Extra};
 use std::alloc::Global;
@@ -45,11 +45,12 @@ impl Metrics {
     fn print_header(&self, lines: &mut PrintedLines) -> Result<(), Memory>
         ensures { OnOk result (lines.new ≡ lines.old ++ flat_map line_text (header_lines self.now)) }
     {
-        lines.add_version()?;
-        lines.add_upem(self.needs.upem)?;
-        lines.add_extent(self.needs.line.0, self.needs.line.1)?;
-        lines.add_x_height(self.needs.x_height)?;
-        lines.add_overlap(self.given.overlap)
+        let (ascent, descent) = self.needs.line;
+        lines.add_line("mathlay-metrics", &[Word::Text("1")])?;
+        lines.add_line("upem", &[Word::Natural(self.needs.upem)])?;
+        lines.add_line("line", &[Word::Natural(ascent), Word::Natural(descent)])?;
+        lines.add_line("xheight", &[Word::Natural(self.needs.x_height)])?;
+        print_overlap(self.given.overlap, lines)
     }
 
     fn print_characters(&self, lines: &mut PrintedLines) -> Result<(), Memory>
@@ -57,7 +58,8 @@ impl Metrics {
             ++ flat_map line_text (map (character_words self.now.glyphs) self.now.characters)) }
     {
         for (letter, place) in self.given.characters.entries() {
-            lines.add_character(*letter, self.name(GlyphId(*place)))?;
+            let name = self.name(GlyphId(*place));
+            lines.add_line("char", &[Word::Code(*letter), Word::Text(name)])?;
         }
         Ok(())
     }
@@ -109,10 +111,15 @@ impl Metrics {
         requires { base.0 < length self.now.glyphs }
         ensures { OnOk result (lines.new ≡ lines.old ++ flat_map line_text (table_lines self.now base.0 (Variants axis))) }
     {
-        let keyword = variant_keyword(axis);
-        let name = self.name(base);
+        let keyword = Table::Variants(axis).keyword();
+        let base_name = self.name(base);
         for variant in self.variants(base, axis) {
-            lines.add_variant(keyword, name, self.name(variant.glyph), *variant)?;
+            let words = [
+                Word::Text(base_name),
+                Word::Text(self.name(variant.glyph)),
+                Word::Number(variant.measure),
+            ];
+            lines.add_line(keyword, &words)?;
         }
         Ok(())
     }
@@ -121,12 +128,29 @@ impl Metrics {
         requires { base.0 < length self.now.glyphs }
         ensures { OnOk result (lines.new ≡ lines.old ++ flat_map line_text (table_lines self.now base.0 (Parts axis))) }
     {
-        let keyword = part_keyword(axis);
-        let name = self.name(base);
+        let keyword = Table::Parts(axis).keyword();
+        let base_name = self.name(base);
         for part in self.assembly(base, axis) {
-            lines.add_part(keyword, name, self.name(part.glyph), *part)?;
+            let words = [
+                Word::Text(base_name),
+                Word::Text(self.name(part.glyph)),
+                Word::Text(extender_text(part.extender)),
+                Word::Number(part.start),
+                Word::Number(part.end),
+                Word::Number(part.full),
+            ];
+            lines.add_line(keyword, &words)?;
         }
         Ok(())
+    }
+}
+
+fn print_overlap(overlap: Option<u16>, lines: &mut PrintedLines) -> Result<(), Memory>
+    ensures { OnOk result (lines.new ≡ lines.old ++ flat_map line_text (overlap_lines overlap)) }
+{
+    match overlap {
+        None => Ok(()),
+        Some(least) => lines.add_line("overlap", &[Word::Natural(least)]),
     }
 }
 
@@ -136,7 +160,11 @@ fn print_constants(constants: &ConstantTable, lines: &mut PrintedLines) -> Resul
         ++ flat_map line_text (map constant_words constants.now)) }
 {
     for (place, value) in constants.entries() {
-        lines.add_constant(*place, *value)?;
+        let words = [
+            Word::Text(text_of_place(*place)),
+            Word::Number(i64::from(*value)),
+        ];
+        lines.add_line("const", &words)?;
     }
     Ok(())
 }
@@ -145,9 +173,26 @@ fn print_glyphs(glyphs: &GlyphTable, lines: &mut PrintedLines) -> Result<(), Mem
     ensures { OnOk result (lines.new ≡ lines.old ++ flat_map line_text (map glyph_words glyphs.now)) }
 {
     for place in 0..glyphs.len() {
-        lines.add_glyph(glyphs.name(place), glyphs.glyph(place))?;
+        print_glyph(glyphs.name(place), glyphs.glyph(place), lines)?;
     }
     Ok(())
+}
+
+fn print_glyph(name: &str, glyph: Glyph, lines: &mut PrintedLines) -> Result<(), Memory>
+    ensures { OnOk result (lines.new ≡ lines.old ++ line_text (measures_words name.now glyph)) }
+{
+    let name = Word::Text(name);
+    let advance = Word::Number(glyph.advance);
+    let ascent = Word::Number(glyph.ink_ascent);
+    let descent = Word::Number(glyph.ink_descent);
+    let italic = Word::Number(glyph.italic);
+    match glyph.accent {
+        None => lines.add_line("glyph", &[name, advance, ascent, descent, italic]),
+        Some(accent) => {
+            let accent = Word::Number(accent);
+            lines.add_line("glyph", &[name, advance, ascent, descent, italic, accent])
+        }
+    }
 }
 
 fn print_operators(operators: &Extra, lines: &mut PrintedLines) -> Result<(), Memory>
@@ -155,7 +200,14 @@ fn print_operators(operators: &Extra, lines: &mut PrintedLines) -> Result<(), Me
         ++ flat_map line_text (map operator_words operators.now)) }
 {
     for index in 0..operators.count() {
-        lines.add_operator(operators.line(index))?;
+        let line = operators.line(index);
+        let words = [
+            Word::Codes(line.text),
+            Word::Text(form_text(line.form)),
+            Word::Text(category_text(line.category)),
+            Word::Text(axis_text(line.axis)),
+        ];
+        lines.add_line("operator", &words)?;
     }
     Ok(())
 }

@@ -1,17 +1,27 @@
-ghost use Rattle.std.specs.Prelude.{◌≡◌, ◌<◌, [], ◌∷◌, ◌++◌, codes, flat_map, OnOk};
+ghost use Rattle.std.specs.Prelude.{◌≡◌, [], ◌∷◌, ◌++◌, map, OnOk};
 ghost use Rattle.std.specs.Fmt.{signed_decimal};
-ghost use Rattle.op_dictionary.specs.Pairs.{IsLineText};
-ghost use Rattle.font_metrics.specs.Print.{accent_text, code_text, operator_text, extender_text, version_words, upem_words, line_words, x_height_words, overlap_lines, constant_words, operator_words, measures_words, line_text};
+ghost use Rattle.font_metrics.specs.Print.{code_text, operator_text, word_text, line_text};
 
-use crate::constants::text_of_place;
-use crate::glyph::Glyph;
-use crate::growth::{Part, Variant};
-use crate::texts::{axis_text, category_text, extender_text, form_text};
 use fixed_units::{List, Memory};
-use op_dictionary::{OpText, OperatorLine};
+use op_dictionary::OpText;
 use std::alloc::Global;
 use std::fmt::Write;
 use std::marker::Model;
+
+/// A word of a line.
+#[derive(Clone, Copy)]
+pub enum Word<'a> {
+    /// A text as it stands.
+    Text(&'a str),
+    /// A number in decimal digits, where it is never negative.
+    Natural(u16),
+    /// A number in decimal digits.
+    Number(i64),
+    /// A character's code in at least 4 hexadecimal digits.
+    Code(char),
+    /// The code of an operator, or its two codes, which a plus joins.
+    Codes(OpText),
+}
 
 /// The lines of a print so far, which contracts see as their bytes.
 #[derive(Drop)]
@@ -44,149 +54,57 @@ impl PrintedLines {
         List::from(self.text.into_bytes())
     }
 
-    /// `mathlay-metrics 1`
-    pub fn add_version(&mut self) -> Result<(), Memory>
-        ensures { OnOk result (self.new ≡ self.old ++ line_text version_words) }
+    /// A line: its first word, and the others one space apart.
+    pub fn add_line(&mut self, keyword: &str, words: &[Word<'_>]) -> Result<(), Memory>
+        ensures { OnOk result (self.new ≡ self.old ++ line_text (keyword.now ∷ map word_text words.now)) }
     {
-        self.add_text("mathlay-metrics 1\n")
-    }
-
-    /// `upem UNITS`
-    pub fn add_upem(&mut self, units: u16) -> Result<(), Memory>
-        ensures { OnOk result (self.new ≡ self.old ++ line_text (upem_words units)) }
-    {
-        self.add_text("upem")?;
-        self.add_number(i64::from(units))?;
+        self.add_text(keyword)?;
+        for word in words {
+            self.add_text(" ")?;
+            self.add_word(*word)?;
+        }
         self.add_text("\n")
     }
 
-    /// `line ASCENT DESCENT`
-    pub fn add_extent(&mut self, ascent: u16, descent: u16) -> Result<(), Memory>
-        ensures { OnOk result (self.new ≡ self.old ++ line_text (line_words ascent descent)) }
+    /// A word.
+    fn add_word(&mut self, word: Word<'_>) -> Result<(), Memory>
+        ensures { OnOk result (self.new ≡ self.old ++ word_text word.entry) }
     {
-        self.add_text("line")?;
-        self.add_numbers(i64::from(ascent), i64::from(descent))?;
-        self.add_text("\n")
-    }
-
-    /// `xheight HEIGHT`
-    pub fn add_x_height(&mut self, height: u16) -> Result<(), Memory>
-        ensures { OnOk result (self.new ≡ self.old ++ line_text (x_height_words height)) }
-    {
-        self.add_text("xheight")?;
-        self.add_number(i64::from(height))?;
-        self.add_text("\n")
-    }
-
-    /// `overlap LEAST`, where it is given
-    pub fn add_overlap(&mut self, overlap: Option<u16>) -> Result<(), Memory>
-        ensures { OnOk result (self.new ≡ self.old ++ flat_map line_text (overlap_lines overlap)) }
-    {
-        match overlap {
-            None => Ok(()),
-            Some(least) => {
-                self.add_text("overlap")?;
-                self.add_number(i64::from(least))?;
-                self.add_text("\n")
-            }
+        match word {
+            Word::Text(text) => self.add_text(text),
+            Word::Natural(number) => self.add_number(i64::from(number)),
+            Word::Number(number) => self.add_number(number),
+            Word::Code(letter) => self.add_code(letter),
+            Word::Codes(text) => self.add_codes(text),
         }
     }
 
-    /// `const NAME VALUE`
-    pub fn add_constant(&mut self, place: u8, value: i32) -> Result<(), Memory>
-        requires { place < 56 }
-        ensures { OnOk result (self.new ≡ self.old ++ line_text (constant_words (place, value))) }
+    /// A text as it stands.
+    fn add_text(&mut self, text: &str) -> Result<(), Memory>
+        ensures { OnOk result (self.new ≡ self.old ++ text.now) }
     {
-        self.add_text("const")?;
-        self.add_word(text_of_place(place))?;
-        self.add_number(i64::from(value))?;
-        self.add_text("\n")
+        self.text.push_str(text)?;
+        Ok(())
     }
 
-    /// `glyph NAME ADVANCE INKASCENT INKDESCENT ITALIC [ACCENT]`
-    pub fn add_glyph(&mut self, name: &str, glyph: Glyph) -> Result<(), Memory>
-        ensures { OnOk result (self.new ≡ self.old ++ line_text (measures_words name.now glyph)) }
+    /// A number in decimal digits.
+    fn add_number(&mut self, number: i64) -> Result<(), Memory>
+        ensures { OnOk result (self.new ≡ self.old ++ signed_decimal number) }
     {
-        self.add_text("glyph")?;
-        self.add_word(name)?;
-        self.add_numbers(glyph.advance, glyph.ink_ascent)?;
-        self.add_numbers(glyph.ink_descent, glyph.italic)?;
-        self.add_accent(glyph.accent)?;
-        self.add_text("\n")
+        write!(self.text, "{number}")?;
+        Ok(())
     }
 
-    fn add_accent(&mut self, accent: Option<i64>) -> Result<(), Memory>
-        ensures { OnOk result (self.new ≡ self.old ++ accent_text accent) }
+    /// A character's code in at least 4 hexadecimal digits.
+    fn add_code(&mut self, letter: char) -> Result<(), Memory>
+        ensures { OnOk result (self.new ≡ self.old ++ code_text letter) }
     {
-        match accent {
-            None => Ok(()),
-            Some(accent) => self.add_number(accent),
-        }
-    }
-
-    /// `char CODE NAME`
-    pub fn add_character(&mut self, letter: char, name: &str) -> Result<(), Memory>
-        ensures { OnOk result (self.new ≡ self.old
-            ++ line_text (codes "char" ∷ code_text letter ∷ name.now ∷ [])) }
-    {
-        self.add_text("char ")?;
-        self.add_code(letter)?;
-        self.add_word(name)?;
-        self.add_text("\n")
-    }
-
-    /// `KEYWORD BASE VARIANT MEASURE`
-    pub fn add_variant(
-        &mut self,
-        keyword: &str,
-        base: &str,
-        name: &str,
-        variant: Variant,
-    ) -> Result<(), Memory>
-        ensures { OnOk result (self.new ≡ self.old
-            ++ line_text (keyword.now ∷ base.now ∷ name.now ∷ signed_decimal variant.measure ∷ [])) }
-    {
-        self.add_text(keyword)?;
-        self.add_words(base, name)?;
-        self.add_number(variant.measure)?;
-        self.add_text("\n")
-    }
-
-    /// `KEYWORD BASE PART FIX|EXT START END FULL`
-    pub fn add_part(
-        &mut self,
-        keyword: &str,
-        base: &str,
-        name: &str,
-        part: Part,
-    ) -> Result<(), Memory>
-        ensures { OnOk result (self.new ≡ self.old
-            ++ line_text (keyword.now ∷ base.now ∷ name.now ∷ extender_text part.extender
-            ∷ signed_decimal part.start ∷ signed_decimal part.end ∷ signed_decimal part.full ∷ [])) }
-    {
-        self.add_text(keyword)?;
-        self.add_words(base, name)?;
-        self.add_word(extender_text(part.extender))?;
-        self.add_number(part.start)?;
-        self.add_numbers(part.end, part.full)?;
-        self.add_text("\n")
-    }
-
-    /// `operator CODES FORM CATEGORY AXIS`
-    pub fn add_operator(&mut self, line: OperatorLine) -> Result<(), Memory>
-        requires { IsLineText line.text }
-        ensures { OnOk result (self.new ≡ self.old ++ line_text (operator_words line)) }
-    {
-        self.add_text("operator ")?;
-        self.add_operator_text(line.text)?;
-        self.add_words(form_text(line.form), category_text(line.category))?;
-        self.add_word(axis_text(line.axis))?;
-        self.add_text("\n")
+        write!(self.text, "{:04X}", u32::from(letter))?;
+        Ok(())
     }
 
     /// One code, or two that a plus joins.
-    fn add_operator_text(&mut self, text: OpText) -> Result<(), Memory>
-        requires { IsLineText text }
+    fn add_codes(&mut self, text: OpText) -> Result<(), Memory>
         ensures { OnOk result (self.new ≡ self.old ++ operator_text text) }
     {
         match text {
@@ -198,53 +116,5 @@ impl PrintedLines {
             }
             _ => Ok(()),
         }
-    }
-
-    /// A character's code in at least 4 hexadecimal digits.
-    fn add_code(&mut self, letter: char) -> Result<(), Memory>
-        ensures { OnOk result (self.new ≡ self.old ++ code_text letter) }
-    {
-        write!(self.text, "{:04X}", u32::from(letter))?;
-        Ok(())
-    }
-
-    /// A word behind a space.
-    pub fn add_word(&mut self, word: &str) -> Result<(), Memory>
-        ensures { OnOk result (self.new ≡ self.old ++ 32 ∷ word.now) }
-    {
-        self.add_text(" ")?;
-        self.add_text(word)
-    }
-
-    /// Two words, each behind a space.
-    pub fn add_words(&mut self, first: &str, second: &str) -> Result<(), Memory>
-        ensures { OnOk result (self.new ≡ (self.old ++ 32 ∷ first.now) ++ 32 ∷ second.now) }
-    {
-        self.add_word(first)?;
-        self.add_word(second)
-    }
-
-    /// A number behind a space.
-    pub fn add_number(&mut self, number: i64) -> Result<(), Memory>
-        ensures { OnOk result (self.new ≡ self.old ++ 32 ∷ signed_decimal number) }
-    {
-        write!(self.text, " {number}")?;
-        Ok(())
-    }
-
-    /// Two numbers, each behind a space.
-    pub fn add_numbers(&mut self, first: i64, second: i64) -> Result<(), Memory>
-        ensures { OnOk result (self.new ≡ (self.old ++ 32 ∷ signed_decimal first) ++ 32 ∷ signed_decimal second) }
-    {
-        self.add_number(first)?;
-        self.add_number(second)
-    }
-
-    /// A text as it stands.
-    pub fn add_text(&mut self, text: &str) -> Result<(), Memory>
-        ensures { OnOk result (self.new ≡ self.old ++ text.now) }
-    {
-        self.text.push_str(text)?;
-        Ok(())
     }
 }

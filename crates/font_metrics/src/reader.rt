@@ -1,7 +1,7 @@
 ghost use Rattle.std.specs.Prelude.{◌≡◌, ◌≤◌, length};
 ghost use Rattle.font_metrics.specs.Taken.{most_glyphs};
 ghost use Rattle.font_metrics.specs.Lines.{lent};
-ghost use Rattle.font_metrics.specs.Reading.{after, after_first, after_words, after_fields, first_in, is_first, is_version, needed, lines_of, metrics_of, most_file_bytes};
+ghost use Rattle.font_metrics.specs.Reading.{after, after_first, after_words, after_fields, first_in, is_version, needed, lines_of, metrics_of, most_file_bytes};
 ghost use Rattle.font_metrics.specs.Reads.{Takes, Begins, Ends};
 ghost use Rattle.font_metrics.specs.Said.{IsOfNoTable};
 
@@ -53,7 +53,9 @@ impl Given {
         requires { length self.old.glyphs ≤ most_glyphs }
         ensures { Takes (after self.old line.now) self.new result }
     {
-        fault_if(is_foreign(line), LineFault::ForeignByte)?;
+        if is_foreign(line) {
+            return Err(LineRefusal::Fault(LineFault::ForeignByte));
+        }
         if is_comment(line) {
             return Ok(());
         }
@@ -109,10 +111,18 @@ impl Given {
         requires { length self.now.glyphs ≤ most_glyphs }
         ensures { result ≡ needed self.now }
     {
-        let upem = self.upem.ok_or(LineFault::NoUpem)?;
-        let line = self.line.ok_or(LineFault::NoLine)?;
-        let x_height = self.x_height.ok_or(LineFault::NoXHeight)?;
-        let missing = self.glyphs.place("missing").ok_or(LineFault::NoMissing)?;
+        let Some(upem) = self.upem else {
+            return Err(LineFault::NoUpem);
+        };
+        let Some(line) = self.line else {
+            return Err(LineFault::NoLine);
+        };
+        let Some(x_height) = self.x_height else {
+            return Err(LineFault::NoXHeight);
+        };
+        let Some(missing) = self.glyphs.place("missing") else {
+            return Err(LineFault::NoMissing);
+        };
         Ok(Needed {
             upem,
             line,
@@ -126,7 +136,9 @@ impl Given {
 fn take_first(line: &[u8]) -> Result<(), LineFault>
     ensures { result ≡ first_in line.now }
 {
-    fault_if(is_foreign(line), LineFault::ForeignByte)?;
+    if is_foreign(line) {
+        return Err(LineFault::ForeignByte);
+    }
     let mut words = LineWords::new();
     cut(line, &mut words);
     fault_if(!is_version(words.as_slice()), LineFault::WrongFirstLine)
@@ -137,13 +149,7 @@ fn is_version(words: &[&[u8]]) -> bool
     ensures { result ≡ is_version (lent words.now) }
 {
     match words {
-        [name, version] => is_first(name, version),
+        [name, version] => is_text(name, "mathlay-metrics") & is_text(version, "1"),
         _ => false,
     }
-}
-
-fn is_first(name: &[u8], version: &[u8]) -> bool
-    ensures { result ≡ is_first name.now version.now }
-{
-    is_text(name, "mathlay-metrics") & is_text(version, "1")
 }

@@ -4,7 +4,7 @@ ghost use Rattle.font_metrics.specs.Tables.{slot, no_tables};
 
 use crate::by_axis::ByAxis;
 use crate::growth::{Part, Variant};
-use crate::texts::{is_text, part_keyword, variant_keyword};
+use crate::texts::is_text;
 use op_dictionary::Axis;
 use std::alloc::Global;
 
@@ -31,8 +31,10 @@ impl Table {
         ensures { result.now ≡ (slot self).keyword }
     {
         match self {
-            Table::Variants(axis) => variant_keyword(axis),
-            Table::Parts(axis) => part_keyword(axis),
+            Table::Variants(Axis::Block) => "vvariant",
+            Table::Variants(Axis::Inline) => "hvariant",
+            Table::Parts(Axis::Block) => "vassembly",
+            Table::Parts(Axis::Inline) => "hassembly",
         }
     }
 }

@@ -1,6 +1,6 @@
 ghost use Rattle.std.specs.Prelude.{◌≡◌};
 ghost use Rattle.std.specs.Str.{bytes_eq};
-ghost use Rattle.font_metrics.specs.Print.{extender_text, form_text, category_text, axis_text, variant_keyword, part_keyword};
+ghost use Rattle.font_metrics.specs.Print.{extender_text, form_text, category_text, axis_text};
 
 use op_dictionary::{Axis, Category, Form};
 
@@ -58,25 +58,5 @@ pub fn axis_text(axis: Axis) -> &'static str
     match axis {
         Axis::Block => "block",
         Axis::Inline => "inline",
-    }
-}
-
-/// The first word of a variant's line.
-pub fn variant_keyword(axis: Axis) -> &'static str
-    ensures { result.now ≡ variant_keyword axis }
-{
-    match axis {
-        Axis::Block => "vvariant",
-        Axis::Inline => "hvariant",
-    }
-}
-
-/// The first word of a part's line.
-pub fn part_keyword(axis: Axis) -> &'static str
-    ensures { result.now ≡ part_keyword axis }
-{
-    match axis {
-        Axis::Block => "vassembly",
-        Axis::Inline => "hassembly",
     }
 }

@@ -5,7 +5,7 @@ ghost use Rattle.fixed_units.specs.Numbers.{IsWithin};
 ghost use Rattle.op_dictionary.specs.Pairs.{IsLineText};
 ghost use Rattle.font_metrics.specs.Faults.{step_map, or_fault};
 ghost use Rattle.font_metrics.specs.declared.fault.LineFault.TheVariants as fault;
-ghost use Rattle.font_metrics.specs.Words.{value_of_digits, numeral_of, number_of, number_in, natural_in, code_of, letter_in, in_pair, one_in, pair_in, operator_text_in, is_name_mark, is_name_byte, is_name, name_in};
+ghost use Rattle.font_metrics.specs.Words.{value_of_digits, numeral_of, number_of, number_in, natural_in, code_of, letter_in, in_pair, one_in, pair_in, operator_text_in, is_name_byte, is_name, name_in};
 
 use crate::fault::{LineFault, fault_if};
 use op_dictionary::OpText;
@@ -18,11 +18,10 @@ pub fn number_in(low: i32, high: i32, word: &[u8]) -> Result<i32, LineFault>
     ensures low { IfOk result (λ n. low ≤ℤ n) }
     ensures high { IfOk result (λ n. n ≤ℤ high) }
 {
-    let number = number(word).ok_or(LineFault::NotANumber)?;
-    if (low <= number) & (number <= high) {
-        Ok(number)
-    } else {
-        Err(LineFault::OutOfRange)
+    match number(word) {
+        None => Err(LineFault::NotANumber),
+        Some(number) if (low <= number) & (number <= high) => Ok(number),
+        Some(_) => Err(LineFault::OutOfRange),
     }
 }
 
@@ -40,8 +39,10 @@ pub fn natural_in(low: u16, high: u16, word: &[u8]) -> Result<u16, LineFault>
 pub fn letter(word: &[u8]) -> Result<char, LineFault>
     ensures { result ≡ letter_in word.now }
 {
-    let code = code(word).ok_or(LineFault::NotANumber)?;
-    char::from_u32(code).ok_or(LineFault::OutOfRange)
+    match code(word) {
+        None => Err(LineFault::NotANumber),
+        Some(code) => char::from_u32(code).ok_or(LineFault::OutOfRange),
+    }
 }
 
 /// The text of an operator: one code, or two of at most `FFFF` that a plus joins.
@@ -79,11 +80,14 @@ fn pair(first: &[u8], second: &[u8]) -> Result<OpText, LineFault>
     ensures value { result ≡ pair_in first.now second.now }
     ensures text { IfOk result IsLineText }
 {
-    let first = code(first).ok_or(LineFault::NotANumber)?;
-    let second = code(second).ok_or(LineFault::NotANumber)?;
-    let first = in_pair(first)?;
-    let second = in_pair(second)?;
-    Ok(OpText::Two(first, second))
+    match (code(first), code(second)) {
+        (Some(first), Some(second)) => {
+            let first = in_pair(first)?;
+            let second = in_pair(second)?;
+            Ok(OpText::Two(first, second))
+        }
+        _ => Err(LineFault::NotANumber),
+    }
 }
 
 /// The character of a code of a pair: it has at most 16 bits.
@@ -122,13 +126,7 @@ fn has_name_bytes(word: &[u8]) -> bool
 fn is_name_byte(byte: u8) -> bool
     ensures { result ≡ is_name_byte byte }
 {
-    byte.is_ascii_alphanumeric() | is_name_mark(byte)
-}
-
-fn is_name_mark(byte: u8) -> bool
-    ensures { result ≡ is_name_mark byte }
-{
-    (byte == b'_') | (byte == b'.') | (byte == b'-')
+    byte.is_ascii_alphanumeric() | (byte == b'_') | (byte == b'.') | (byte == b'-')
 }
 
 /// A whole number: an optional minus and 1 to 6 decimal digits.

@@ -6,8 +6,8 @@ use Rattle.font_metrics.specs.Taken.{IsCharacter}
 use Rattle.font_metrics.proofs.Printing.{next-of, rest-more}
 use Rattle.font_metrics.proofs.metrics.Metrics.print_characters.Goals as goal
 
-pub name-requires : goal.name-requires
-name-requires c =
+pub name-name-requires : goal.name-name-requires
+name-name-requires c =
     (next-of (IsCharacter (length c.args.self.now.glyphs)) _ _ (c.in-Some.letter.now, c.in-Some.place.now)
     c.in-Some.ensures.steps c.loop-letter.invariant.characters).1
 
@@ -19,5 +19,5 @@ loop-letter-preserved c =
       characters = All-rest (IsCharacter (length c.args.self.now.glyphs)) character _ _ c.in-Some.ensures.steps
           c.loop-letter.invariant.characters;
       lines = rest-more (character_words c.args.self.now.glyphs) _ _ character _ _ _ c.in-Some.ensures.steps
-          c.loop-letter.invariant.lines (rw c.name.ensures at c.in_ok-add_character.ensures);
+          c.loop-letter.invariant.lines (rw c.name-name.ensures at c.in_ok-add_line.ensures);
     }

@@ -1,20 +1,24 @@
-use Rattle.std.proofs.Common.{◌∙◌, ◌++◌, ap, List, map, flat_map}
+use Rattle.std.proofs.Common.{◌∙◌, ◌++◌, ap, List, length, map, flat_map}
 use Rattle.std.proofs.lemmas.List.{take_all}
 use Rattle.std.proofs.lemmas.Option.{slice_get-get_or}
 use Rattle.font_metrics.specs.declared.growth.Variant.{Variant}
+use Rattle.font_metrics.specs.Taken.{IsVariant}
 use Rattle.font_metrics.specs.Metrics.{name_at, variants_of}
 use Rattle.font_metrics.specs.declared.table.Table.TheVariants.{Variants}
 use Rattle.font_metrics.specs.Print.{entry_words, line_text}
-use Rattle.font_metrics.proofs.Printing.{front-more}
+use Rattle.font_metrics.proofs.Printing.{field-back, front-more}
 use Rattle.font_metrics.proofs.metrics.Metrics.print_variants.Goals as goal
 
 pub loop-variant-preserved : goal.loop-variant-preserved
 unfolding name_at
 loop-variant-preserved c =
-    front-more (entry_words (Variants c.args.axis) c.args.self.now.glyphs c.args.base.0)
-    c.variants-variant-items.result.now c.loop-variant.variant-index _ _ _ _
-    (slice_get-get_or c.variants-variant-items.result.now c.loop-variant.variant-index _ c.loop-variant-test.true)
-    c.loop-variant.invariant (rw (c.name-name.ensures, c.name.ensures, c.variant_keyword-keyword.ensures) at c.in_ok-add_variant.ensures)
+    let items = c.variants-variant-items.result.now in
+    let measure =
+    field-back (IsVariant (length c.args.self.now.glyphs)) (λ variant. variant.measure) (λ variant is. is.measure) items c.loop-variant.variant-index
+    c.loop-variant-test.true c.variants-variant-items.ensures.items in
+    let added = rw (c.name-base_name.ensures, c.name.ensures, c.keyword-keyword.ensures, measure) at c.in_ok-add_line.ensures in
+    front-more (entry_words (Variants c.args.axis) c.args.self.now.glyphs c.args.base.0) items c.loop-variant.variant-index _ _ _ _
+    (slice_get-get_or items c.loop-variant.variant-index _ c.loop-variant-test.true) c.loop-variant.invariant added
 
 pub returns : goal.returns
 unfolding variants_of
