@@ -1,5 +1,5 @@
 -- Where no child stretches, nothing is asked in the second wave, but of a table.
-use Rattle.std.proofs.Common.{◌≡◌, ap, refl, ℕ, ◌+◌, true, false, Bool, List, [], ◌∷◌, map, Option, Some, None, is_none, ◌&&◌}
+use Rattle.std.proofs.Common.{◌≡◌, ap, refl, ℕ, ◌+◌, true, false, Bool, List, [], ◌∷◌, Option, Some, None, is_none, ◌&&◌}
 use Rattle.std.specs.List.{list_all}
 use Rattle.fixed_units.specs.declared.boxes.MathBox.{MathBox}
 use Rattle.fixed_units.specs.declared.pull.Pull.{Pull}
@@ -18,6 +18,7 @@ use Rattle.layout_model.specs.declared.asking.Asking.TheVariants.{Nothing, Plain
 use Rattle.layout_model.specs.declared.context.Context.{Context}
 use Rattle.layout_model.specs.declared.outcome.Answer.{Answer}
 
+-- a child that stretches along no axis
 abbrev pub rests : KidPull → Bool
 rests kid = is_none kid.axis
 
@@ -26,15 +27,15 @@ along_none Upright None h = refl
 along_none Sideways None h = refl
 along_none axis (Some other) h = cc
 
-both-true : (one two : Bool) → (one && two) ≡ true → (one ≡ true) × (two ≡ true)
-both-true true two h = (refl, h)
-both-true false two h = cc
+both_true : (one two : Bool) → (one && two) ≡ true → (one ≡ true) × (two ≡ true)
+both_true true two h = (refl, h)
+both_true false two h = cc
 
 none_asked : (place : ℕ) (plan : Plan) (kids : List KidPull) → plan.others ≡ None → list_all rests kids ≡ true → asks_from place plan kids ≡ []
 unfolding asks_from planned
 none_asked place plan [] e h = refl
 none_asked place plan (kid ∷ kids) e h =
-    let both = both-true (rests kid) (list_all rests kids) h in
+    let both = both_true (rests kid) (list_all rests kids) h in
     let first : planned plan kid ≡ None = rw (along_none plan.axis kid.axis both.0) e in
     rw first (none_asked (place + 1) plan kids e both.1)
 
@@ -49,7 +50,7 @@ unfolding second_asks
 limits_none kids (Inline width) first h = refl
 limits_none kids Free first h = none_asked 0 _ kids refl h
 limits_none [] (Block ascent descent) first h = refl
-limits_none (base ∷ others) (Block ascent descent) first h = none_asked 1 _ others refl (both-true (rests base) (list_all rests others) h).1
+limits_none (base ∷ others) (Block ascent descent) first h = none_asked 1 _ others refl (both_true (rests base) (list_all rests others) h).1
 
 -- where no child stretches, an element but a table has no further questions
 pub none_second : (how : Asking) (m : MetricsValue) (seen : Seen) (context : Context) (answers : List Answer)

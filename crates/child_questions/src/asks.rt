@@ -23,9 +23,7 @@ pub fn kid_pulls<V: View>(
     metrics: &Metrics,
 ) -> Result<List<KidPull>, Memory>
     requires known { fences ≡ fences_in (seen_of (V.element parent.now)).kids }
-    ensures value { IfOk result (λ pulls. pulls ≡ kid_pulls metrics.now (seen_of (V.element parent.now)) context.now) }
-    ensures each { IfOk result (λ pulls. length pulls ≡ length (seen_of (V.element parent.now)).kids) }
-    ensures few { IfOk result (λ pulls. length pulls ≤ 65_535) }
+    ensures { IfOk result (λ pulls. pulls ≡ kid_pulls metrics.now (seen_of (V.element parent.now)) context.now) }
 {
     let mut pulls = List::with_room(alloc, parent.kids())?;
     for index in 0..parent.kids() {

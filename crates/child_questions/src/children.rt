@@ -1,4 +1,4 @@
-ghost use Rattle.std.specs.Prelude.{◌≡◌, ◌<◌, ◌≤◌, ◌^◌, pos, ◌≤ℤ◌, length};
+ghost use Rattle.std.specs.Prelude.{codes, ◌≡◌, ◌<◌, ◌≤◌, ◌^◌, pos, ◌≤ℤ◌, length};
 ghost use Rattle.embellished.specs.Fences.{fences_in};
 ghost use Rattle.embellished.specs.Seen.{seen_of};
 ghost use Rattle.style_scope.specs.Sizes.{IsStyle, size_of};
@@ -56,14 +56,9 @@ fn is_subscript<V: View>(parent: &V, index: usize) -> bool
 }
 
 /// Where a child in flow stands.
-fn place_of<V: View>(
-    parent: &V,
-    survey: &Survey,
-    context: &Context,
-    metrics: &Metrics,
-    index: usize,
-) -> Place
-    requires known { survey.now ≡ survey_of metrics.now (seen_of (V.element parent.now)) context.now }
+fn place_of<V: View>(parent: &V, survey: &Survey, index: usize) -> Place
+    requires accent { survey.now.accent ≡ is_true (codes "accent") (seen_of (V.element parent.now)).head.attributes }
+    requires accentunder { survey.now.accentunder ≡ is_true (codes "accentunder") (seen_of (V.element parent.now)).head.attributes }
     requires index { index < 2 ^ 32 }
     ensures { result ≡ place_of (seen_of (V.element parent.now)) index }
 {
@@ -94,7 +89,7 @@ fn kid_style<V: View>(
     ensures style { IsStyle result }
 {
     let _count = parent.kids();
-    let place = place_of(parent, survey, context, metrics, index);
+    let place = place_of(parent, survey, index);
     child_style(&context.style, place, parent.kid(index), metrics)
 }
 

@@ -32,8 +32,8 @@ pub struct Survey {
 }
 
 impl Survey {
-    /// That of an element, which looks at each child once. It is refused with `Range` exactly where the
-    /// font size lies outside 0 to 2^20 units.
+    /// That of an element; neither wave looks through the children again. It is refused with `Range`
+    /// exactly where the font size lies outside 0 to 2^20 units.
     pub fn make<V: View>(
         alloc: Global,
         view: &V,
@@ -52,7 +52,7 @@ impl Survey {
     }
 
     /// The same where the font size isn't looked at.
-    pub fn look<V: View>(
+    pub(crate) fn look<V: View>(
         alloc: Global,
         view: &V,
         context: &Context,

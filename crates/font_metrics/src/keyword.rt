@@ -29,7 +29,7 @@ pub enum Keyword {
     Unknown,
 }
 
-/// The first words of the lines of no table.
+/// The first words of the lines that belong to no table by glyph, but for the version's.
 const KEYWORDS: [(&str, Keyword); 8] = [
     ("upem", Keyword::Upem),
     ("line", Keyword::Line),

@@ -19,7 +19,7 @@ pub enum Word<'a> {
     Number(i64),
     /// A character's code in at least 4 hexadecimal digits.
     Code(char),
-    /// The code of an operator, or its two codes, which a plus joins.
+    /// The code of an operator, or its two codes, which a plus joins; nothing of any other text.
     Codes(OpText),
 }
 
@@ -103,7 +103,7 @@ impl PrintedLines {
         Ok(())
     }
 
-    /// One code, or two that a plus joins.
+    /// One code, or two that a plus joins; nothing of any other text.
     fn add_codes(&mut self, text: OpText) -> Result<(), Memory>
         ensures { OnOk result (self.new ≡ self.old ++ operator_text text) }
     {

@@ -77,6 +77,7 @@ impl MemoTree {
                 parents,
             }),
             Err(refusal) => {
+                // Told, so that what is let go of isn't proved through all its parts here.
                 drop(tree);
                 drop(metrics);
                 Err(refusal)
@@ -110,6 +111,7 @@ impl MemoTree {
                 parents,
             }),
             Err(refusal) => {
+                // Told, so that what is let go of isn't proved through all its parts here.
                 drop(tree);
                 drop(metrics);
                 Err(refusal)

@@ -1,6 +1,6 @@
-use Rattle.std.proofs.Common.{◌∙◌, sym, ap, length, arith}
+use Rattle.std.proofs.Common.{◌∙◌, sym, ap}
 use Rattle.std.specs.declared.option.Option.{Option}
-use Rattle.fixed_units.proofs.Sums.{length-list_to, list_to-zero, list_to-add_one}
+use Rattle.fixed_units.proofs.Sums.{list_to-zero, list_to-add_one}
 use Rattle.op_dictionary.specs.declared.operator.Axis.{Axis}
 use Rattle.embellished.specs.Seen.{seen_of}
 use Rattle.layout_model.specs.Contexts.{kid_pull}
@@ -22,15 +22,3 @@ loop-index-preserved g c =
     let before = c.loop-index.invariant in
     let more = list_to-add_one c.loop-index.index pull in
     cc
-
-pub returns-clause-each : goal.returns-clause-each
-returns-clause-each g c =
-    let pull = kid_pull c.args.metrics.now (seen_of (g.V.View.element c.args.parent.now)) c.args.context.now.form in
-    let all = ap length c.loop-index.invariant ∙ length-list_to c.loop-index.index pull in
-    omega (arith, all, c.kids-index-end.ensures.count)
-
-pub returns-clause-few : goal.returns-clause-few
-returns-clause-few g c =
-    let pull = kid_pull c.args.metrics.now (seen_of (g.V.View.element c.args.parent.now)) c.args.context.now.form in
-    let all = ap length c.loop-index.invariant ∙ length-list_to c.loop-index.index pull in
-    omega (arith, all, c.kids-index-end.ensures.few)

@@ -1,12 +1,11 @@
 use Rattle.std.proofs.Common.{ap}
 use Rattle.math_tree.specs.declared.node.Head.{Head}
-use Rattle.child_questions.specs.declared.survey.Survey.{Survey}
 use Rattle.child_questions.proofs.children.place_of.Goals as goal
 
 pub returns : goal.returns
 returns g c =
     let kind = ap (λ (h : Head). h.kind) c.head.ensures in
-    let accent = ap (λ (s : Survey). s.accent) c.requires.known in
-    let accentunder = ap (λ (s : Survey). s.accentunder) c.requires.known in
+    let accent = c.requires.accent in
+    let accentunder = c.requires.accentunder in
     let subscript = c.is_subscript-subscript.ensures in
     cc

@@ -1,10 +1,8 @@
-use Rattle.std.proofs.Common.{◌≡◌, ◌∙◌, ap, refl, subst, sym, arith, length, true}
+use Rattle.std.proofs.Common.{◌≡◌, ◌∙◌, ap, subst, sym, arith, length}
 use Rattle.std.specs.List.{All, list_all}
 use Rattle.embellished.specs.Seen.{seen_of}
 use Rattle.layout_model.specs.Questions.{IsAskBelow, asking, second}
-use Rattle.layout_model.specs.declared.asking.Asking.{Asking}
 use Rattle.layout_model.specs.declared.asking.Asking.TheVariants.{AsTable}
-use Rattle.row_stretch.specs.declared.parts.KidPull.{KidPull}
 use Rattle.layout_model.proofs.Places.{as_many_pulls, second_asks_below}
 use Rattle.child_questions.specs.declared.survey.Survey.{Survey}
 use Rattle.child_questions.proofs.Unstretched.{none_second, rests}

@@ -8,7 +8,7 @@ returns g c =
     let head = c.head.ensures in
     let asking = c.asking-asking.ensures in
     let fences = c.fences_of-fences.ensures in
-    let pulls = (c.in_ok-pulls.ensures {u = tt}).value in
+    let pulls = c.in_ok-pulls.ensures {u = tt} in
     let accent = c.is_true.ensures ∙ ap (λ (h : Head). is_true (codes "accent") h.attributes) head in
     let accentunder = c.is_true-2.ensures ∙ ap (λ (h : Head). is_true (codes "accentunder") h.attributes) head in
     cc
