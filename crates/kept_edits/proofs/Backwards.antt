@@ -1,10 +1,10 @@
 -- A change that is taken back leaves no trace.
-use Rattle.std.proofs.Common.{◌≡◌, ◌∙◌, refl, sym, ap, ℕ, zero, suc, Bool, true, true≢false, not, ◌&&◌, List, [], ◌∷◌, get_or, is_some, length, map, remove, set, Option, Some, None, slice_get, unwrap_or}
+use Rattle.std.proofs.Common.{◌≡◌, ◌∙◌, refl, sym, ap, ℕ, zero, suc, Bool, true, true≢false, not, ◌&&◌, List, [], ◌∷◌, get_or, is_some, length, map, remove, set, Option, Some, None, slice_get}
 use Rattle.std.proofs.lemmas.Bool.{and_parts}
 use Rattle.std.proofs.lemmas.Option.{none-some, same_Some}
 use Rattle.std.specs.List.{list_all}
 use Rattle.std.specs.Option.{option_and_then, option_map_or}
-use Rattle.embellished.specs.declared.facts.Facts.{Facts}
+use Rattle.kept_results.specs.declared.memo.Former.{Former}
 use Rattle.kept_results.specs.Laws.{is_unmarked, unmarked_layer}
 use Rattle.kept_results.specs.Looking.{own_facts}
 use Rattle.kept_results.specs.declared.memo.Memo.{Memo}
@@ -12,10 +12,11 @@ use Rattle.kept_results.specs.declared.memo.Memo.TheFolds.{fold_out-Memo}
 use Rattle.kept_results.specs.declared.memo.Memo.TheOpen.{Memo-F}
 use Rattle.kept_results.specs.declared.memo.Memo.TheViews.{out-Memo, out-roll-Memo, roll-Memo, roll-out-Memo}
 use Rattle.kept_results.proofs.Lists.{set_here}
-use Rattle.kept_edits.specs.Changed.{FitsBelow, FitsMemo, changed_below, changed_memo, renewed, restored, taken_below, taken_from, undone_memo, with_below}
+use Rattle.kept_edits.specs.Changed.{FitsBelow, FitsMemo, changed_below, changed_memo, renewed, restored, taken_below, taken_from, undone_memo, with_below, seen_anew}
 use Rattle.kept_edits.specs.Laws.{BackLaw, back_of}
 use Rattle.kept_edits.specs.declared.change.MemoChange.{MemoChange}
 use Rattle.kept_edits.specs.declared.change.MemoChange.TheVariants.{Stay, PutMemo, TakeMemo, SwapMemo}
+use Rattle.kept_edits.specs.declared.change.Renewal.{Renewal}
 use Rattle.kept_edits.proofs.Changing.{marked, marked_is}
 use Rattle.kept_edits.proofs.Lists.{insert_removed, remove_inserted, set_back, some_at}
 
@@ -24,9 +25,9 @@ use Rattle.kept_edits.proofs.Lists.{insert_removed, remove_inserted, set_back, s
 pub unmarked_out : (memo : Memo) → is_unmarked memo ≡ (not (is_some (out-Memo memo).former) && list_all (λ b. b) (map is_unmarked (out-Memo memo).below))
 unmarked_out = fold_out-Memo Bool unmarked_layer
 
-none_there : (found : Option Facts) → not (is_some found) ≡ true → found ≡ None
+none_there : (found : Option Former) → not (is_some found) ≡ true → found ≡ None
 none_there None h = refl
-none_there (Some own) h = absurd (true≢false (sym h))
+none_there (Some was) h = absurd (true≢false (sym h))
 
 pub former_none : (memo : Memo) → is_unmarked memo ≡ true → (out-Memo memo).former ≡ None
 former_none memo h =
@@ -46,7 +47,7 @@ below_unmarked memo i kept h at =
 -- ---- one memo
 
 abbrev clear : Memo-F Memo → Memo-F Memo
-clear layer = record { former = None; facts = unwrap_or layer.former layer.facts; entries = layer.entries; below = layer.below }
+clear layer = record { former = None; facts = option_map_or (λ former. former.facts) layer.former layer.facts; entries = layer.entries; below = layer.below }
 
 abbrev over : Memo-F Memo → List Memo → Memo
 over layer below = roll-Memo record { former = layer.former; facts = layer.facts; entries = layer.entries; below = below }
@@ -57,10 +58,10 @@ cleared layer below =
     ap (λ (l : Memo-F Memo). with_below (roll-Memo (clear l)) below) (out-roll-Memo layer)
     ∙ ap (λ (l : Memo-F Memo). over l below) (out-roll-Memo (clear layer))
 
-as_before : (memo : Memo) (own : Facts) (between : List Memo) → (out-Memo memo).former ≡ None
+as_before : (memo : Memo) (own : Renewal) (between : List Memo) → (out-Memo memo).former ≡ None
     → over (clear (marked memo own between)) (out-Memo memo).below ≡ memo
 as_before memo own between none =
-    ap (λ (o : Option Facts). roll-Memo record { former = o; facts = (out-Memo memo).facts; entries = (out-Memo memo).entries; below = (out-Memo memo).below }) (sym none)
+    ap (λ (o : Option Former). roll-Memo record { former = o; facts = (out-Memo memo).facts; entries = (out-Memo memo).entries; below = (out-Memo memo).below }) (sym none)
     ∙ roll-out-Memo memo
 
 -- ---- the memos of an element's children
@@ -78,12 +79,12 @@ back_below (SwapMemo index memo) below room f =
 
 -- ---- at the end of a path
 
-back_at : (path : List ℕ) (memo : Memo) (change : MemoChange) (known : List Facts) (room : ℕ) → is_unmarked memo ≡ true → FitsMemo change path memo
+back_at : (path : List ℕ) (memo : Memo) (change : MemoChange) (known : List Renewal) (room : ℕ) → is_unmarked memo ≡ true → FitsMemo change path memo
     → undone_memo (back_of change (taken_from change path memo) room) path (changed_memo change known path memo) ≡ memo
 back_at [] memo change known room none fits =
     let below : List Memo = (out-Memo memo).below in
     let back : MemoChange = back_of change (taken_below change below) room in
-    let own : Facts = get_or known 0 (own_facts memo) in
+    let own : Renewal = get_or known 0 (seen_anew (own_facts memo)) in
     let between : List Memo = changed_below change below in
     let layer : Memo-F Memo = marked memo own between in
     ap (undone_memo back []) (marked_is memo own between)
@@ -95,7 +96,7 @@ back_at (place ∷ path) memo change known room none fits =
     let below : List Memo = (out-Memo memo).below in
     let kept : Memo = fits.0 in
     let at : slice_get below place ≡ Some kept = fits.1 in
-    let own : Facts = get_or known (length (place ∷ path)) (own_facts memo) in
+    let own : Renewal = get_or known (length (place ∷ path)) (seen_anew (own_facts memo)) in
     let kept' : Memo = changed_memo change known path kept in
     let between : List Memo = set below place kept' in
     let layer : Memo-F Memo = marked memo own between in

@@ -14,9 +14,9 @@ use Rattle.tree_edits.specs.Paths.{Fits, FitsAt, changed, changed_at, children_o
 use Rattle.tree_edits.specs.declared.change.Change.{Change}
 use Rattle.tree_edits.specs.declared.change.Change.TheVariants.{SetText, SetValue, PutChild, TakeChild, SwapChild}
 use Rattle.embellished.specs.Facts.{facts}
-use Rattle.embellished.specs.declared.facts.Facts.{Facts}
+use Rattle.embellished.specs.Seen.{kid_of}
 use Rattle.kept_results.specs.Ends.{not_fresh, stripped}
-use Rattle.kept_results.specs.Kept.{AreApart, IsMemoOf, is_live}
+use Rattle.kept_results.specs.Kept.{AreApart, AsksTheSame, IsMemoOf, is_live}
 use Rattle.kept_results.specs.Looking.{own_facts}
 use Rattle.kept_results.specs.declared.memo.Entry.{Entry}
 use Rattle.kept_results.specs.declared.memo.Memo.{Memo}
@@ -25,10 +25,12 @@ use Rattle.kept_results.specs.declared.memo.Memo.TheViews.{out-Memo, out-roll-Me
 use Rattle.kept_results.proofs.Agreement.{agrees_child, agrees_made}
 use Rattle.kept_results.proofs.Counts.{stripped_out, stripped_roll}
 use Rattle.kept_results.proofs.Lists.{set_here}
-use Rattle.kept_edits.specs.Changed.{changed_below, changed_memo, renewed, renewed_on, with_below}
+use Rattle.kept_edits.specs.Changed.{changed_below, changed_memo, renewed, renewed_on, seen_anew, with_below}
 use Rattle.kept_edits.specs.Laws.{ChangeLaw, IsReadyFor, IsSame, KnownOn}
 use Rattle.kept_edits.specs.declared.change.MemoChange.{MemoChange}
 use Rattle.kept_edits.specs.declared.change.MemoChange.TheVariants.{Stay, PutMemo, TakeMemo, SwapMemo}
+use Rattle.kept_edits.specs.declared.change.Renewal.{Renewal}
+use Rattle.kept_edits.proofs.Alike.{asks_still, kid_stays, seen_stays}
 use Rattle.kept_edits.proofs.Lists.{both_insert, both_remove, both_set, length_insert, length_remove, same_all, some_at}
 
 -- ---- no entry is fresh
@@ -86,10 +88,15 @@ below_plain memo place kept h at =
 
 -- ---- a marked memo
 
-abbrev pub marked : Memo → Facts → List Memo → Memo-F Memo
-marked memo own below = record { former = Some (own_facts memo); facts = own; entries = (out-Memo memo).entries; below = below }
+abbrev pub marked : Memo → Renewal → List Memo → Memo-F Memo
+marked memo own below = record {
+  former = Some record { facts = own_facts memo; alike = own.alike };
+  facts = own.facts;
+  entries = (out-Memo memo).entries;
+  below = below;
+}
 
-pub marked_is : (memo : Memo) (own : Facts) (below : List Memo) → with_below (renewed own memo) below ≡ roll-Memo (marked memo own below)
+pub marked_is : (memo : Memo) (own : Renewal) (below : List Memo) → with_below (renewed own memo) below ≡ roll-Memo (marked memo own below)
 marked_is memo own below =
     ap (λ (l : Memo-F Memo). roll-Memo record { former = l.former; facts = l.facts; entries = l.entries; below = below })
     (out-roll-Memo (marked memo own (out-Memo memo).below))
@@ -168,9 +175,13 @@ module _ (m : MetricsValue) where
 
   -- ---- where it agrees
 
-  marked_ready : (node : Node) (memo : Memo) (own : Facts) (below : List Memo) → stripped memo ≡ memo → own ≡ facts node → Paired (children_of node) below
-      → IsReadyFor m node (with_below (renewed own memo) below)
-  marked_ready node memo own below h is pairs =
+  -- what its entries asked is what the element asks now
+  abbrev AskTheSame : Node → Memo → Type 0
+  AskTheSame node memo = (i : ℕ) (entry : Entry) → slice_get (out-Memo memo).entries i ≡ Some entry → AsksTheSame m node entry
+
+  marked_ready : (node : Node) (memo : Memo) (own : Renewal) (below : List Memo) → stripped memo ≡ memo → own.facts ≡ facts node → (own.alike ≡ true → AskTheSame node memo)
+      → Paired (children_of node) below → IsReadyFor m node (with_below (renewed own memo) below)
+  marked_ready node memo own below h is alike pairs =
       let layer : Memo-F Memo = marked memo own below in
       let none = none_fresh (out-Memo memo).entries (entries_plain memo h) in
       let here : IsMemoOf m node layer = record {
@@ -178,6 +189,7 @@ module _ (m : MetricsValue) where
         as_many = pairs.as_many;
         sound = λ entry has. absurd (no_live (out-Memo memo).entries has.place entry none has.at has.live);
         apart = none_apart (out-Memo memo).entries none;
+        same = alike;
       } in
       let agrees = agrees_made m node layer here (λ i child kept a b. (pairs.each i child kept a b).agrees) in
       let all : map stripped below ≡ below = same_all stripped below (λ i kept at.
@@ -185,7 +197,7 @@ module _ (m : MetricsValue) where
       let there = some_at (children_of node) i (omega (arith, slice_get_within below i kept at, l)) in
       (pairs.each i there.0 kept there.1 at).plain) in
       let plain : stripped (roll-Memo layer) ≡ roll-Memo layer =
-      stripped_roll layer ∙ (λ i. roll-Memo record { former = Some (own_facts memo); facts = own; entries = entries_plain memo h i; below = all i }) in
+      stripped_roll layer ∙ (λ i. roll-Memo record { former = layer.former; facts = own.facts; entries = entries_plain memo h i; below = all i }) in
       subst (IsReadyFor m node) (sym (marked_is memo own below)) record { agrees = agrees; plain = plain }
 
   -- ---- at the end of a path
@@ -198,15 +210,17 @@ module _ (m : MetricsValue) where
   child_on change place path None element at fits = absurd (none-some element at)
   child_on change place path (Some child) element at fits = (child, refl, record { element = element; at = at; fits = fits })
 
-  own_at : (known : List Facts) (n : ℕ) (own d : Facts) → slice_get known n ≡ Some own → get_or known n d ≡ own
+  own_at : (known : List Renewal) (n : ℕ) (own d : Renewal) → slice_get known n ≡ Some own → get_or known n d ≡ own
   own_at known n own d h = get_or_from_slice_get known n own d h
 
-  change_at : (path : List ℕ) (node : Node) (memo : Memo) (change : Change) (other : MemoChange) (known : List Facts) → IsReadyFor m node memo → FitsAt change path node
-      → IsSame m change other → KnownOn known path (after change path node) → IsReadyFor m (after change path node) (changed_memo other known path memo)
+  change_at : (path : List ℕ) (node : Node) (memo : Memo) (change : Change) (other : MemoChange) (known : List Renewal) → IsReadyFor m node memo → FitsAt change path node
+      → IsSame m change other → KnownOn known path (after change path node) memo → IsReadyFor m (after change path node) (changed_memo other known path memo)
   change_at [] node memo change other known h fits same is =
       let fits_here = subst (Fits change) (sym (same_Some node fits.element fits.at)) fits.fits in
-      marked_ready (changed change node) memo (get_or known 0 (own_facts memo)) (changed_below other (out-Memo memo).below) h.plain
-      (own_at known 0 (facts (changed change node)) (own_facts memo) is)
+      let own_is = own_at known 0 (seen_anew (facts (changed change node))) (seen_anew (own_facts memo)) is in
+      marked_ready (changed change node) memo (get_or known 0 (seen_anew (own_facts memo))) (changed_below other (out-Memo memo).below) h.plain
+      (ap (λ (own : Renewal). own.facts) own_is)
+      (λ alike. absurd (true≢false (sym alike ∙ ap (λ (own : Renewal). own.alike) own_is)))
       (paired_changed node (out-Memo memo).below change other fits_here same (paired node memo h))
   change_at (place ∷ path) node memo change other known h fits same is =
       let nodes : List Node = children_of node in
@@ -224,12 +238,19 @@ module _ (m : MetricsValue) where
       ap (λ (o : Option Node). option_map_or (λ z. node_of (head_of node) (set nodes place (after change path z))) o node) c.1 in
       let memo_is : changed_memo other known (place ∷ path) memo ≡ with_below (renewed_on known (place ∷ path) memo) (set below place kept') =
       ap (λ (o : Option Memo). with_below (renewed_on known (place ∷ path) memo) (option_map_or (λ z. set below place (changed_memo other known path z)) o below)) k.1 in
-      let known_made = subst (KnownOn known (place ∷ path)) node_is is in
+      let known_made = subst (λ (n : Node). KnownOn known (place ∷ path) n memo) node_is is in
       let there : slice_get (out-Node made).children place ≡ Some child' =
       ap (λ (z : Node-F Node). slice_get z.children place) (out-roll-Node record { head = head_of node; children = set nodes place child' }) ∙ set_here nodes place child' child c.1 in
-      let ready = change_at path child kept change other known (pairs.each place child kept c.1 k.1) c.2 same (known_made.1 child' there) in
-      let whole = marked_ready made memo (get_or known (length (place ∷ path)) (own_facts memo)) (set below place kept') h.plain
-      (own_at known (length (place ∷ path)) (facts made) (own_facts memo) known_made.0)
+      let ready_child = pairs.each place child kept c.1 k.1 in
+      let ready = change_at path child kept change other known ready_child c.2 same (known_made.4 child' kept there k.1) in
+      let own_is = own_at known (length (place ∷ path)) known_made.0 (seen_anew (own_facts memo)) known_made.1 in
+      let alike : known_made.0.alike ≡ true → AskTheSame made memo = λ is_alike.
+      let a = known_made.3 is_alike in
+      let kid : kid_of child' ≡ kid_of child = kid_stays change path child a.deeper (a.child_is child' kept there k.1 ∙ (ready_child.agrees.at [] child kept (refl, refl)).facts_are) in
+      asks_still m node made memo h a.unmarked (seen_stays node place child child' c.1 kid) in
+      let whole = marked_ready made memo (get_or known (length (place ∷ path)) (seen_anew (own_facts memo))) (set below place kept') h.plain
+      (ap (λ (own : Renewal). own.facts) own_is ∙ known_made.2)
+      (λ x. alike (ap (λ (own : Renewal). own.alike) (sym own_is) ∙ x))
       (of_parts (head_of node) (set nodes place child') (set below place kept') (paired_set nodes below place child' kept' pairs ready)) in
       subst (λ (n : Node). IsReadyFor m n (changed_memo other known (place ∷ path) memo)) (sym node_is)
       (subst (IsReadyFor m made) (sym memo_is) whole)

@@ -74,4 +74,4 @@ parent_edit_law tree edit path element place child whole over at there has = rec
 pub follow_law : FollowLaw
 follow_law m tree edit change other path known memo is same ready on =
     subst (λ (n : Node). IsReadyFor m n (changed_memo other known path memo)) (sym is.gives)
-    (change_law m tree.root memo change other path known ready is.fits same (subst (KnownOn known path) is.gives on))
+    (change_law m tree.root memo change other path known ready is.fits same (subst (λ (n : Node). KnownOn known path n memo) is.gives on))

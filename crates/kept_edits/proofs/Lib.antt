@@ -1,3 +1,4 @@
+mod Alike
 pub mod Backwards
 pub mod Changing
 pub mod EditEnds

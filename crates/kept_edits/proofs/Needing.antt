@@ -6,7 +6,6 @@ use Rattle.font_metrics.specs.Metrics.{MetricsValue}
 use Rattle.math_tree.specs.declared.node.Node.{Node}
 use Rattle.tree_edits.specs.declared.change.Change.{Change}
 use Rattle.tree_edits.specs.declared.change.Change.TheVariants.{SetText, SetValue, PutChild, TakeChild, SwapChild}
-use Rattle.embellished.specs.declared.facts.Facts.{Facts}
 use Rattle.layout_model.specs.declared.context.Context.{Context}
 use Rattle.kept_results.specs.Kept.{Holds, HoldsIn}
 use Rattle.kept_results.specs.Looking.{own_facts}
@@ -17,11 +16,12 @@ use Rattle.kept_results.specs.declared.memo.Memo.TheOpen.{Memo-F}
 use Rattle.kept_results.specs.declared.memo.Memo.TheViews.{out-Memo, out-roll-Memo, roll-Memo}
 use Rattle.kept_results.proofs.Lists.{all_then, set_here, still_cases}
 use Rattle.kept_results.proofs.Whole.{kept_law}
-use Rattle.kept_edits.specs.Changed.{FitsBelow, FitsMemo, changed_below, changed_memo, renewed, with_below}
+use Rattle.kept_edits.specs.Changed.{FitsBelow, FitsMemo, changed_below, changed_memo, renewed, with_below, seen_anew}
 use Rattle.kept_edits.specs.Laws.{IsSame}
 use Rattle.kept_edits.specs.Need.{CameFrom, CountedLaw, IsCounted, IsMoved, IsSealedFor, StaysLaw}
 use Rattle.kept_edits.specs.declared.change.MemoChange.{MemoChange}
 use Rattle.kept_edits.specs.declared.change.MemoChange.TheVariants.{Stay, PutMemo, TakeMemo, SwapMemo}
+use Rattle.kept_edits.specs.declared.change.Renewal.{Renewal}
 use Rattle.kept_edits.proofs.Changing.{marked, marked_is}
 
 -- ---- places in a changed list
@@ -99,18 +99,18 @@ still_there m below (SwapChild index child) (TakeMemo place) before after kept f
 -- ---- entries at paths
 
 -- what the memo of a child holds, the memo over it holds
-held_below : (memo whole : Memo) (own : Facts) (below : List Memo) (place : ℕ) (path : List ℕ) (kept : Memo) (entry : Entry) → whole ≡ roll-Memo (marked memo own below)
+held_below : (memo whole : Memo) (own : Renewal) (below : List Memo) (place : ℕ) (path : List ℕ) (kept : Memo) (entry : Entry) → whole ≡ roll-Memo (marked memo own below)
     → slice_get below place ≡ Some kept → Holds path kept entry → Holds (place ∷ path) whole entry
 held_below memo whole own below place path kept entry e at h =
     subst (λ (l : Memo-F Memo). HoldsIn (place ∷ path) l entry) (sym (ap out-Memo e ∙ out-roll-Memo (marked memo own below))) (kept, at, h)
 
-stays_at : (m : MetricsValue) (path : List ℕ) (memo : Memo) (change : Change) (other : MemoChange) (known : List Facts) (from to : List ℕ) (entry : Entry)
+stays_at : (m : MetricsValue) (path : List ℕ) (memo : Memo) (change : Change) (other : MemoChange) (known : List Renewal) (from to : List ℕ) (entry : Entry)
     → FitsMemo other path memo → IsSame m change other → CameFrom path change from to → Holds from memo entry → Holds to (changed_memo other known path memo) entry
 stays_at m [] memo change other known [] to entry fits same came h = absurd came
 stays_at m [] memo change other known (before ∷ from) [] entry fits same came h = absurd came
 stays_at m [] memo change other known (before ∷ from) (after ∷ to) entry fits same came h =
     let below : List Memo = (out-Memo memo).below in
-    let own : Facts = get_or known 0 (own_facts memo) in
+    let own : Renewal = get_or known 0 (seen_anew (own_facts memo)) in
     let kept : Memo = h.0 in
     held_below memo (changed_memo other known [] memo) own (changed_below other below) after to kept entry (marked_is memo own (changed_below other below))
     (still_there m below change other before after kept fits same came.0 h.1) (subst (λ (p : List ℕ). Holds p kept entry) came.1 h.2)
@@ -118,7 +118,7 @@ stays_at m (place ∷ path) memo change other known [] to entry fits same came h
 stays_at m (place ∷ path) memo change other known (before ∷ from) [] entry fits same came h = absurd came
 stays_at m (place ∷ path) memo change other known (before ∷ from) (after ∷ to) entry fits same came h =
     let below : List Memo = (out-Memo memo).below in
-    let own : Facts = get_or known (length (place ∷ path)) (own_facts memo) in
+    let own : Renewal = get_or known (length (place ∷ path)) (seen_anew (own_facts memo)) in
     let turned : Memo = changed_memo other known path fits.0 in
     let made : changed_memo other known (place ∷ path) memo ≡ roll-Memo (marked memo own (set below place turned)) =
     ap (λ (o : Option Memo). with_below (renewed own memo) (option_map_or (λ z. set below place (changed_memo other known path z)) o below)) fits.1
@@ -139,7 +139,7 @@ stays_law m memo change other path known from to entry fits same came h = stays_
 
 -- ---- what is missing then is counted
 
-pub missing_counted : (m : MetricsValue) (node : Node) (context : Context) (memo : Memo) (change : Change) (other : MemoChange) (path : List ℕ) (known : List Facts)
+pub missing_counted : (m : MetricsValue) (node : Node) (context : Context) (memo : Memo) (change : Change) (other : MemoChange) (path : List ℕ) (known : List Renewal)
     → IsSealedFor m node context memo → FitsMemo other path memo → IsSame m change other
     → (pair : Pair) → IsPairMissing (changed_memo other known path memo) pair → IsCounted m path change node context pair
 missing_counted m node context memo change other path known sealed fits same pair missing from came need =

@@ -1,5 +1,5 @@
 -- What the elements on the way to a changed one are.
-use Rattle.std.proofs.Common.{◌≡◌, ◌∙◌, refl, sym, ap, subst, ℕ, ◌+◌, ◌-◌, arith, List, [], ◌∷◌, ◌++◌, drop, get_or, length, length-append, map, set, take, Option, Some, slice_get}
+use Rattle.std.proofs.Common.{◌≡◌, ◌∙◌, refl, sym, ap, subst, ℕ, ◌+◌, ◌-◌, ◌<◌, arith, true, false, true≢false, List, [], ◌∷◌, ◌++◌, drop, get_or, length, length-append, length-drop, length-take, map, set, take, Option, Some, slice_get}
 use Rattle.std.proofs.lemmas.List.{map-set, take_all}
 use Rattle.std.proofs.lemmas.Option.{get_or_from_slice_get, same_Some, slice_get_within}
 use Rattle.std.specs.Option.{option_map_or}
@@ -11,44 +11,65 @@ use Rattle.math_tree.specs.declared.node.Node.TheViews.{out-Node, out-roll-Node}
 use Rattle.tree_edits.specs.Edits.{head_of}
 use Rattle.tree_edits.specs.Paths.{Fits, FitsAt, changed, changed_at, children_of}
 use Rattle.tree_edits.specs.declared.change.Change.{Change}
-use Rattle.embellished.specs.Facts.{facts}
+use Rattle.embellished.specs.Facts.{facts, facts_over}
 use Rattle.embellished.specs.declared.facts.Facts.{Facts}
+use Rattle.embellished.proofs.Nodes.{facts_out}
+use Rattle.kept_results.specs.Kept.{is_marked}
 use Rattle.kept_results.specs.Looking.{own_facts}
 use Rattle.kept_results.specs.declared.memo.Memo.{Memo}
 use Rattle.kept_results.specs.declared.memo.Memo.TheViews.{out-Memo}
 use Rattle.kept_results.proofs.Lists.{pushed, set_here, still_first}
 use Rattle.kept_results.proofs.Turns.{facts_known}
-use Rattle.kept_edits.specs.Changed.{changed_below}
+use Rattle.kept_edits.specs.Changed.{changed_below, seen_anew}
 use Rattle.kept_edits.specs.Known.{BesideLaw, IsBeside, IsKnownOn}
-use Rattle.kept_edits.specs.Laws.{IsReadyFor, IsSame, KnownOn}
+use Rattle.kept_edits.specs.Laws.{IsAlike, IsReadyFor, IsSame, KnownOn}
 use Rattle.kept_edits.specs.declared.change.MemoChange.{MemoChange}
+use Rattle.kept_edits.specs.declared.change.Renewal.{Renewal}
+use Rattle.kept_edits.proofs.Alike.{map_same}
 use Rattle.kept_edits.proofs.Changing.{Paired, child_on, paired, paired_changed}
 use Rattle.kept_edits.proofs.Lists.{mapped_same, some_at}
 
 -- ---- one element more is known
 
-still_on : (known more : List Facts) (path : List ℕ) (node : Node) → KnownOn known path node → KnownOn (known ++ more) path node
-still_on known more [] node h = still_first known more 0 (facts node) h
-still_on known more (place ∷ path) node h =
-    (still_first known more (length (place ∷ path)) (facts node) h.0, λ child at. still_on known more path child (h.1 child at))
+still_on : (known more : List Renewal) (path : List ℕ) (node : Node) (memo : Memo) → KnownOn known path node memo → KnownOn (known ++ more) path node memo
+still_on known more [] node memo h = still_first known more 0 (seen_anew (facts node)) h
+still_on known more (place ∷ path) node memo h = (
+  h.0,
+  still_first known more (length (place ∷ path)) h.0 h.1,
+  h.2,
+  h.3,
+  λ child kept at memo_at. still_on known more path child kept (h.4 child kept at memo_at),
+)
 
-pub known_here : (node : Node) (known before : List Facts) (path : List ℕ) → length path ≡ 0 → before ≡ [] → known ≡ before ++ facts node ∷ [] → IsKnownOn path node known
-known_here node known before [] z b e =
-    let is : known ≡ facts node ∷ [] = e ∙ ap (λ (l : List Facts). l ++ facts node ∷ []) b in
-    record { on = ap (λ (l : List Facts). slice_get l 0) is; as_many = ap length is }
-known_here node known before (place ∷ path) z b e = absurd (omega (arith, z))
+pub known_here : (node : Node) (memo : Memo) (known before : List Renewal) (path : List ℕ) → length path ≡ 0 → before ≡ [] → known ≡ before ++ seen_anew (facts node) ∷ []
+    → IsKnownOn path node memo known
+known_here node memo known before [] z b e =
+    let is : known ≡ seen_anew (facts node) ∷ [] = e ∙ ap (λ (l : List Renewal). l ++ seen_anew (facts node) ∷ []) b in
+    record { on = ap (λ (l : List Renewal). slice_get l 0) is; as_many = ap length is }
+known_here node memo known before (place ∷ path) z b e = absurd (omega (arith, z))
 
-further_on : (node child : Node) (known before : List Facts) (place : ℕ) (path : List ℕ) → slice_get (out-Node node).children place ≡ Some child
-    → IsKnownOn path child before → known ≡ before ++ facts node ∷ [] → IsKnownOn (place ∷ path) node known
-further_on node child known before place path at h e =
+-- what an element on the way is, over what is known of the child there
+pub record IsOwn (node : Node) (memo : Memo) (place : ℕ) (path : List ℕ) (own : Renewal) : Type 0 where
+  pub facts_are : own.facts ≡ facts node
+  pub alike : own.alike ≡ true → IsAlike place path node memo
+
+further_on : (node child : Node) (memo kept : Memo) (known before : List Renewal) (own : Renewal) (place : ℕ) (path : List ℕ) → slice_get (out-Node node).children place ≡ Some child
+    → slice_get (out-Memo memo).below place ≡ Some kept → IsKnownOn path child kept before → IsOwn node memo place path own → known ≡ before ++ own ∷ []
+    → IsKnownOn (place ∷ path) node memo known
+further_on node child memo kept known before own place path at memo_at h is e =
     let n : length before ≡ length (place ∷ path) = omega (arith, h.as_many) in
     record {
       on = (
-        ap (λ (l : List Facts). slice_get l (length (place ∷ path))) e ∙ ap (slice_get (before ++ facts node ∷ [])) (sym n) ∙ pushed before (facts node),
-        λ other there. subst (λ (c : Node). KnownOn known path c) (same_Some child other (sym at ∙ there))
-            (subst (λ (l : List Facts). KnownOn l path child) (sym e) (still_on before (facts node ∷ []) path child h.on)),
+        own,
+        ap (λ (l : List Renewal). slice_get l (length (place ∷ path))) e ∙ ap (slice_get (before ++ own ∷ [])) (sym n) ∙ pushed before own,
+        is.facts_are,
+        is.alike,
+        λ other beside there memo_there.
+            subst (λ (c : Node). KnownOn known path c beside) (same_Some child other (sym at ∙ there))
+            (subst (KnownOn known path child) (same_Some kept beside (sym memo_at ∙ memo_there))
+            (subst (λ (l : List Renewal). KnownOn l path child kept) (sym e) (still_on before (own ∷ []) path child kept h.on))),
       );
-      as_many = let a = h.as_many in let b = ap length e in let c = length-append before (facts node ∷ []) in omega (arith, a, b, c);
+      as_many = let a = h.as_many in let b = ap length e in let c = length-append before (own ∷ []) in omega (arith, a, b, c);
     }
 
 abbrev rest_of : List ℕ → List ℕ
@@ -58,10 +79,34 @@ split : (path : List ℕ) → (length path ≡ 0 → ⊥) → path ≡ get_or pa
 split [] h = absurd (h refl)
 split (place ∷ path) h = ap (λ (l : List ℕ). place ∷ l) (sym (take_all (length (place ∷ path) - 1) path (omega arith)))
 
-pub known_further : (node child : Node) (known before : List Facts) (path : List ℕ) → (length path ≡ 0 → ⊥) → slice_get (out-Node node).children (get_or path 0 0) ≡ Some child
-    → IsKnownOn (take (length path - 1) (drop 1 path)) child before → known ≡ before ++ facts node ∷ [] → IsKnownOn path node known
-known_further node child known before path some at h e =
-    subst (λ (p : List ℕ). IsKnownOn p node known) (sym (split path some)) (further_on node child known before (get_or path 0 0) (rest_of path) at h e)
+pub known_further : (node child : Node) (memo kept : Memo) (known before : List Renewal) (own : Renewal) (path : List ℕ) → (length path ≡ 0 → ⊥)
+    → slice_get (out-Node node).children (get_or path 0 0) ≡ Some child → slice_get (out-Memo memo).below (get_or path 0 0) ≡ Some kept
+    → IsKnownOn (take (length path - 1) (drop 1 path)) child kept before → IsOwn node memo (get_or path 0 0) (take (length path - 1) (drop 1 path)) own
+    → known ≡ before ++ own ∷ [] → IsKnownOn path node memo known
+known_further node child memo kept known before own path some at memo_at h is e =
+    subst (λ (p : List ℕ). IsKnownOn p node memo known) (sym (split path some)) (further_on node child memo kept known before own (get_or path 0 0) (rest_of path) at memo_at h is e)
+
+-- that of an element of which layout may see something else
+pub own_anew : (node : Node) (memo : Memo) (place : ℕ) (path : List ℕ) → IsOwn node memo place path (seen_anew (facts node))
+own_anew node memo place path = record { facts_are = refl; alike = λ h. absurd (true≢false (sym h)) }
+
+-- that of one of which it sees the same
+pub own_alike : (node child : Node) (memo kept : Memo) (path : List ℕ) (own : Renewal) → 1 < length path → is_marked (out-Memo memo) ≡ false
+    → slice_get (out-Node node).children (get_or path 0 0) ≡ Some child → slice_get (out-Memo memo).below (get_or path 0 0) ≡ Some kept
+    → facts child ≡ own_facts kept → (facts child ≡ own_facts kept → facts node ≡ own_facts memo) → own.facts ≡ own_facts memo
+    → IsOwn node memo (get_or path 0 0) (take (length path - 1) (drop 1 path)) own
+own_alike node child memo kept path own deep unmarked at memo_at same all is =
+    let one = length-take (length path - 1) (drop 1 path) in
+    let two = length-drop 1 path in
+    record {
+      facts_are = is ∙ sym (all same);
+      alike = λ h. record {
+        unmarked = unmarked;
+        deeper = omega (arith, one, two, deep);
+        child_is = λ other beside there memo_there.
+            ap facts (same_Some other child (sym there ∙ at)) ∙ same ∙ ap own_facts (same_Some kept beside (sym memo_at ∙ memo_there));
+      };
+    }
 
 -- the child on the way
 pub record IsBesideFurther (change : MemoChange) (path : List ℕ) (node : Node) (memo : Memo) : Type 0 where
@@ -70,12 +115,13 @@ pub record IsBesideFurther (change : MemoChange) (path : List ℕ) (node : Node)
   pub at : slice_get (out-Node node).children (get_or path 0 0) ≡ Some child
   pub memo_at : slice_get (out-Memo memo).below (get_or path 0 0) ≡ Some kept
   pub kids : set (map own_facts (out-Memo memo).below) (get_or path 0 0) (facts child) ≡ map facts (out-Node node).children
+  pub same : facts child ≡ own_facts kept → facts node ≡ own_facts memo
   pub beside : IsBeside change (take (length path - 1) (drop 1 path)) child kept
 
 pub beside_further : (change : MemoChange) (path : List ℕ) (node : Node) (memo : Memo) → (length path ≡ 0 → ⊥) → IsBeside change path node memo → IsBesideFurther change path node memo
 beside_further change path node memo some h =
     let b = subst (λ (p : List ℕ). IsBeside change p node memo) (split path some) h in
-    record { child = b.0; kept = b.1; at = b.2; memo_at = b.3; kids = b.4; beside = b.5 }
+    record { child = b.0; kept = b.1; at = b.2; memo_at = b.3; kids = b.4; same = b.5; beside = b.6 }
 
 pub beside_here : (change : MemoChange) (path : List ℕ) (node : Node) (memo : Memo) → length path ≡ 0 → IsBeside change path node memo
     → map own_facts (changed_below change (out-Memo memo).below) ≡ map facts (out-Node node).children
@@ -84,27 +130,30 @@ beside_here change (place ∷ path) node memo z h = absurd (omega (arith, z))
 
 -- ---- what is known of the child on the way stands last
 
-own_last : (known : List Facts) (path : List ℕ) (node : Node) (d : Facts) → KnownOn known path node → get_or known (length path) d ≡ facts node
-own_last known [] node d h = get_or_from_slice_get known 0 (facts node) d h
-own_last known (place ∷ path) node d h = get_or_from_slice_get known (length (place ∷ path)) (facts node) d h.0
+own_last : (known : List Renewal) (path : List ℕ) (node : Node) (memo : Memo) (d : Renewal) → KnownOn known path node memo → (get_or known (length path) d).facts ≡ facts node
+own_last known [] node memo d h = ap (λ (own : Renewal). own.facts) (get_or_from_slice_get known 0 (seen_anew (facts node)) d h)
+own_last known (place ∷ path) node memo d h = ap (λ (own : Renewal). own.facts) (get_or_from_slice_get known (length (place ∷ path)) h.0 d h.1) ∙ h.2
 
-pub last_known : (known : List Facts) (path : List ℕ) (child : Node) (d : Facts) → (length path ≡ 0 → ⊥) → IsKnownOn (take (length path - 1) (drop 1 path)) child known
-    → get_or known (length path - 1) d ≡ facts child
-last_known known path child d some h =
+pub last_known : (known : List Renewal) (path : List ℕ) (child : Node) (kept : Memo) (d : Renewal) → (length path ≡ 0 → ⊥) → IsKnownOn (take (length path - 1) (drop 1 path)) child kept known
+    → (get_or known (length path - 1) d).facts ≡ facts child
+last_known known path child kept d some h =
     let n : length path ≡ length (rest_of path) + 1 = omega (arith, ap length (split path some)) in
     let m : length path - 1 ≡ length (rest_of path) = omega (arith, n) in
-    ap (λ i. get_or known i d) m ∙ own_last known (rest_of path) child d h.on
+    ap (λ i. (get_or known i d).facts) m ∙ own_last known (rest_of path) child kept d h.on
+
+-- the same, where the list was read
+pub last_read : (list known : List Renewal) (path : List ℕ) (child other : Node) (kept : Memo) (d : Renewal) → (length path ≡ 0 → ⊥) → list ≡ known
+    → IsKnownOn (take (length path - 1) (drop 1 path)) other kept known → child ≡ other → (get_or list (length path - 1) d).facts ≡ facts child
+last_read list known path child other kept d some l h same =
+    ap (λ (k : List Renewal). (get_or k (length path - 1) d).facts) l ∙ last_known known path other kept d some h ∙ ap facts (sym same)
 
 -- the children of an element on the way are known, when that on the way is
-pub kids_are : (kids list known : List Facts) (below : List Memo) (node child other : Node) (path : List ℕ) (d : Facts) → (length path ≡ 0 → ⊥)
-    → kids ≡ set (map own_facts below) (get_or path 0 0) (get_or list (length path - 1) d) → list ≡ known
-    → IsKnownOn (take (length path - 1) (drop 1 path)) other known → child ≡ other
+pub kids_are : (kids : List Facts) (list known : List Renewal) (below : List Memo) (node child other : Node) (kept : Memo) (path : List ℕ) (d : Renewal) → (length path ≡ 0 → ⊥)
+    → kids ≡ set (map own_facts below) (get_or path 0 0) (get_or list (length path - 1) d).facts → list ≡ known
+    → IsKnownOn (take (length path - 1) (drop 1 path)) other kept known → child ≡ other
     → set (map own_facts below) (get_or path 0 0) (facts child) ≡ map facts (out-Node node).children → kids ≡ map facts (out-Node node).children
-kids_are kids list known below node child other path d some e l h same all =
-    e
-    ∙ ap (set (map own_facts below) (get_or path 0 0))
-    (ap (λ (k : List Facts). get_or k (length path - 1) d) l ∙ last_known known path other d some h ∙ ap facts (sym same))
-    ∙ all
+kids_are kids list known below node child other kept path d some e l h same all =
+    e ∙ ap (set (map own_facts below) (get_or path 0 0)) (last_read list known path child other kept d some l h same) ∙ all
 
 -- ---- memos that agree with the tree before
 
@@ -141,8 +190,13 @@ module _ (m : MetricsValue) where
       let kids : set (map own_facts below) place (facts child') ≡ map facts (out-Node made).children =
       ap (λ (f : List Facts). set f place (facts child')) (facts_known m node memo h.agrees) ∙ sym (map-set facts nodes place child')
       ∙ ap (λ (z : Node-F Node). map facts z.children) (sym out) in
+      let child_own = (pairs.each place child k.0 c.1 k.1).agrees.at [] child k.0 (refl, refl) in
+      let stays : facts child' ≡ own_facts k.0 → facts made ≡ own_facts memo = λ e.
+      facts_out made ∙ ap (λ (z : Node-F Node). facts_over z.head (map facts z.children)) out
+      ∙ ap (facts_over (head_of node)) (map_same facts nodes place child child' c.1 (e ∙ child_own.facts_are))
+      ∙ sym (facts_out node) ∙ sym (h.agrees.at [] node memo (refl, refl)).facts_are in
       let rest = beside_at path child k.0 change other (pairs.each place child k.0 c.1 k.1) c.2 same in
-      subst (λ (n : Node). IsBeside other (place ∷ path) n memo) (sym node_is) (child', k.0, there, k.1, kids, rest)
+      subst (λ (n : Node). IsBeside other (place ∷ path) n memo) (sym node_is) (child', k.0, there, k.1, kids, stays, rest)
 
 pub beside_law : BesideLaw
 beside_law m node memo change other path h fits same = beside_at m path node memo change other h fits same

@@ -1,5 +1,5 @@
 -- Memos of which nothing is kept.
-use Rattle.std.proofs.Common.{◌≡◌, ◌∙◌, refl, sym, ap, subst, ℕ, zero, suc, Bool, true, ◌&&◌, Some, None, List, [], ◌∷◌, length, map, slice_get, take, arith}
+use Rattle.std.proofs.Common.{◌≡◌, ◌∙◌, refl, sym, ap, subst, ℕ, zero, suc, Bool, true, ◌&&◌, Some, None, List, [], ◌∷◌, length, map, slice_get, take, arith, true≢false}
 use Rattle.std.proofs.lemmas.List.{length-map, take_all}
 use Rattle.std.proofs.lemmas.Option.{none-some, same_Some}
 use Rattle.std.specs.List.{AllByRecursion, list_all}
@@ -77,6 +77,7 @@ module _ (m : MetricsValue) where
         as_many = length-map nodes blank;
         sound = λ entry has. absurd (none-some entry has.at);
         apart = tt;
+        same = λ alike. absurd (true≢false (sym alike));
       } in
       let agrees = agrees_made m node layer here (λ i child kept a b. each_agrees nodes i child kept h a b) in
       let plain : stripped (roll-Memo layer) ≡ roll-Memo layer =

@@ -2,12 +2,12 @@
 use Rattle.std.proofs.Common.{◌≡◌, ◌∙◌, refl, sym, ap, subst, ℕ, ◌-◌, arith, List, [], ◌∷◌, drop, get_or, length, set, take, Option, Some, slice_get}
 use Rattle.std.proofs.lemmas.List.{take_all}
 use Rattle.std.specs.Option.{option_and_then, option_map_or}
-use Rattle.embellished.specs.declared.facts.Facts.{Facts}
 use Rattle.kept_results.specs.declared.memo.Memo.{Memo}
 use Rattle.kept_results.specs.declared.memo.Memo.TheOpen.{Memo-F}
 use Rattle.kept_results.specs.declared.memo.Memo.TheViews.{out-Memo, out-roll-Memo}
 use Rattle.kept_edits.specs.Changed.{FitsMemo, changed_below, taken_below, taken_from, turned, renewed, restored, with_below}
 use Rattle.kept_edits.specs.declared.change.MemoChange.{MemoChange}
+use Rattle.kept_edits.specs.declared.change.Renewal.{Renewal}
 
 -- a way that isn't empty is its first place and the rest
 split : (path : List ℕ) → (length path ≡ 0 → ⊥) → path ≡ get_or path 0 0 ∷ take (length path - 1) (drop 1 path)
@@ -35,7 +35,7 @@ pub fits_here : (change : MemoChange) (path : List ℕ) (memo : Memo) → length
 fits_here change [] memo z fits = fits
 fits_here change (place ∷ path) memo z fits = absurd (omega (arith, z))
 
-pub below_renewed : (own : Facts) (memo new : Memo) → new ≡ renewed own memo → (out-Memo new).below ≡ (out-Memo memo).below
+pub below_renewed : (own : Renewal) (memo new : Memo) → new ≡ renewed own memo → (out-Memo new).below ≡ (out-Memo memo).below
 below_renewed own memo new e = ap (λ (m : Memo). (out-Memo m).below) e ∙ ap (λ (l : Memo-F Memo). l.below) (out-roll-Memo _)
 
 pub below_restored : (memo new : Memo) → new ≡ restored memo → (out-Memo new).below ≡ (out-Memo memo).below

@@ -9,7 +9,7 @@ use Rattle.tree_edits.specs.Paths.{node_at}
 use Rattle.tree_edits.specs.declared.change.Change.{Change}
 use Rattle.tree_edits.specs.declared.change.Change.TheVariants.{SetText, SetValue, PutChild, TakeChild, SwapChild}
 use Rattle.tree_edits.specs.declared.edit.Edit.{Edit}
-use Rattle.embellished.specs.declared.facts.Facts.{Facts}
+use Rattle.kept_edits.specs.declared.change.Renewal.{Renewal}
 use Rattle.layout_model.specs.Layout.{Visit, root_context, visits}
 use Rattle.layout_model.specs.declared.context.Context.{Context}
 use Rattle.kept_results.specs.Passes.{HasNoRepeat, Needs, Pair}
@@ -105,7 +105,7 @@ NeedLaw = (m : MetricsValue) (tree : TreeValue) (edit : Edit) (change : Change) 
 
 -- and so are the steps of a pass after it
 abbrev pub PassNeedLaw : Type 0
-PassNeedLaw = (m : MetricsValue) (tree : TreeValue) (edit : Edit) (change : Change) (path : List ℕ) (memo : Memo) (other : MemoChange) (known : List Facts)
+PassNeedLaw = (m : MetricsValue) (tree : TreeValue) (edit : Edit) (change : Change) (path : List ℕ) (memo : Memo) (other : MemoChange) (known : List Renewal)
     (from to : ℕ) → IsEditAt tree edit change path → IsSealedFor m tree.root (context_at_root m tree) memo → FitsMemo other path memo → IsSame m change other →
     TakesMissing m (edited tree edit).root (context_at_root m (edited tree edit)) (changed_memo other known path memo) from to →
     TakesNeeded m tree edit from to

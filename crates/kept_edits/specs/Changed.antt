@@ -1,5 +1,5 @@
 -- The memos beside a tree of which one element is changed.
-use Rattle.std.specs.Prelude.{◌≡◌, ⊤, ℕ, ◌<◌, ◌≤◌, List, [], ◌∷◌, length, Option, Some, None, slice_get, slice_index_or, slice_set, unwrap_or}
+use Rattle.std.specs.Prelude.{◌≡◌, ⊤, ℕ, ◌<◌, ◌≤◌, false, List, [], ◌∷◌, length, Option, Some, None, slice_get, slice_index_or, slice_set}
 use Rattle.std.specs.List.{insert, remove}
 use Rattle.std.specs.Option.{option_and_then, option_map_or}
 use Rattle.embellished.specs.declared.facts.Facts.{Facts}
@@ -7,6 +7,7 @@ use Rattle.kept_results.specs.Looking.{own_facts}
 use Rattle.kept_results.specs.declared.memo.Memo.{Memo}
 use Rattle.kept_results.specs.declared.memo.Memo.TheViews.{out-Memo, roll-Memo}
 use Rattle.kept_edits.specs.declared.change.MemoChange.{MemoChange}
+use Rattle.kept_edits.specs.declared.change.Renewal.{Renewal}
 use Rattle.kept_edits.specs.declared.change.MemoChange.TheVariants.{Stay, PutMemo, TakeMemo, SwapMemo}
 
 -- ---- the memos of an element's children
@@ -33,11 +34,15 @@ taken_below (SwapMemo index memo) below = slice_get below index
 
 -- ---- one memo
 
+-- an element that is this after a change, and of which layout may see something else than before
+abbrev pub seen_anew : Facts → Renewal
+seen_anew own = record { facts = own; alike = false }
+
 -- marked, of an element that is this now
-abbrev pub renewed : Facts → Memo → Memo
+abbrev pub renewed : Renewal → Memo → Memo
 renewed own memo = roll-Memo record {
-  former = Some (own_facts memo);
-  facts = own;
+  former = Some record { facts = own_facts memo; alike = own.alike };
+  facts = own.facts;
   entries = (out-Memo memo).entries;
   below = (out-Memo memo).below;
 }
@@ -46,7 +51,7 @@ renewed own memo = roll-Memo record {
 abbrev pub restored : Memo → Memo
 restored memo = roll-Memo record {
   former = None;
-  facts = unwrap_or (out-Memo memo).former (own_facts memo);
+  facts = option_map_or (λ former. former.facts) (out-Memo memo).former (own_facts memo);
   entries = (out-Memo memo).entries;
   below = (out-Memo memo).below;
 }
@@ -69,10 +74,10 @@ turned turn change (place ∷ path) memo =
     (option_map_or (λ kept. slice_set (out-Memo memo).below place (turned turn change path kept)) (slice_get (out-Memo memo).below place) (out-Memo memo).below)
 
 -- what the elements on the way are, that at the end first
-abbrev pub renewed_on : List Facts → List ℕ → Memo → Memo
-renewed_on known path memo = renewed (slice_index_or known (length path) (own_facts memo)) memo
+abbrev pub renewed_on : List Renewal → List ℕ → Memo → Memo
+renewed_on known path memo = renewed (slice_index_or known (length path) (seen_anew (own_facts memo))) memo
 
-abbrev pub changed_memo : MemoChange → List Facts → List ℕ → Memo → Memo
+abbrev pub changed_memo : MemoChange → List Renewal → List ℕ → Memo → Memo
 changed_memo change known path memo = turned (renewed_on known) change path memo
 
 abbrev pub undone_memo : MemoChange → List ℕ → Memo → Memo

@@ -9,7 +9,7 @@ use Rattle.tree_edits.specs.Paths.{FitsAt, changed, changed_at, children_of, nod
 use Rattle.tree_edits.specs.declared.change.Change.{Change}
 use Rattle.tree_edits.specs.declared.change.Change.TheVariants.{SetText, SetValue, PutChild, TakeChild, SwapChild}
 use Rattle.tree_edits.specs.declared.edit.Edit.{Edit}
-use Rattle.embellished.specs.declared.facts.Facts.{Facts}
+use Rattle.kept_edits.specs.declared.change.Renewal.{Renewal}
 use Rattle.kept_results.specs.declared.memo.Memo.{Memo}
 use Rattle.kept_edits.specs.Changed.{changed_memo}
 use Rattle.kept_edits.specs.Laws.{IsReadyFor, IsSame, KnownOn}
@@ -42,6 +42,6 @@ ParentEditLaw = (tree : TreeValue) (edit : Edit) (path : List ℕ) (element : No
 
 -- memos that agree with a tree agree with the edited one, when the same is changed in them
 abbrev pub FollowLaw : Type 0
-FollowLaw = (m : MetricsValue) (tree : TreeValue) (edit : Edit) (change : Change) (other : MemoChange) (path : List ℕ) (known : List Facts) (memo : Memo) →
-    IsChangeOf tree edit change path → IsSame m change other → IsReadyFor m tree.root memo → KnownOn known path (edited tree edit).root →
+FollowLaw = (m : MetricsValue) (tree : TreeValue) (edit : Edit) (change : Change) (other : MemoChange) (path : List ℕ) (known : List Renewal) (memo : Memo) →
+    IsChangeOf tree edit change path → IsSame m change other → IsReadyFor m tree.root memo → KnownOn known path (edited tree edit).root memo →
     IsReadyFor m (edited tree edit).root (changed_memo other known path memo)

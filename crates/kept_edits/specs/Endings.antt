@@ -3,7 +3,7 @@ use Rattle.std.specs.Prelude.{◌≡◌, ℕ, Bool, true, List}
 use Rattle.font_metrics.specs.Metrics.{MetricsValue}
 use Rattle.math_tree.specs.declared.node.Node.{Node}
 use Rattle.tree_edits.specs.declared.change.Change.{Change}
-use Rattle.embellished.specs.declared.facts.Facts.{Facts}
+use Rattle.kept_edits.specs.declared.change.Renewal.{Renewal}
 use Rattle.layout_model.specs.declared.context.Context.{Context}
 use Rattle.kept_results.specs.Ends.{sealed, settled, stripped}
 use Rattle.kept_results.specs.Kept.{Holds, IsKept}
@@ -25,7 +25,7 @@ AcceptedLaw = (m : MetricsValue) (edited : Node) (root : Context) (before after 
 
 -- a pass that stopped anywhere is undone, and then the change: the memos are those that were there before
 abbrev pub RefusedLaw : Type 0
-RefusedLaw = (m : MetricsValue) (edited : Node) (root : Context) (memo after : Memo) (change : MemoChange) (path : List ℕ) (known : List Facts)
+RefusedLaw = (m : MetricsValue) (edited : Node) (root : Context) (memo after : Memo) (change : MemoChange) (path : List ℕ) (known : List Renewal)
     (room from to : ℕ) (done : Bool) → is_unmarked memo ≡ true → FitsMemo change path memo →
     stripped (changed_memo change known path memo) ≡ changed_memo change known path memo →
     Passes m edited (Needs m edited root) (changed_memo change known path memo) after from to done →
@@ -33,7 +33,7 @@ RefusedLaw = (m : MetricsValue) (edited : Node) (root : Context) (memo after : M
 
 -- an entry of an element that an edit leaves alone is the same after the edit
 abbrev pub EntriesStayLaw : Type 0
-EntriesStayLaw = (m : MetricsValue) (edited : Node) (root : Context) (memo after : Memo) (change : Change) (other : MemoChange) (path : List ℕ) (known : List Facts)
+EntriesStayLaw = (m : MetricsValue) (edited : Node) (root : Context) (memo after : Memo) (change : Change) (other : MemoChange) (path : List ℕ) (known : List Renewal)
     (from to : ℕ) (done : Bool) (before behind : List ℕ) (entry : Entry) → FitsMemo other path memo → IsSame m change other →
     Passes m edited (Needs m edited root) (changed_memo other known path memo) after from to done →
     CameFrom path change before behind → Holds before memo entry → Holds behind (sealed after) (settled entry)

@@ -1,5 +1,5 @@
 -- What changed memos are beside the changed tree.
-use Rattle.std.specs.Prelude.{◌≡◌, ⊤, ℕ, true, List, [], ◌∷◌, length, Option, Some, None, slice_get}
+use Rattle.std.specs.Prelude.{◌≡◌, ⊤, ℕ, ◌<◌, true, false, List, [], ◌∷◌, length, Option, Some, None, slice_get}
 use Rattle.font_metrics.specs.Metrics.{MetricsValue}
 use Rattle.math_tree.specs.declared.node.Node.{Node}
 use Rattle.math_tree.specs.declared.node.Node.TheViews.{out-Node}
@@ -7,15 +7,17 @@ use Rattle.tree_edits.specs.Paths.{FitsAt, changed, changed_at}
 use Rattle.tree_edits.specs.declared.change.Change.{Change}
 use Rattle.tree_edits.specs.declared.change.Change.TheVariants.{SetText, SetValue, PutChild, TakeChild, SwapChild}
 use Rattle.embellished.specs.Facts.{facts}
-use Rattle.embellished.specs.declared.facts.Facts.{Facts}
 use Rattle.kept_results.specs.Ends.{stripped}
-use Rattle.kept_results.specs.Kept.{Agrees}
+use Rattle.kept_results.specs.Kept.{Agrees, is_marked}
 use Rattle.kept_results.specs.Laws.{is_unmarked}
+use Rattle.kept_results.specs.Looking.{own_facts}
 use Rattle.kept_results.specs.declared.memo.Memo.{Memo}
+use Rattle.kept_results.specs.declared.memo.Memo.TheViews.{out-Memo}
 use Rattle.kept_edits.specs.Blank.{blank}
-use Rattle.kept_edits.specs.Changed.{FitsMemo, changed_memo, taken_from, undone_memo}
+use Rattle.kept_edits.specs.Changed.{FitsMemo, changed_memo, seen_anew, taken_from, undone_memo}
 use Rattle.kept_edits.specs.declared.change.MemoChange.{MemoChange}
 use Rattle.kept_edits.specs.declared.change.MemoChange.TheVariants.{Stay, PutMemo, TakeMemo, SwapMemo}
+use Rattle.kept_edits.specs.declared.change.Renewal.{Renewal}
 
 -- ---- the same change of both
 
@@ -33,18 +35,25 @@ IsSame m (TakeChild index) (TakeMemo place) = place ≡ index
 IsSame m (SwapChild index child) (SwapMemo place memo) = (place ≡ index) × IsReadyFor m child memo
 IsSame m change other = ⊥
 
--- it is known what the elements on a way are, that at the end first
-abbrev pub KnownOn : List Facts → List ℕ → Node → Type 0
-KnownOn known [] node = slice_get known 0 ≡ Some (facts node)
-KnownOn known (place ∷ path) node =
-    (slice_get known (length (place ∷ path)) ≡ Some (facts node))
-    × ((child : Node) → slice_get (out-Node node).children place ≡ Some child → KnownOn known path child)
+-- layout sees the same of an element on a way, and of its children, as before the change: no other change is under way,
+-- the element at the end stands deeper than a child, and the child on the way is what its memo knows of it from before
+pub record IsAlike (place : ℕ) (path : List ℕ) (node : Node) (memo : Memo) : Type 0 where
+  pub unmarked : is_marked (out-Memo memo) ≡ false
+  pub deeper : 0 < length path
+  pub child_is : (child : Node) (kept : Memo) → slice_get (out-Node node).children place ≡ Some child → slice_get (out-Memo memo).below place ≡ Some kept → facts child ≡ own_facts kept
+
+-- it is known what the elements on a way are after a change, that at the end first, beside memos from before
+abbrev pub KnownOn : List Renewal → List ℕ → Node → Memo → Type 0
+KnownOn known [] node memo = slice_get known 0 ≡ Some (seen_anew (facts node))
+KnownOn known (place ∷ path) node memo =
+    (own : Renewal) × (slice_get known (length (place ∷ path)) ≡ Some own) × (own.facts ≡ facts node) × (own.alike ≡ true → IsAlike place path node memo)
+    × ((child : Node) (kept : Memo) → slice_get (out-Node node).children place ≡ Some child → slice_get (out-Memo memo).below place ≡ Some kept → KnownOn known path child kept)
 
 -- where the same is changed in a tree and in memos that agree with it, they agree again
 abbrev pub ChangeLaw : Type 0
-ChangeLaw = (m : MetricsValue) (node : Node) (memo : Memo) (change : Change) (other : MemoChange) (path : List ℕ) (known : List Facts) →
+ChangeLaw = (m : MetricsValue) (node : Node) (memo : Memo) (change : Change) (other : MemoChange) (path : List ℕ) (known : List Renewal) →
     IsReadyFor m node memo → FitsAt change path node → IsSame m change other →
-    KnownOn known path (changed_at (changed change) path node) →
+    KnownOn known path (changed_at (changed change) path node) memo →
     IsReadyFor m (changed_at (changed change) path node) (changed_memo other known path memo)
 
 -- ---- taken back
@@ -60,7 +69,7 @@ back_of (SwapMemo index memo) (Some former) room = SwapMemo index former
 
 -- taking a change of unmarked memos back gives the memos that were there before
 abbrev pub BackLaw : Type 0
-BackLaw = (memo : Memo) (change : MemoChange) (path : List ℕ) (known : List Facts) (room : ℕ) → is_unmarked memo ≡ true → FitsMemo change path memo →
+BackLaw = (memo : Memo) (change : MemoChange) (path : List ℕ) (known : List Renewal) (room : ℕ) → is_unmarked memo ≡ true → FitsMemo change path memo →
     undone_memo (back_of change (taken_from change path memo) room) path (changed_memo change known path memo) ≡ memo
 
 -- ---- nothing kept

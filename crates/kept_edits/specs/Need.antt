@@ -5,7 +5,7 @@ use Rattle.font_metrics.specs.Metrics.{MetricsValue}
 use Rattle.math_tree.specs.declared.node.Node.{Node}
 use Rattle.tree_edits.specs.declared.change.Change.{Change}
 use Rattle.tree_edits.specs.declared.change.Change.TheVariants.{SetText, SetValue, PutChild, TakeChild, SwapChild}
-use Rattle.embellished.specs.declared.facts.Facts.{Facts}
+use Rattle.kept_edits.specs.declared.change.Renewal.{Renewal}
 use Rattle.layout_model.specs.declared.context.Context.{Context}
 use Rattle.kept_results.specs.Kept.{Holds, HoldsOne}
 use Rattle.kept_results.specs.Laws.{is_unmarked}
@@ -49,7 +49,7 @@ pub record IsSealedFor (m : MetricsValue) (node : Node) (context : Context) (mem
 
 -- an entry of an element that an edit leaves alone stays as it is
 abbrev pub StaysLaw : Type 0
-StaysLaw = (m : MetricsValue) (memo : Memo) (change : Change) (other : MemoChange) (path : List ℕ) (known : List Facts) (from to : List ℕ) (entry : Entry) →
+StaysLaw = (m : MetricsValue) (memo : Memo) (change : Change) (other : MemoChange) (path : List ℕ) (known : List Renewal) (from to : List ℕ) (entry : Entry) →
     FitsMemo other path memo → IsSame m change other → CameFrom path change from to →
     Holds from memo entry → Holds to (changed_memo other known path memo) entry
 
@@ -61,7 +61,7 @@ pub record TakesCounted (counted : Pair → Type 0) (from to : ℕ) : Type 0 whe
   pub apart : HasNoRepeat pairs
 
 abbrev pub CountedLaw : Type 0
-CountedLaw = (m : MetricsValue) (node : Node) (context : Context) (memo : Memo) (change : Change) (other : MemoChange) (path : List ℕ) (known : List Facts) →
+CountedLaw = (m : MetricsValue) (node : Node) (context : Context) (memo : Memo) (change : Change) (other : MemoChange) (path : List ℕ) (known : List Renewal) →
     IsSealedFor m node context memo → FitsMemo other path memo → IsSame m change other →
     (edited : Node) (root : Context) (after : Memo) (from to : ℕ) (done : Bool) →
     Passes m edited (Needs m edited root) (changed_memo other known path memo) after from to done →

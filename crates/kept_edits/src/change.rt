@@ -4,7 +4,7 @@ ghost use Rattle.kept_edits.specs.Changed.{FitsBelow, FitsMemo, changed_below, c
 
 use embellished::Facts;
 use fixed_units::{List, Room};
-use kept_results::Memo;
+use kept_results::{Former, Memo};
 use std::mem;
 
 /// What becomes of the memos of an element's children. It has the room for what it adds.
@@ -20,12 +20,21 @@ pub enum MemoChange {
     SwapMemo(usize, Memo),
 }
 
+/// What an element on the way to a change is after it.
+#[derive(Clone, Copy, Debug)]
+pub struct Renewal {
+    /// What it is among operators.
+    pub facts: Facts,
+    /// Whether layout sees the same of it and of its children as before.
+    pub alike: bool,
+}
+
 /// Changes the memo of an element at the end of a way, and marks all on the way. Of what the elements
 /// on the way are then, that of the one at the end stands first. What was taken out is given back.
 pub fn change_memo(
     memo: &mut Memo,
     path: &[usize],
-    known: &[Facts],
+    known: &[Renewal],
     change: MemoChange,
 ) -> Option<Memo>
     requires fits { FitsMemo change path.now memo.old }
@@ -57,19 +66,22 @@ pub fn undo_memo(memo: &mut Memo, path: &[usize], change: MemoChange) -> Option<
 }
 
 /// Marks a memo, whose element is this from now on.
-fn renew(memo: &mut Memo, own: Facts)
+fn renew(memo: &mut Memo, own: Renewal)
     ensures { memo.new ≡ renewed own memo.old }
 {
-    memo.former = Some(memo.facts);
-    memo.facts = own;
+    memo.former = Some(Former {
+        facts: memo.facts,
+        alike: own.alike,
+    });
+    memo.facts = own.facts;
 }
 
 /// Clears the mark of a memo, whose element is what it was before.
 fn restore(memo: &mut Memo)
     ensures { memo.new ≡ restored memo.old }
 {
-    if let Some(facts) = memo.former {
-        memo.facts = facts;
+    if let Some(former) = memo.former {
+        memo.facts = former.facts;
     }
     memo.former = None;
 }

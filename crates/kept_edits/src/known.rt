@@ -1,32 +1,32 @@
 //! What the elements on the way to an edit are after it.
-ghost use Rattle.std.specs.Prelude.{◌≡◌, ◌<◌, ◌++◌, ◌∷◌, [], length, map, slice_get, slice_set, IfOk, Some};
+ghost use Rattle.std.specs.Prelude.{◌≡◌, ◌<◌, true, ◌++◌, ◌∷◌, [], length, map, slice_get, slice_set, IfOk, Some};
 ghost use Rattle.math_tree.specs.declared.node.Node.TheViews.{out-Node};
 ghost use Rattle.embellished.specs.Facts.{facts};
 ghost use Rattle.kept_results.specs.Looking.{own_facts};
 ghost use Rattle.kept_results.specs.declared.memo.Memo.TheViews.{out-Memo};
-ghost use Rattle.kept_edits.specs.Changed.{FitsBelow, FitsMemo, changed_below};
+ghost use Rattle.kept_edits.specs.Changed.{FitsBelow, FitsMemo, changed_below, seen_anew};
 ghost use Rattle.kept_edits.specs.Known.{IsBeside, IsKnownOn};
 
-use crate::change::MemoChange;
+use crate::change::{MemoChange, Renewal};
 use embellished::{Facts, facts_of};
 use fixed_units::{List, Memory};
-use kept_results::{Memo, facts_below};
+use kept_results::{Memo, facts_below, is_marked};
 use math_tree::Node;
 use std::alloc::Global;
 
 /// What the elements on the way to a changed one are, that one first: of the changed tree, and the
 /// memos that are not changed yet. Of other elements only what is known of the children on the way is
-/// read.
+/// read, and not even that of an element of which layout sees the same as before.
 pub fn known_on(
     alloc: Global,
     node: &Node,
     memo: &Memo,
     path: &[usize],
     change: &MemoChange,
-) -> Result<List<Facts>, Memory>
+) -> Result<List<Renewal>, Memory>
     requires fits { FitsMemo change.now path.now memo.now }
     requires beside { IsBeside change.now path.now node.now memo.now }
-    ensures { IfOk result (IsKnownOn path.now node.now) }
+    ensures { IfOk result (IsKnownOn path.now node.now memo.now) }
 {
     if path.len() == 0 {
         let kids = kids_after(alloc, &memo.below, change)?;
@@ -35,10 +35,26 @@ pub fn known_on(
         let place = path[0];
         let child = child_at(node, place);
         let below = memo_at(memo, place);
-        let known = known_on(alloc, child, below, &path[1..], change)?;
-        let own = known.as_slice()[path.len() - 1];
+        let mut known = known_on(alloc, child, below, &path[1..], change)?;
+        let own = known.as_slice()[path.len() - 1].facts;
+        if 1 < path.len() && !is_marked(memo) && is_same(&own, &below.facts) {
+            let facts = memo.facts;
+            known.push(Renewal { facts, alike: true })?;
+            return Ok(known);
+        }
         let kids = kids_with(alloc, &memo.below, place, own)?;
         add_own(alloc, node, &kids, known)
+    }
+}
+
+/// Whether two elements are the same, neither of them an operator. Operators aren't looked at, so that they
+/// count as different.
+fn is_same(a: &Facts, b: &Facts) -> bool
+    ensures { result ≡ true → a.now ≡ b.now }
+{
+    match (&a.core, &b.core) {
+        (None, None) => a.space_like == b.space_like && a.laid == b.laid,
+        _ => false,
     }
 }
 
@@ -64,17 +80,21 @@ fn memo_at(memo: &Memo, place: usize) -> &Memo
     }
 }
 
-/// Adds what an element is, over what its children are.
+/// Adds what an element is, over what its children are. Layout may see something else of it than before.
 fn add_own(
     alloc: Global,
     node: &Node,
     kids: &List<Facts>,
-    mut known: List<Facts>,
-) -> Result<List<Facts>, Memory>
+    mut known: List<Renewal>,
+) -> Result<List<Renewal>, Memory>
     requires { kids.now ≡ map facts (out-Node node.now).children }
-    ensures { IfOk result (λ all. all ≡ known ++ facts node.now ∷ []) }
+    ensures { IfOk result (λ all. all ≡ known ++ seen_anew (facts node.now) ∷ []) }
 {
-    known.push(facts_of(alloc, &node.head, kids)?)?;
+    let facts = facts_of(alloc, &node.head, kids)?;
+    known.push(Renewal {
+        facts,
+        alike: false,
+    })?;
     Ok(known)
 }
 

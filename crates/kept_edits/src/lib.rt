@@ -13,10 +13,10 @@
 #![tactic(auto)]
 
 mod blanks; // memos of elements that were never laid out
-mod change; // MemoChange, change_memo, undo_memo
+mod change; // MemoChange, Renewal, change_memo, undo_memo
 mod known; // known_on
 pub mod laws; // of the definitions
 
 pub use blanks::blank;
-pub use change::{MemoChange, change_memo, undo_memo};
+pub use change::{MemoChange, Renewal, change_memo, undo_memo};
 pub use known::known_on;

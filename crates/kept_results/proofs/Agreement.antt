@@ -6,7 +6,7 @@ use Rattle.math_tree.specs.declared.node.Node.{Node}
 use Rattle.math_tree.specs.declared.node.Node.TheViews.{out-Node}
 use Rattle.layout_model.specs.declared.context.Context.{Context}
 use Rattle.layout_model.specs.declared.context.Question.{Question}
-use Rattle.kept_results.specs.Kept.{Agrees, AreApart, HasEntry, Holds, HoldsIn, HoldsOne, IsKept, IsMemoOf, IsMissing, IsSound, Keeps, NamesKept, StandAt, is_live, is_marked}
+use Rattle.kept_results.specs.Kept.{Agrees, AreApart, AsksTheSame, HasEntry, Holds, HoldsIn, HoldsOne, IsKept, IsMemoOf, IsMissing, IsSound, Keeps, NamesKept, StandAt, is_live, is_marked}
 use Rattle.kept_results.specs.declared.memo.Entry.{Entry}
 use Rattle.kept_results.specs.declared.memo.Memo.{Memo}
 use Rattle.kept_results.specs.declared.memo.Memo.TheOpen.{Memo-F}
@@ -155,10 +155,12 @@ module _ (m : MetricsValue) where
               fits = s.fits;
               ones = s.ones;
               twos = s.twos;
+              styled = s.styled;
               ones_kept = move entry.ones s.ones_kept;
               twos_kept = move entry.twos s.twos_kept;
             };
         apart = here.apart;
+        same = here.same;
       } in
       agrees_made node (renewed memo place new) own (λ j kid kept f g.
       elim (set_cases below place j new kept g) [
@@ -180,5 +182,10 @@ module _ (m : MetricsValue) where
               | inr q ↦ here.sound entry record { place = has.place; at = q; live = has.live }
             ];
         apart = apart_added (is_marked (out-Memo memo)) (out-Memo memo).entries more here.apart missing;
+        same = λ alike i entry at.
+            elim (push_cases (out-Memo memo).entries more entry i at) [
+              | inl p ↦ subst (AsksTheSame m node) (sym p) record { ones = sound.ones; styled = sound.styled }
+              | inr q ↦ here.same alike i entry q
+            ];
       } in
       agrees_made node (added memo more) own (λ j kid kept f g. agrees_child node memo j kid kept h f g)

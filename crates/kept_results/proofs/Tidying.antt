@@ -3,7 +3,7 @@ use Rattle.std.proofs.Common.{◌≡◌, ◌∙◌, inl, inr, refl, sym, ap, sub
 use Rattle.std.proofs.lemmas.Option.{none-some, same_Some, slice_get-map}
 use Rattle.std.specs.List.{list_all}
 use Rattle.std.specs.Option.{option_map}
-use Rattle.embellished.specs.declared.facts.Facts.{Facts}
+use Rattle.kept_results.specs.declared.memo.Former.{Former}
 use Rattle.kept_results.specs.Ends.{not_fresh, sealed, settled, settled_all, stripped}
 use Rattle.kept_results.specs.Kept.{is_marked}
 use Rattle.kept_results.specs.Laws.{is_unmarked, unmarked_layer}
@@ -100,9 +100,9 @@ settled_none (x ∷ entries) h =
     ap (λ (e : Entry). e ∷ settled_all false entries) (settled_same x (not_true x.fresh (first_holds (not x.fresh) (has_none_fresh entries) h)))
     ∙ ap (λ (l : List Entry). x ∷ l) (settled_none entries (second_holds (not x.fresh) (has_none_fresh entries) h))
 
-former_none : (former : Option Facts) → is_some former ≡ false → None ≡ former
+former_none : (former : Option Former) → is_some former ≡ false → None ≡ former
 former_none None h = refl
-former_none (Some facts) h = absurd (true≢false h)
+former_none (Some was) h = absurd (true≢false h)
 
 abbrev IsSealedCalm : Memo → Type 0
 IsSealedCalm memo = IsTidy memo → is_calm (out-Memo memo) ≡ true → sealed memo ≡ memo

@@ -227,10 +227,10 @@ module _ {m : MetricsValue} {node shown : Node} {context : Context} {ones twos :
 
   -- the entry that is kept then is sound
   pub sound_made : (before after : Memo) (outcome : Outcome) (kept : IsKeptNow before after context outcome ones twos) → outcome ≡ equation m (seen_of shown) context one two
-      → Suits m node context → in_range m node context ≡ true
+      → Suits m node context → in_range m node context ≡ true → All HasStyle ones
       → AllByRecursion (NamesKept node (out-Memo before).below) ones → AllByRecursion (NamesKept node (out-Memo before).below) twos
       → IsSound m node (out-Memo before).below kept.entry
-  sound_made before after outcome kept is suits fits h k =
+  sound_made before after outcome kept is suits fits styles h k =
       let here = kept.in_context in
       record {
         stores = subst (Stores kept.entry) (is ∙ waves_lay ∙ ap (lay m node) (sym here)) kept.stores;
@@ -239,6 +239,7 @@ module _ {m : MetricsValue} {node shown : Node} {context : Context} {ones twos :
         ones = kept.ones_are ∙ first_are m node shown context w.shown_is ones w.ones_are ∙ ap (first m (seen_of node)) (sym here);
         twos = kept.twos_are ∙ second_are m node shown context w.shown_is ones w.ones_are one w.one_is twos w.twos_are
             ∙ ap (λ (c : Context). second m (seen_of node) c (map (answer_of m node) (first m (seen_of node) c))) (sym here);
+        styled = subst (All HasStyle) (sym kept.ones_are) styles;
         ones_kept = subst (AllByRecursion (NamesKept node (out-Memo before).below)) (sym kept.ones_are) h;
         twos_kept = subst (AllByRecursion (NamesKept node (out-Memo before).below)) (sym kept.twos_are) k;
       }

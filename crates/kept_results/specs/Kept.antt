@@ -1,11 +1,13 @@
 -- Kept layouts, and when they are those of a tree.
-use Rattle.std.specs.Prelude.{◌≡◌, ⊤, ℕ, Bool, true, not, ◌||◌, List, [], ◌∷◌, length, map, Some, slice_get, is_some}
-use Rattle.std.specs.List.{AllByRecursion}
+use Rattle.std.specs.Prelude.{◌≡◌, ⊤, ℕ, Bool, true, false, not, ◌||◌, List, [], ◌∷◌, length, map, Some, slice_get, is_some}
+use Rattle.std.specs.List.{All, AllByRecursion}
+use Rattle.std.specs.Option.{option_map_or}
 use Rattle.font_metrics.specs.Metrics.{MetricsValue}
 use Rattle.math_tree.specs.declared.node.Node.{Node}
 use Rattle.math_tree.specs.declared.node.Node.TheViews.{out-Node}
 use Rattle.embellished.specs.Facts.{facts}
 use Rattle.embellished.specs.Seen.{Child, flow_children, seen_of}
+use Rattle.layout_model.specs.Fits.{HasStyle}
 use Rattle.layout_model.specs.Laws.{answer_of}
 use Rattle.layout_model.specs.Layout.{in_range, lay}
 use Rattle.layout_model.specs.Questions.{first, second}
@@ -27,6 +29,10 @@ Stores entry outcome = entry.outcome ≡ outcome
 -- the present edit changes the element, or one below it
 abbrev pub is_marked : {X : Type 0} → Memo-F X → Bool
 is_marked layer = is_some layer.former
+
+-- the present edit changes the element, or one below it, and layout sees the same of it and of its children as before
+abbrev pub sees_the_same : {X : Type 0} → Memo-F X → Bool
+sees_the_same layer = option_map_or (λ former. former.alike) layer.former false
 
 -- an entry of a marked element that the present pass didn't make is an older one
 abbrev pub is_live : Bool → Entry → Bool
@@ -72,16 +78,23 @@ pub record IsSound (m : MetricsValue) (node : Node) (below : List Memo) (entry :
   pub fits : in_range m node entry.context ≡ true
   pub ones : entry.ones ≡ first m (seen_of node) entry.context
   pub twos : entry.twos ≡ second m (seen_of node) entry.context (map (answer_of m node) (first m (seen_of node) entry.context))
+  pub styled : All HasStyle entry.ones
   pub ones_kept : AllByRecursion (NamesKept node below) entry.ones
   pub twos_kept : AllByRecursion (NamesKept node below) entry.twos
 
+-- what an entry asked in the first wave, older or not, is what its element asks as the tree is now
+pub record AsksTheSame (m : MetricsValue) (node : Node) (entry : Entry) : Type 0 where
+  pub ones : entry.ones ≡ first m (seen_of node) entry.context
+  pub styled : All HasStyle entry.ones
+
 -- what is known of an element, one memo for each child, and entries that are sound, but for the
--- older ones, and of which no two are in one context
+-- older ones, and of which no two are in one context. Older ones ask the same where layout sees the same
 pub record IsMemoOf (m : MetricsValue) (node : Node) (layer : Memo-F Memo) : Type 0 where
   pub facts_are : layer.facts ≡ facts node
   pub as_many : length layer.below ≡ length (out-Node node).children
   pub sound : (entry : Entry) → HasEntry layer entry → IsSound m node layer.below entry
   pub apart : AreApart (is_marked layer) layer.entries
+  pub same : sees_the_same layer ≡ true → (place : ℕ) (entry : Entry) → slice_get layer.entries place ≡ Some entry → AsksTheSame m node entry
 
 -- an element of a tree and its memo, by the places of children down to it
 abbrev pub StandAt : List ℕ → Node → Memo → Node → Memo → Type 0

@@ -1,6 +1,6 @@
 ghost use Rattle.std.specs.Prelude.{◌≡◌, ◌++◌, ◌∷◌, [], true, false, IfOk, IfSome, IfNone, OnErr, OnOk, map};
-ghost use Rattle.kept_results.specs.Kept.{IsMissing, is_live, is_marked};
-ghost use Rattle.kept_results.specs.Looking.{HasAnswer, IsKeptNow, own_facts};
+ghost use Rattle.kept_results.specs.Kept.{IsMissing, is_live, is_marked, sees_the_same};
+ghost use Rattle.kept_results.specs.Looking.{AskedBefore, HasAnswer, IsKeptNow, own_facts};
 ghost use Rattle.kept_results.specs.Tidy.{has_none_fresh, is_calm};
 ghost use Rattle.kept_results.specs.declared.memo.Memo.TheViews.{out-Memo};
 
@@ -16,6 +16,16 @@ pub fn is_marked(memo: &Memo) -> bool
     ensures { result ≡ is_marked (out-Memo memo.now) }
 {
     memo.former.is_some()
+}
+
+/// Whether the present edit changes the element, or one below it, and layout sees the same of it as before.
+fn sees_the_same(memo: &Memo) -> bool
+    ensures { result ≡ sees_the_same (out-Memo memo.now) }
+{
+    match memo.former {
+        Some(former) => former.alike,
+        None => false,
+    }
 }
 
 /// Whether the present edit and the present pass left the element alone. It says nothing of those
@@ -67,6 +77,26 @@ pub fn kept_answer(alloc: Global, memo: &Memo, context: &Context) -> Result<Opti
     Ok(None)
 }
 
+/// What an element asked in the first wave before the present edit, in the same context, where layout
+/// sees the same of it as then.
+pub fn asked_before(
+    alloc: Global,
+    memo: &Memo,
+    context: &Context,
+) -> Result<Option<List<Question>>, Memory>
+    ensures { IfOk result (λ found. IfSome found (AskedBefore (out-Memo memo.now) context.now)) }
+{
+    if !sees_the_same(memo) {
+        return Ok(None);
+    }
+    for entry in memo.entries.as_slice() {
+        if is_same(&entry.context, context) {
+            return Ok(Some(copy_of_all(alloc, &entry.ones)?));
+        }
+    }
+    Ok(None)
+}
+
 /// What the elements of some memos are, in order: of those below an element, as a view of it takes them.
 pub fn facts_below(alloc: Global, below: &[Memo]) -> Result<List<Facts>, Memory>
     ensures { IfOk result (λ kids. kids ≡ map own_facts below.now) }
@@ -101,6 +131,21 @@ pub fn keep(
         fresh: true,
     })?;
     Ok(answer)
+}
+
+/// The same questions again.
+fn copy_of_all(alloc: Global, asks: &List<Question>) -> Result<List<Question>, Memory>
+    ensures { IfOk result (λ copied. copied ≡ asks.now) }
+{
+    let mut copied = List::with_room(alloc, asks.len())?;
+    for asked in asks.as_slice() {
+        let context = copy_of_context(alloc, &asked.context)?;
+        copied.push(Question {
+            kid: asked.kid,
+            context,
+        })?;
+    }
+    Ok(copied)
 }
 
 /// The same answer again.

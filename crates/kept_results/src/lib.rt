@@ -16,11 +16,11 @@ mod contexts; // the same context, and once more
 mod ends; // undo_pass, seal
 mod entries; // one element's entries
 pub mod laws; // what holds of kept layouts
-mod memo; // Entry, Memo
+mod memo; // Entry, Former, Memo
 mod relay; // a pass over an element
 
 pub use contexts::is_same;
 pub use ends::{seal, undo_pass};
-pub use entries::facts_below;
-pub use memo::{Entry, Memo};
+pub use entries::{facts_below, is_marked};
+pub use memo::{Entry, Former, Memo};
 pub use relay::relay_element;

@@ -15,14 +15,24 @@ pub struct Entry {
     pub fresh: bool,
 }
 
+/// What an element was before the present edit, which changes it or one below it.
+#[derive(Clone, Copy, Debug)]
+pub struct Former {
+    /// What it was among operators.
+    pub facts: Facts,
+    /// Whether layout sees the same of it and of its children as before the edit. What the element asked
+    /// in the first wave then is what it asks now.
+    pub alike: bool,
+}
+
 /// The kept layouts of an element and of all elements below it, in the shape of the tree.
 ///
 /// It is plain data that holds itself: contracts read a layer as `out-Memo` of it.
 #[derive(Debug, Drop)]
 pub struct Memo {
-    /// What the element was among operators before the present edit, where that edit changes the element
-    /// or one below it: then it is marked.
-    pub former: Option<Facts>,
+    /// What the element was before the present edit, where that edit changes the element or one below
+    /// it: then it is marked.
+    pub former: Option<Former>,
     /// What the element is among operators.
     pub facts: Facts,
     pub entries: List<Entry>,

@@ -1,19 +1,24 @@
-ghost use Rattle.std.specs.Prelude.{◌≡◌, ◌≤◌, length, map, true, false, IfOk, OnOk, Err};
+ghost use Rattle.std.specs.Prelude.{◌≡◌, ◌≤◌, ◌^◌, pos, ◌≤ℤ◌, length, map, true, false, IfOk, OnOk, Err};
 ghost use Rattle.std.specs.List.{All, AllByRecursion, flat_map, list_all};
 ghost use Rattle.fixed_units.specs.declared.refusal.LayRefusal.TheVariants.{Range};
 ghost use Rattle.math_tree.specs.Trees.{element_count};
+ghost use Rattle.embellished.specs.Seen.{seen_of};
+ghost use Rattle.style_scope.specs.Sizes.{IsStyle, size_of};
+ghost use Rattle.layout_model.specs.Fits.{HasStyle};
 ghost use Rattle.layout_model.specs.Laws.{answer_of, visits_below};
 ghost use Rattle.layout_model.specs.Layout.{in_range, lay, visit_fits};
+ghost use Rattle.layout_model.specs.Questions.{first};
+ghost use Rattle.child_questions.specs.Surveys.{survey_of};
 ghost use Rattle.kept_results.specs.Contexts.{IsProper, Suits};
-ghost use Rattle.kept_results.specs.Kept.{Agrees, IsKept, NamesKept};
+ghost use Rattle.kept_results.specs.Kept.{Agrees, IsKept, IsMissing, NamesKept, is_marked};
 ghost use Rattle.kept_results.specs.Passes.{AnswersNeed, Needs, Passes};
 ghost use Rattle.kept_results.specs.Tidy.{AreTidy, IsTidy};
 ghost use Rattle.kept_results.specs.declared.memo.Memo.TheViews.{out-Memo};
 
-use crate::entries::{facts_below, keep, kept_answer};
+use crate::entries::{asked_before, facts_below, keep, kept_answer};
 use crate::memo::Memo;
 use embellished::{NodeView, View};
-use fixed_units::{LayRefusal, List, Steps};
+use fixed_units::{LayRefusal, List, Memory, Steps};
 use font_metrics::Metrics;
 use layout_core::{Survey, finish_asked, first_questions, second_questions};
 use layout_model::{Answer, Context, Question};
@@ -45,13 +50,39 @@ pub fn relay_element<L: Ledger>(
     ensures fit { OnOk result (in_range metrics.now node.now context.now ≡ true) }
     ensures range { result ≡ Err Range → in_range metrics.now node.now context.now ≡ false }
 {
-    if let Some(answer) = kept_answer(alloc, memo, context)? {
-        return Ok(answer);
+    match kept_answer(alloc, memo, context)? {
+        Some(answer) => Ok(answer),
+        None => relay_anew(alloc, node, memo, context, metrics, steps),
     }
+}
+
+/// The same, where no answer is kept. It stands apart, since most elements that a pass asks have one.
+#[cycle(relay)]
+#[inline(never)]
+fn relay_anew<L: Ledger>(
+    alloc: Global,
+    node: &Node,
+    memo: &mut Memo,
+    context: &Context,
+    metrics: &Metrics,
+    steps: &mut Steps<L>,
+) -> Result<Answer, LayRefusal>
+    requires agrees { Agrees metrics.now node.now memo.old }
+    requires few { element_count node.now ≤ 65_536 }
+    requires context { Suits metrics.now node.now context.now }
+    requires missing { IsMissing (is_marked (out-Memo memo.old)) context.now (out-Memo memo.old).entries }
+    ensures passes { Passes metrics.now node.now (Needs metrics.now node.now context.now) memo.old memo.new steps.old steps.new false }
+    ensures passed { OnOk result (Passes metrics.now node.now (Needs metrics.now node.now context.now) memo.old memo.new steps.old steps.new true) }
+    ensures kept { OnOk result (IsKept (out-Memo memo.new) context.now) }
+    ensures tidy { OnOk result (IsTidy memo.old → IsTidy memo.new) }
+    ensures ok { IfOk result (λ answer. answer ≡ (lay metrics.now node.now context.now).answer) }
+    ensures fit { OnOk result (in_range metrics.now node.now context.now ≡ true) }
+    ensures range { result ≡ Err Range → in_range metrics.now node.now context.now ≡ false }
+{
     let kids = facts_below(alloc, memo.below.as_slice())?;
     let view = NodeView::make(alloc, node, memo.facts, &kids)?;
     let survey = Survey::make(alloc, &view, context, metrics)?;
-    let ones = first_questions(alloc, &view, &survey, context, metrics)?;
+    let ones = ask_first(alloc, memo, &view, &survey, context, metrics)?;
     let one = relay_all(alloc, node, memo, &view, &ones, metrics, steps)?;
     let twos = second_questions(alloc, &view, &survey, context, metrics, &one)?;
     let two = relay_all(alloc, node, memo, &view, &twos, metrics, steps)?;
@@ -59,6 +90,29 @@ pub fn relay_element<L: Ledger>(
         alloc, &view, context, metrics, &ones, &twos, &one, &two, steps,
     )?;
     Ok(keep(alloc, memo, context, outcome, ones, twos)?)
+}
+
+/// The questions of the first wave. Where layout sees the same of the element as before the present
+/// edit, they are those that it asked then.
+fn ask_first(
+    alloc: Global,
+    memo: &Memo,
+    view: &NodeView,
+    survey: &Survey,
+    context: &Context,
+    metrics: &Metrics,
+) -> Result<List<Question>, Memory>
+    requires agrees { Agrees metrics.now view.now.node.now memo.now }
+    requires known { survey.now ≡ survey_of metrics.now (seen_of view.now.node.now) context.now }
+    requires style { IsStyle context.now.style }
+    requires size { size_of metrics.now context.now.style ≤ℤ pos (2 ^ 20) }
+    ensures ok { IfOk result (λ asks. asks ≡ first metrics.now (seen_of view.now.node.now) context.now) }
+    ensures styles { IfOk result (All HasStyle) }
+{
+    match asked_before(alloc, memo, context)? {
+        Some(asks) => Ok(asks),
+        None => first_questions(alloc, view, survey, context, metrics),
+    }
 }
 
 /// The answers of the children that an element asks, in order.

@@ -17,7 +17,7 @@ use Rattle.layout_model.specs.declared.context.Context.{Context}
 use Rattle.layout_model.specs.declared.context.Question.{Question}
 use Rattle.layout_core.proofs.Children.{smaller}
 use Rattle.kept_results.specs.Ends.{settled}
-use Rattle.kept_results.specs.Kept.{Agrees, AreApart, HasEntry, HoldsIn, HoldsOne, IsKept, IsMemoOf, IsMissing, IsSound, NamesKept, is_live, is_marked}
+use Rattle.kept_results.specs.Kept.{Agrees, AreApart, AsksTheSame, HasEntry, HoldsIn, HoldsOne, IsKept, IsMemoOf, IsMissing, IsSound, NamesKept, is_live, is_marked}
 use Rattle.kept_results.specs.Looking.{own_facts}
 use Rattle.kept_results.specs.Passes.{AnswersNeed, Needs, Pair}
 use Rattle.kept_results.specs.declared.memo.Entry.{Entry}
@@ -269,6 +269,7 @@ module _ (m : MetricsValue) (node : Node) (memo : Memo) (context : Context) (pla
         fits = sound_now.fits;
         ones = sound_now.ones;
         twos = sound_now.twos;
+        styled = sound_now.styled;
         ones_kept = ones;
         twos_kept = twos;
       } in
@@ -285,11 +286,16 @@ module _ (m : MetricsValue) (node : Node) (memo : Memo) (context : Context) (pla
                 fits = r.fits;
                 ones = r.ones;
                 twos = r.twos;
+                styled = r.styled;
                 ones_kept = move e.ones r.ones_kept;
                 twos_kept = move e.twos r.twos_kept;
               }
         ];
         apart = apart_any mark (set entries place (fresh entry)) (subst (AreApart false) (sym same_entries) (apart_settled m node memo whole));
+        same = λ alike i e at_e. elim (set_cases entries place i (fresh entry) e at_e) [
+          | inl s ↦ subst (AsksTheSame m node) (sym s.1) record { ones = sound_now.ones; styled = sound_now.styled }
+          | inr s ↦ own.same alike i e s
+        ];
       } in
       record {
         agrees = agrees_made m node layer right need.agrees;

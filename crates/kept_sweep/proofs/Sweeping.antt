@@ -1,12 +1,12 @@
 -- What is left when all is marked, what is needed is flagged, and the memo is sealed.
-use Rattle.std.proofs.Common.{◌≡◌, ◌∙◌, inl, inr, refl, sym, ap, subst, ℕ, zero, suc, Bool, true, false, cond, not, ◌&&◌, List, [], ◌∷◌, filter, map, None, Option, Some, is_some, slice_get}
+use Rattle.std.proofs.Common.{◌≡◌, ◌∙◌, inl, inr, refl, sym, ap, subst, ℕ, zero, suc, Bool, true, false, cond, not, ◌&&◌, List, [], ◌∷◌, filter, map, None, Option, Some, is_some, slice_get, true≢false}
 use Rattle.std.proofs.lemmas.List.{length-map}
 use Rattle.std.proofs.lemmas.Option.{none-some, same_Some, slice_get-map}
 use Rattle.std.specs.List.{AllByRecursion, list_all}
 use Rattle.std.specs.Option.{option_map}
 use Rattle.font_metrics.specs.Metrics.{MetricsValue}
 use Rattle.math_tree.specs.declared.node.Node.{Node}
-use Rattle.embellished.specs.declared.facts.Facts.{Facts}
+use Rattle.kept_results.specs.declared.memo.Former.{Former}
 use Rattle.layout_model.specs.declared.context.Context.{Context}
 use Rattle.kept_results.specs.Ends.{not_fresh, sealed, settled, stripped}
 use Rattle.kept_results.specs.Kept.{Agrees, AreApart, HasEntry, Holds, HoldsIn, HoldsOne, IsMemoOf, StandAt, is_live, is_marked}
@@ -50,7 +50,7 @@ is_false : (b : Bool) → not b ≡ true → b ≡ false
 is_false true h = let g : false ≡ true = h in cc
 is_false false h = refl
 
-is_none : (former : Option Facts) → not (is_some former) ≡ true → former ≡ None
+is_none : (former : Option Former) → not (is_some former) ≡ true → former ≡ None
 is_none None h = refl
 is_none (Some facts) h = let g : false ≡ true = h in cc
 
@@ -111,6 +111,7 @@ module _ (m : MetricsValue) where
     as_many = length-map (out-Memo memo).below all_marked ∙ k.as_many;
     sound = λ entry has. absurd (none_live (out-Memo memo).entries has.place entry (all_old memo h) has.at has.live);
     apart = none_apart (out-Memo memo).entries (all_old memo h);
+    same = λ alike. absurd (true≢false (sym alike));
   }
 
   stood_marked : (path : List ℕ) (node : Node) (memo : Memo) (element : Node) (kept : Memo) → stripped memo ≡ memo → StandAt path node (all_marked memo) element kept

@@ -1,5 +1,5 @@
 -- Entries are flagged that a layout needs, and all else is as it was.
-use Rattle.std.specs.Prelude.{◌≡◌, ◌⊎◌, ℕ, List, ◌∷◌, map, None, Some, slice_get}
+use Rattle.std.specs.Prelude.{◌≡◌, ◌⊎◌, ℕ, false, List, ◌∷◌, map, None, Some, slice_get}
 use Rattle.font_metrics.specs.Metrics.{MetricsValue}
 use Rattle.math_tree.specs.declared.node.Node.{Node}
 use Rattle.math_tree.specs.declared.node.Node.TheViews.{out-Node}
@@ -19,7 +19,7 @@ use Rattle.kept_results.specs.declared.memo.Memo.TheViews.{out-Memo, roll-Memo}
 
 abbrev pub marked_layer : Memo-F Memo → Memo
 marked_layer layer = roll-Memo record {
-  former = Some layer.facts;
+  former = Some record { facts = layer.facts; alike = false };
   facts = layer.facts;
   entries = layer.entries;
   below = layer.below;

@@ -11,7 +11,7 @@ use crate::places::{Spot, place_from};
 use embellished::Facts;
 use fixed_units::List;
 use font_metrics::Metrics;
-use kept_results::{Entry, Memo, is_same};
+use kept_results::{Entry, Former, Memo, is_same};
 use layout_model::{Context, Question};
 use math_tree::Node;
 
@@ -22,7 +22,10 @@ pub fn mark_all(memo: &mut Memo)
     for at in 0..memo.below.len() {
         mark_all(memo.below.at_mut(at));
     }
-    memo.former = Some(memo.facts);
+    memo.former = Some(Former {
+        facts: memo.facts,
+        alike: false,
+    });
 }
 
 /// Flags the entry of an element in a context, and all that its layout needs below it. What is

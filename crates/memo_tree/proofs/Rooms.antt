@@ -8,16 +8,16 @@ use Rattle.math_tree.specs.declared.node.Node.{Node}
 use Rattle.tree_edits.specs.Paths.{Fits, FitsAt, children_of}
 use Rattle.tree_edits.specs.declared.change.Change.{Change}
 use Rattle.tree_edits.specs.declared.change.Change.TheVariants.{SetText, SetValue, PutChild, TakeChild, SwapChild}
-use Rattle.embellished.specs.declared.facts.Facts.{Facts}
 use Rattle.kept_results.specs.Looking.{own_facts}
 use Rattle.kept_results.specs.declared.memo.Memo.{Memo}
 use Rattle.kept_results.specs.declared.memo.Memo.TheOpen.{Memo-F}
 use Rattle.kept_results.specs.declared.memo.Memo.TheViews.{out-Memo, out-roll-Memo, roll-Memo}
 use Rattle.kept_results.proofs.Lists.{set_here}
-use Rattle.kept_edits.specs.Changed.{FitsBelow, FitsMemo, changed_below, changed_memo, renewed, taken_below, taken_from, with_below}
+use Rattle.kept_edits.specs.Changed.{FitsBelow, FitsMemo, changed_below, changed_memo, renewed, taken_below, taken_from, with_below, seen_anew}
 use Rattle.kept_edits.specs.Laws.{IsReadyFor, IsSame, back_of}
 use Rattle.kept_edits.specs.declared.change.MemoChange.{MemoChange}
 use Rattle.kept_edits.specs.declared.change.MemoChange.TheVariants.{Stay, PutMemo, TakeMemo, SwapMemo}
+use Rattle.kept_edits.specs.declared.change.Renewal.{Renewal}
 use Rattle.kept_edits.proofs.Changing.{child_on, marked, marked_is, paired}
 use Rattle.kept_edits.proofs.Lists.{length_insert, length_remove, some_at}
 use Rattle.memo_tree.specs.Rooms.{HasRoom, IsRoomy}
@@ -63,11 +63,11 @@ back_fits_below (SwapMemo index memo) below room f r =
     subst (λ (o : Option Memo). FitsBelow (back_of (SwapMemo index memo) o room) (set below index memo)) (sym there.1)
     (let l = length-set below index memo in omega (arith, l, f))
 
-pub back_fits : (path : List ℕ) (memo : Memo) (change : MemoChange) (known : List Facts) (room : ℕ) → FitsMemo change path memo → HasRoom room path memo
+pub back_fits : (path : List ℕ) (memo : Memo) (change : MemoChange) (known : List Renewal) (room : ℕ) → FitsMemo change path memo → HasRoom room path memo
     → FitsMemo (back_of change (taken_from change path memo) room) path (changed_memo change known path memo)
 back_fits [] memo change known room fits roomy =
     let below : List Memo = (out-Memo memo).below in
-    let own : Facts = get_or known 0 (own_facts memo) in
+    let own : Renewal = get_or known 0 (seen_anew (own_facts memo)) in
     let between : List Memo = changed_below change below in
     let back : MemoChange = back_of change (taken_below change below) room in
     let is : (out-Memo (changed_memo change known [] memo)).below ≡ between =
@@ -77,7 +77,7 @@ back_fits (place ∷ path) memo change known room fits roomy =
     let below : List Memo = (out-Memo memo).below in
     let kept : Memo = fits.0 in
     let at : slice_get below place ≡ Some kept = fits.1 in
-    let own : Facts = get_or known (length (place ∷ path)) (own_facts memo) in
+    let own : Renewal = get_or known (length (place ∷ path)) (seen_anew (own_facts memo)) in
     let kept' : Memo = changed_memo change known path kept in
     let between : List Memo = set below place kept' in
     let layer : Memo-F Memo = marked memo own between in

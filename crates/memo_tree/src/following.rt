@@ -7,9 +7,8 @@ ghost use Rattle.memo_tree.specs.Followed.{HasPlace, IsBefore, IsFollowed, IsOfE
 ghost use Rattle.memo_tree.specs.Rooms.{HasRoom};
 
 use crate::way::{Place, Way};
-use embellished::Facts;
 use fixed_units::{List, Memory, Room};
-use kept_edits::{MemoChange, blank, change_memo, known_on};
+use kept_edits::{MemoChange, Renewal, blank, change_memo, known_on};
 use kept_results::Memo;
 use math_tree::Node;
 use std::alloc::Global;
@@ -42,7 +41,7 @@ pub fn follow(
 struct Prepared {
     change: MemoChange,
     /// What the elements on the way are after the edit.
-    known: List<Facts>,
+    known: List<Renewal>,
     /// Room for what is taken out, to put it back.
     room: Room<Memo>,
 }
@@ -56,7 +55,7 @@ fn prepare(
 ) -> Result<Prepared, Memory>
     requires { IsBefore root.now memo.now way.now }
     ensures change { IfOk result (λ made. IsOfWay root.now way.now made.change) }
-    ensures known { IfOk result (λ made. IsKnownOn way.now.path root.now made.known) }
+    ensures known { IfOk result (λ made. IsKnownOn way.now.path root.now memo.now made.known) }
     ensures room { IfOk result (λ made. HasRoom made.room way.now.path memo.now) }
 {
     let path = way.path.as_slice();

@@ -1,18 +1,18 @@
 use Rattle.std.proofs.Common.{◌≡◌, ◌∙◌, sym, ap, subst, ◌-◌, ◌<◌, arith, length, length-drop, length-take, get_or, take, drop, slice_get, List, ℕ}
 use Rattle.std.proofs.lemmas.List.{get_or_default}
 use Rattle.std.proofs.lemmas.Option.{same_Some, slice_get_within}
-use Rattle.embellished.specs.declared.facts.Facts.{Facts}
 use Rattle.kept_results.specs.Looking.{own_facts}
 use Rattle.kept_results.specs.declared.memo.Memo.{Memo}
 use Rattle.kept_results.specs.declared.memo.Memo.TheViews.{out-Memo}
-use Rattle.kept_edits.specs.Changed.{FitsMemo, changed_below, renewed, renewed_on}
+use Rattle.kept_edits.specs.Changed.{FitsMemo, changed_below, renewed, renewed_on, seen_anew}
+use Rattle.kept_edits.specs.declared.change.Renewal.{Renewal}
 use Rattle.kept_edits.proofs.Ways.{below_renewed, further, taken_further, taken_here, turned_further, turned_here}
 use Rattle.kept_edits.proofs.change.+change_memo.Goals as goal
 
-own_read : (known : List Facts) (path : List ℕ) (memo new : Memo) (d : Facts) → length path < length known → new ≡ renewed (get_or known (length path) d) memo
+own_read : (known : List Renewal) (path : List ℕ) (memo new : Memo) (d : Renewal) → length path < length known → new ≡ renewed (get_or known (length path) d) memo
     → new ≡ renewed_on known path memo
 own_read known path memo new d near e =
-    e ∙ ap (λ (own : Facts). renewed own memo) (get_or_default known (length path) d (own_facts memo) near)
+    e ∙ ap (λ (own : Renewal). renewed own memo) (get_or_default known (length path) d (seen_anew (own_facts memo)) near)
 
 pub at_mut-requires : goal.at_mut-requires
 at_mut-requires t c =

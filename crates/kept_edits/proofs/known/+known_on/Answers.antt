@@ -1,13 +1,15 @@
-use Rattle.std.proofs.Common.{◌∙◌, sym, subst, ◌-◌, ◌<◌, arith, length, length-drop, length-take, get_or, take, drop, List, Result, Ok, Err, IfOk}
+use Rattle.std.proofs.Common.{◌≡◌, ◌∙◌, refl, sym, ap, subst, ◌-◌, ◌<◌, arith, length, length-drop, length-take, get_or, take, drop, List, Result, Ok, Err, IfOk}
 use Rattle.std.proofs.lemmas.Option.{same_Some, slice_get_within}
 use Rattle.math_tree.specs.declared.node.Node.{Node}
 use Rattle.math_tree.specs.declared.node.Node.TheViews.{out-Node}
-use Rattle.embellished.specs.declared.facts.Facts.{Facts}
+use Rattle.embellished.specs.Facts.{facts}
+use Rattle.kept_results.specs.Looking.{own_facts}
 use Rattle.kept_results.specs.declared.memo.Memo.{Memo}
 use Rattle.kept_results.specs.declared.memo.Memo.TheViews.{out-Memo}
-use Rattle.kept_edits.specs.Changed.{FitsMemo}
+use Rattle.kept_edits.specs.Changed.{FitsMemo, seen_anew}
 use Rattle.kept_edits.specs.Known.{IsBeside, IsKnownOn}
-use Rattle.kept_edits.proofs.OnTheWay.{beside_further, kids_are, known_further}
+use Rattle.kept_edits.specs.declared.change.Renewal.{Renewal}
+use Rattle.kept_edits.proofs.OnTheWay.{beside_further, kids_are, known_further, last_read, own_alike, own_anew}
 use Rattle.kept_edits.proofs.Ways.{further}
 use Rattle.kept_edits.proofs.known.+known_on.Goals as goal
 
@@ -47,7 +49,7 @@ kids_with-requires t c =
     let f = beside_further c.args.change.now c.args.path.now c.args.node.now c.args.memo.now c.if-path-eq0.false c.requires.beside in
     slice_get_within (out-Memo c.args.memo.now).below (get_or c.args.path.now 0 0) f.kept f.memo_at
 
-ok_then : {E : Type 0} (result : Result (List Facts) E) (P Q : List Facts → Type 0) → ((known : List Facts) → P known → Q known) → IfOk result P → IfOk result Q
+ok_then : {E : Type 0} (result : Result (List Renewal) E) (P Q : List Renewal → Type 0) → ((known : List Renewal) → P known → Q known) → IfOk result P → IfOk result Q
 ok_then (Ok known) P Q f h = f known h
 ok_then (Err error) P Q f h = tt
 
@@ -56,11 +58,29 @@ add_own-requires-else-path-eq0 t c =
     let path = c.args.path.now in
     let f = beside_further c.args.change.now path c.args.node.now c.args.memo.now c.if-path-eq0.false c.requires.beside in
     let child = same_Some f.child c.child_at-child.result.now (sym f.at ∙ c.child_at-child.ensures) in
-    kids_are c.in_ok-kids-2.kids c.as_slice.result.now c.in_ok-known.known (out-Memo c.args.memo.now).below c.args.node.now f.child c.child_at-child.result.now path _
+    kids_are c.in_ok-kids-2.kids c.as_slice.result.now c.in_ok-known.known (out-Memo c.args.memo.now).below c.args.node.now f.child c.child_at-child.result.now c.memo_at-below.result.now path _
     c.if-path-eq0.false (c.in_ok-kids-2.ensures {u = tt}) c.as_slice.ensures (c.in_ok-known.ensures {u = tt}) child f.kids
 
 pub returns-in_ok-kids-2 : goal.returns-in_ok-kids-2
 returns-in_ok-kids-2 t c =
-    ok_then c.add_own-else-path-eq0.result _ (IsKnownOn c.args.path.now c.args.node.now)
-    (λ known e. known_further c.args.node.now c.child_at-child.result.now known c.in_ok-known.known c.args.path.now c.if-path-eq0.false c.child_at-child.ensures
-    (c.in_ok-known.ensures {u = tt}) e) c.add_own-else-path-eq0.ensures
+    let node = c.args.node.now in
+    let memo = c.args.memo.now in
+    ok_then c.add_own-else-path-eq0.result _ (IsKnownOn c.args.path.now node memo)
+    (λ known e. known_further node c.child_at-child.result.now memo c.memo_at-below.result.now known c.in_ok-known.known (seen_anew (facts node)) c.args.path.now c.if-path-eq0.false
+    c.child_at-child.ensures c.memo_at-below.ensures (c.in_ok-known.ensures {u = tt}) (own_anew node memo _ _) e) c.add_own-else-path-eq0.ensures
+
+pub returns-then-is_same : goal.returns-then-is_same
+returns-then-is_same t c =
+    let path = c.args.path.now in
+    let node = c.args.node.now in
+    let memo = c.args.memo.now in
+    let kept = c.memo_at-below.result.now in
+    let f = beside_further c.args.change.now path node memo c.if-path-eq0.false c.requires.beside in
+    let child = same_Some f.child c.child_at-child.result.now (sym f.at ∙ c.child_at-child.ensures) in
+    let kept_is = same_Some f.kept kept (sym f.memo_at ∙ c.memo_at-below.ensures) in
+    let read = last_read c.as_slice.result.now c.in_ok-known.known path f.child c.child_at-child.result.now kept _ c.if-path-eq0.false c.as_slice.ensures (c.in_ok-known.ensures {u = tt}) child in
+    let same : facts f.child ≡ own_facts kept = sym read ∙ c.is_same.ensures c.if-is_same.true in
+    known_further node f.child memo kept c.push.new.self c.in_ok-known.known _ path c.if-path-eq0.false f.at c.memo_at-below.ensures
+    (subst (λ (n : Node). IsKnownOn (take (length path - 1) (drop 1 path)) n kept c.in_ok-known.known) (sym child) (c.in_ok-known.ensures {u = tt}))
+    (own_alike node f.child memo kept path _ c.if-path-gt1.true (sym c.if-not-is_marked.ensures) f.at c.memo_at-below.ensures same (λ e. f.same (e ∙ ap own_facts (sym kept_is))) refl)
+    (c.in_ok-push.ensures {u = tt}).ok

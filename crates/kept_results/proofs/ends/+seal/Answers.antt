@@ -1,4 +1,4 @@
-use Rattle.std.proofs.Common.{◌≡◌, ◌∙◌, ◌<◌, sym, ap, Bool, arith, length, take}
+use Rattle.std.proofs.Common.{◌≡◌, ◌∙◌, ◌<◌, sym, ap, Bool, arith, length}
 use Rattle.std.proofs.lemmas.List.{take_all}
 use Rattle.kept_results.specs.Ends.{sealed, settled_all}
 use Rattle.kept_results.specs.declared.memo.Memo.TheViews.{out-Memo, size-Memo}

@@ -2,7 +2,7 @@ use Rattle.std.proofs.Common.{rules, ◌≡◌, ◌∙◌, refl, sym, ap, subst,
 use Rattle.font_metrics.specs.Metrics.{MetricsValue}
 use Rattle.math_tree.specs.declared.node.Node.{Node}
 use Rattle.math_tree.specs.declared.node.Node.TheViews.{size-Node}
-use Rattle.embellished.specs.declared.facts.Facts.{Facts}
+use Rattle.kept_results.specs.declared.memo.Former.{Former}
 use Rattle.layout_model.specs.Fits.{AreAnswers}
 use Rattle.layout_model.specs.Laws.{answer_of}
 use Rattle.layout_model.specs.declared.context.Context.{Context}
@@ -27,9 +27,8 @@ use Rattle.kept_results.proofs.Tidying.{tidy_added, tidy_below, tidy_renewed}
 use Rattle.kept_results.proofs.Turns.{Waves, child_in_flow, facts_known, kept_answers, kept_fits, kept_more, missing_same, names_still, needed_below, ones_proper, own_entries, own_mark, pass_ones, pass_twos, sound_made, suits_child, told_more, twos_proper, waves_fit, waves_lay, waves_unfit}
 use Rattle.kept_results.proofs.relay.+relay.Goals as goal
 
-none_of : (found : Option Answer) (P : Type 0) → IfNone found P → ((answer : Answer) → found ≡ Some answer → ⊥) → P
-none_of None P h other = h
-none_of (Some answer) P h other = absurd (other answer refl)
+none_of : (found : Option Answer) (P : Type 0) → found ≡ None → IfNone found P → P
+none_of found P e h = subst (λ (o : Option Answer). IfNone o P) e h
 
 some_of : (found : Option Answer) (answer : Answer) (P : Answer → Type 0) → found ≡ Some answer → IfSome found P → P answer
 some_of found answer P e h = subst (λ (o : Option Answer). IfSome o P) e h
@@ -180,6 +179,11 @@ relay_all-returns-clause-tidy g t c = c.loop-asked.invariant.tidy
 
 -- ---- an answer that is kept
 
+pub relay_element-relay_anew-requires : goal.relay_element-relay_anew-requires
+relay_element-relay_anew-requires g t c κs within =
+    let none = none_of c.in_ok-answer.field-0 _ c.in-None.is (c.in_ok-answer.ensures {u = tt}).none in
+    (omega arith, (search rules, (c.requires.agrees, (c.requires.few, (c.requires.context, none)))))
+
 pub relay_element-returns-in_err-answer-clause-passes : goal.relay_element-returns-in_err-answer-clause-passes
 relay_element-returns-in_err-answer-clause-passes g t c =
     passes_none c.args.metrics.now c.args.node.now (Needs c.args.metrics.now c.args.node.now c.args.context.now) c.args.memo.now c.args.steps.now false c.requires.agrees
@@ -207,44 +211,44 @@ relay_element-returns-in-Some-clause-tidy g t c = λ h. h
 
 -- ---- an element
 
-pub relay_element-make-requires-clause-own : goal.relay_element-make-requires-clause-own
-relay_element-make-requires-clause-own g t c =
+pub relay_anew-make-requires-clause-own : goal.relay_anew-make-requires-clause-own
+relay_anew-make-requires-clause-own g t c =
     let own = c.requires.agrees.at [] c.args.node.now c.args.memo.now (refl, refl) in
     own.facts_are
 
-pub relay_element-make-requires-clause-known : goal.relay_element-make-requires-clause-known
-relay_element-make-requires-clause-known g t c =
+pub relay_anew-make-requires-clause-known : goal.relay_anew-make-requires-clause-known
+relay_anew-make-requires-clause-known g t c =
     (c.in_ok-kids.ensures {u = tt}) ∙ ap (map own_facts) c.as_slice.ensures ∙ facts_known c.args.metrics.now c.args.node.now c.args.memo.now c.requires.agrees
 
-pub relay_element-make-requires-clause-few : goal.relay_element-make-requires-clause-few
-relay_element-make-requires-clause-few g t c =
+pub relay_anew-make-requires-clause-few : goal.relay_anew-make-requires-clause-few
+relay_anew-make-requires-clause-few g t c =
     omega (arith, few_children c.args.node.now, c.requires.few)
 
-pub relay_element-returns-in_err-kids-clause-passes : goal.relay_element-returns-in_err-kids-clause-passes
-relay_element-returns-in_err-kids-clause-passes g t c =
+pub relay_anew-returns-in_err-kids-clause-passes : goal.relay_anew-returns-in_err-kids-clause-passes
+relay_anew-returns-in_err-kids-clause-passes g t c =
     passes_none c.args.metrics.now c.args.node.now (Needs c.args.metrics.now c.args.node.now c.args.context.now) c.args.memo.now c.args.steps.now false c.requires.agrees
 
-pub relay_element-returns-in_err-view-clause-passes : goal.relay_element-returns-in_err-view-clause-passes
-relay_element-returns-in_err-view-clause-passes g t c =
+pub relay_anew-returns-in_err-view-clause-passes : goal.relay_anew-returns-in_err-view-clause-passes
+relay_anew-returns-in_err-view-clause-passes g t c =
     passes_none c.args.metrics.now c.args.node.now (Needs c.args.metrics.now c.args.node.now c.args.context.now) c.args.memo.now c.args.steps.now false c.requires.agrees
 
-pub relay_element-returns-in_err-ones-clause-passes : goal.relay_element-returns-in_err-ones-clause-passes
-relay_element-returns-in_err-ones-clause-passes g t c =
+pub relay_anew-returns-in_err-ones-clause-passes : goal.relay_anew-returns-in_err-ones-clause-passes
+relay_anew-returns-in_err-ones-clause-passes g t c =
     passes_none c.args.metrics.now c.args.node.now (Needs c.args.metrics.now c.args.node.now c.args.context.now) c.args.memo.now c.args.steps.now false c.requires.agrees
 
-pub relay_element-returns-in_err-survey-clause-passes : goal.relay_element-returns-in_err-survey-clause-passes
-relay_element-returns-in_err-survey-clause-passes g t c =
+pub relay_anew-returns-in_err-survey-clause-passes : goal.relay_anew-returns-in_err-survey-clause-passes
+relay_anew-returns-in_err-survey-clause-passes g t c =
     passes_none c.args.metrics.now c.args.node.now (Needs c.args.metrics.now c.args.node.now c.args.context.now) c.args.memo.now c.args.steps.now false c.requires.agrees
 
-pub relay_element-returns-in_err-survey-clause-range : goal.relay_element-returns-in_err-survey-clause-range
-relay_element-returns-in_err-survey-clause-range g t c =
+pub relay_anew-returns-in_err-survey-clause-range : goal.relay_anew-returns-in_err-survey-clause-range
+relay_anew-returns-in_err-survey-clause-range g t c =
     λ e.
     let same = rw e at c.from_residual-in_err-survey.ensures.1 in
     range_is c.args.metrics.now c.args.node.now c.args.context.now
     ∙ size_false _ _ (size_false _ _ ((c.in_err-survey.ensures {u = tt}).range (ap Err (sym same))))
 
-pub relay_element-relay_all-requires : goal.relay_element-relay_all-requires
-relay_element-relay_all-requires g t c κs within =
+pub relay_anew-relay_all-requires : goal.relay_anew-relay_all-requires
+relay_anew-relay_all-requires g t c κs within =
     let m = c.args.metrics.now in
     let node = c.args.node.now in
     let context = c.args.context.now in
@@ -252,8 +256,8 @@ relay_element-relay_all-requires g t c κs within =
     let o = (c.in_ok-ones.ensures {u = tt}) in
     (omega arith, (search rules, (shown, (c.requires.agrees, (c.requires.few, ones_proper m node _ context shown _ o.ok c.requires.context o.styles)))))
 
-pub relay_element-returns-in_err-one-clause-passes : goal.relay_element-returns-in_err-one-clause-passes
-relay_element-returns-in_err-one-clause-passes g t c =
+pub relay_anew-returns-in_err-one-clause-passes : goal.relay_anew-returns-in_err-one-clause-passes
+relay_anew-returns-in_err-one-clause-passes g t c =
     let m = c.args.metrics.now in
     let node = c.args.node.now in
     let context = c.args.context.now in
@@ -261,8 +265,8 @@ relay_element-returns-in_err-one-clause-passes g t c =
     let o = (c.in_ok-ones.ensures {u = tt}) in
     pass_ones m node _ context shown _ o.ok (c.in_err-one.ensures {u = tt}).passes
 
-pub relay_element-returns-in_err-one-clause-range : goal.relay_element-returns-in_err-one-clause-range
-relay_element-returns-in_err-one-clause-range g t c =
+pub relay_anew-returns-in_err-one-clause-range : goal.relay_anew-returns-in_err-one-clause-range
+relay_anew-returns-in_err-one-clause-range g t c =
     λ e.
     let m = c.args.metrics.now in
     let node = c.args.node.now in
@@ -273,15 +277,15 @@ relay_element-returns-in_err-one-clause-range g t c =
     let whole = range_waves m node _ context shown c.in_ok-ones.ones o.ok (map (answer_of m node) c.in_ok-ones.ones) refl _ refl in
     ones_false _ _ _ _ whole ((c.in_err-one.ensures {u = tt}).range (ap Err (sym same)))
 
-pub relay_element-second_questions-requires-clause-answers : goal.relay_element-second_questions-requires-clause-answers
-relay_element-second_questions-requires-clause-answers g t c =
+pub relay_anew-second_questions-requires-clause-answers : goal.relay_anew-second_questions-requires-clause-answers
+relay_anew-second_questions-requires-clause-answers g t c =
     let m = c.args.metrics.now in
     let node = c.args.node.now in
     let one = (c.in_ok-one.ensures {u = tt}) in
     subst AreAnswers (sym one.ok) (answers_are m node c.requires.few c.in_ok-ones.ones one.fit)
 
-pub relay_element-returns-in_err-twos-clause-passes : goal.relay_element-returns-in_err-twos-clause-passes
-relay_element-returns-in_err-twos-clause-passes g t c =
+pub relay_anew-returns-in_err-twos-clause-passes : goal.relay_anew-returns-in_err-twos-clause-passes
+relay_anew-returns-in_err-twos-clause-passes g t c =
     let m = c.args.metrics.now in
     let node = c.args.node.now in
     let context = c.args.context.now in
@@ -290,8 +294,8 @@ relay_element-returns-in_err-twos-clause-passes g t c =
     let one = (c.in_ok-one.ensures {u = tt}) in
     passes_partly m (pass_ones m node _ context shown _ o.ok one.passed)
 
-pub relay_element-relay_all-requires-2 : goal.relay_element-relay_all-requires-2
-relay_element-relay_all-requires-2 g t c κs within =
+pub relay_anew-relay_all-requires-2 : goal.relay_anew-relay_all-requires-2
+relay_anew-relay_all-requires-2 g t c κs within =
     let m = c.args.metrics.now in
     let node = c.args.node.now in
     let context = c.args.context.now in
@@ -302,8 +306,8 @@ relay_element-relay_all-requires-2 g t c κs within =
     let fit = subst AreAnswers (sym one.ok) (answers_are m node c.requires.few c.in_ok-ones.ones one.fit) in
     (omega arith, (search rules, (shown, (one.passed.agrees, (c.requires.few, twos_proper m node _ context shown _ o.ok c.in_ok-one.one one.ok _ w.value c.requires.context w.styles fit)))))
 
-pub relay_element-returns-in_err-two-clause-passes : goal.relay_element-returns-in_err-two-clause-passes
-relay_element-returns-in_err-two-clause-passes g t c =
+pub relay_anew-returns-in_err-two-clause-passes : goal.relay_anew-returns-in_err-two-clause-passes
+relay_anew-returns-in_err-two-clause-passes g t c =
     let m = c.args.metrics.now in
     let node = c.args.node.now in
     let context = c.args.context.now in
@@ -313,8 +317,8 @@ relay_element-returns-in_err-two-clause-passes g t c =
     let w = (c.in_ok-twos.ensures {u = tt}).value in
     passes_both m (pass_ones m node _ context shown _ o.ok one.passed) (pass_twos m node _ context shown _ o.ok _ one.ok _ w (c.in_err-two.ensures {u = tt}).passes)
 
-pub relay_element-returns-in_err-two-clause-range : goal.relay_element-returns-in_err-two-clause-range
-relay_element-returns-in_err-two-clause-range g t c =
+pub relay_anew-returns-in_err-two-clause-range : goal.relay_anew-returns-in_err-two-clause-range
+relay_anew-returns-in_err-two-clause-range g t c =
     λ e.
     let m = c.args.metrics.now in
     let node = c.args.node.now in
@@ -327,8 +331,8 @@ relay_element-returns-in_err-two-clause-range g t c =
     let whole = range_waves m node _ context shown c.in_ok-ones.ones o.ok c.in_ok-one.one one.ok c.in_ok-twos.twos w in
     twos_false _ _ _ _ whole ((c.in_err-two.ensures {u = tt}).range (ap Err (sym same)))
 
-pub relay_element-finish_asked-requires-clause-answers : goal.relay_element-finish_asked-requires-clause-answers
-relay_element-finish_asked-requires-clause-answers g t c =
+pub relay_anew-finish_asked-requires-clause-answers : goal.relay_anew-finish_asked-requires-clause-answers
+relay_anew-finish_asked-requires-clause-answers g t c =
     let m = c.args.metrics.now in
     let node = c.args.node.now in
     let context = c.args.context.now in
@@ -341,8 +345,8 @@ relay_element-finish_asked-requires-clause-answers g t c =
     (subst AreAnswers (sym one.ok) (answers_are m node c.requires.few c.in_ok-ones.ones one.fit))
     (subst AreAnswers (sym two.ok) (answers_are m node c.requires.few c.in_ok-twos.twos two.fit))
 
-pub relay_element-returns-in_err-outcome-clause-passes : goal.relay_element-returns-in_err-outcome-clause-passes
-relay_element-returns-in_err-outcome-clause-passes g t c =
+pub relay_anew-returns-in_err-outcome-clause-passes : goal.relay_anew-returns-in_err-outcome-clause-passes
+relay_anew-returns-in_err-outcome-clause-passes g t c =
     let m = c.args.metrics.now in
     let node = c.args.node.now in
     let context = c.args.context.now in
@@ -354,11 +358,11 @@ relay_element-returns-in_err-outcome-clause-passes g t c =
     let both : Passes m node (Needs m node context) c.args.memo.now c.relay_all-2.new.memo c.args.steps.now c.relay_all-2.new.steps true =
     passes_both m (pass_ones m node _ context shown _ o.ok one.passed) (pass_twos m node _ context shown _ o.ok _ one.ok _ w two.passed) in
     let missing : IsMissing (is_marked (out-Memo c.relay_all-2.new.memo)) context (out-Memo c.relay_all-2.new.memo).entries =
-    missing_same _ _ context _ _ (none_of c.in_ok-answer.field-0 _ (c.in_ok-answer.ensures {u = tt}).none c.in_default.not-Some) (ap (λ (former : Option Facts). is_some former) (two.marked ∙ one.marked)) (two.own ∙ one.own) in
+    missing_same _ _ context _ _ c.requires.missing (ap (λ (former : Option Former). is_some former) (two.marked ∙ one.marked)) (two.own ∙ one.own) in
     passes_both m both (passes_step m node (Needs m node context) c.relay_all-2.new.memo context c.relay_all-2.new.steps c.finish_asked.new.steps both.agrees missing (own_need m node context) c.finish_asked.ensures.step)
 
-pub relay_element-returns-in_err-outcome-clause-range : goal.relay_element-returns-in_err-outcome-clause-range
-relay_element-returns-in_err-outcome-clause-range g t c =
+pub relay_anew-returns-in_err-outcome-clause-range : goal.relay_anew-returns-in_err-outcome-clause-range
+relay_anew-returns-in_err-outcome-clause-range g t c =
     λ e.
     let m = c.args.metrics.now in
     let node = c.args.node.now in
@@ -373,8 +377,8 @@ relay_element-returns-in_err-outcome-clause-range g t c =
     let same = rw e at c.from_residual-in_err-outcome.ensures.1 in
     waves_unfit waves ((c.in_err-outcome.ensures {u = tt}).range (ap Err (sym same)))
 
-pub relay_element-returns-in_err-keep-clause-passes : goal.relay_element-returns-in_err-keep-clause-passes
-relay_element-returns-in_err-keep-clause-passes g t c =
+pub relay_anew-returns-in_err-keep-clause-passes : goal.relay_anew-returns-in_err-keep-clause-passes
+relay_anew-returns-in_err-keep-clause-passes g t c =
     let m = c.args.metrics.now in
     let node = c.args.node.now in
     let context = c.args.context.now in
@@ -386,12 +390,12 @@ relay_element-returns-in_err-keep-clause-passes g t c =
     let both : Passes m node (Needs m node context) c.args.memo.now c.relay_all-2.new.memo c.args.steps.now c.relay_all-2.new.steps true =
     passes_both m (pass_ones m node _ context shown _ o.ok one.passed) (pass_twos m node _ context shown _ o.ok _ one.ok _ w two.passed) in
     let missing : IsMissing (is_marked (out-Memo c.relay_all-2.new.memo)) context (out-Memo c.relay_all-2.new.memo).entries =
-    missing_same _ _ context _ _ (none_of c.in_ok-answer.field-0 _ (c.in_ok-answer.ensures {u = tt}).none c.in_default.not-Some) (ap (λ (former : Option Facts). is_some former) (two.marked ∙ one.marked)) (two.own ∙ one.own) in
+    missing_same _ _ context _ _ c.requires.missing (ap (λ (former : Option Former). is_some former) (two.marked ∙ one.marked)) (two.own ∙ one.own) in
     subst (λ (memo : Memo). Passes m node (Needs m node context) c.args.memo.now memo c.args.steps.now c.finish_asked.new.steps false) (sym (c.in_err-keep.ensures {u = tt}).unchanged)
     (passes_both m both (passes_step m node (Needs m node context) c.relay_all-2.new.memo context c.relay_all-2.new.steps c.finish_asked.new.steps both.agrees missing (own_need m node context) c.finish_asked.ensures.step))
 
-pub relay_element-returns-clause-passes : goal.relay_element-returns-clause-passes
-relay_element-returns-clause-passes g t c =
+pub relay_anew-returns-clause-passes : goal.relay_anew-returns-clause-passes
+relay_anew-returns-clause-passes g t c =
     let m = c.args.metrics.now in
     let node = c.args.node.now in
     let context = c.args.context.now in
@@ -403,19 +407,19 @@ relay_element-returns-clause-passes g t c =
     let both : Passes m node (Needs m node context) c.args.memo.now c.relay_all-2.new.memo c.args.steps.now c.relay_all-2.new.steps true =
     passes_both m (pass_ones m node _ context shown _ o.ok one.passed) (pass_twos m node _ context shown _ o.ok _ one.ok _ w two.passed) in
     let missing : IsMissing (is_marked (out-Memo c.relay_all-2.new.memo)) context (out-Memo c.relay_all-2.new.memo).entries =
-    missing_same _ _ context _ _ (none_of c.in_ok-answer.field-0 _ (c.in_ok-answer.ensures {u = tt}).none c.in_default.not-Some) (ap (λ (former : Option Facts). is_some former) (two.marked ∙ one.marked)) (two.own ∙ one.own) in
+    missing_same _ _ context _ _ c.requires.missing (ap (λ (former : Option Former). is_some former) (two.marked ∙ one.marked)) (two.own ∙ one.own) in
     let waves : Waves m node c.in_ok-view.view.node.now context c.in_ok-ones.ones c.in_ok-twos.twos c.in_ok-one.one c.in_ok-two.two =
     record { shown_is = shown; ones_are = o.ok; one_is = one.ok; twos_are = w; two_is = two.ok } in
     let made = (c.in_ok-outcome.ensures {u = tt}) in
     let whole = waves_fit waves (c.in_ok-survey.ensures {u = tt}).fit made.fit one.fit two.fit in
     let kept = (c.in_ok-keep.ensures {u = tt}).kept in
     let named = all_then (NamesKept node (out-Memo c.relay_all.new.memo).below) (NamesKept node (out-Memo c.relay_all-2.new.memo).below) (names_still node two.passed.keeps) c.in_ok-ones.ones one.kept in
-    let sound = sound_made waves c.relay_all-2.new.memo c.keep.new.memo c.in_ok-outcome.outcome kept made.ok c.requires.context whole named two.kept in
+    let sound = sound_made waves c.relay_all-2.new.memo c.keep.new.memo c.in_ok-outcome.outcome kept made.ok c.requires.context whole o.styles named two.kept in
     let all = passes_both m both (passes_added m node (Needs m node context) c.relay_all-2.new.memo kept.entry context c.relay_all-2.new.steps c.finish_asked.new.steps both.agrees sound missing kept.in_context kept.fresh (own_need m node context) c.finish_asked.ensures.step) in
     subst (λ (memo : Memo). Passes m node (Needs m node context) c.args.memo.now memo c.args.steps.now c.finish_asked.new.steps false) (sym kept.added) (passes_partly m all)
 
-pub relay_element-returns-clause-passed : goal.relay_element-returns-clause-passed
-relay_element-returns-clause-passed g t c =
+pub relay_anew-returns-clause-passed : goal.relay_anew-returns-clause-passed
+relay_anew-returns-clause-passed g t c =
     let m = c.args.metrics.now in
     let node = c.args.node.now in
     let context = c.args.context.now in
@@ -427,33 +431,33 @@ relay_element-returns-clause-passed g t c =
     let both : Passes m node (Needs m node context) c.args.memo.now c.relay_all-2.new.memo c.args.steps.now c.relay_all-2.new.steps true =
     passes_both m (pass_ones m node _ context shown _ o.ok one.passed) (pass_twos m node _ context shown _ o.ok _ one.ok _ w two.passed) in
     let missing : IsMissing (is_marked (out-Memo c.relay_all-2.new.memo)) context (out-Memo c.relay_all-2.new.memo).entries =
-    missing_same _ _ context _ _ (none_of c.in_ok-answer.field-0 _ (c.in_ok-answer.ensures {u = tt}).none c.in_default.not-Some) (ap (λ (former : Option Facts). is_some former) (two.marked ∙ one.marked)) (two.own ∙ one.own) in
+    missing_same _ _ context _ _ c.requires.missing (ap (λ (former : Option Former). is_some former) (two.marked ∙ one.marked)) (two.own ∙ one.own) in
     let waves : Waves m node c.in_ok-view.view.node.now context c.in_ok-ones.ones c.in_ok-twos.twos c.in_ok-one.one c.in_ok-two.two =
     record { shown_is = shown; ones_are = o.ok; one_is = one.ok; twos_are = w; two_is = two.ok } in
     let made = (c.in_ok-outcome.ensures {u = tt}) in
     let whole = waves_fit waves (c.in_ok-survey.ensures {u = tt}).fit made.fit one.fit two.fit in
     let kept = (c.in_ok-keep.ensures {u = tt}).kept in
     let named = all_then (NamesKept node (out-Memo c.relay_all.new.memo).below) (NamesKept node (out-Memo c.relay_all-2.new.memo).below) (names_still node two.passed.keeps) c.in_ok-ones.ones one.kept in
-    let sound = sound_made waves c.relay_all-2.new.memo c.keep.new.memo c.in_ok-outcome.outcome kept made.ok c.requires.context whole named two.kept in
+    let sound = sound_made waves c.relay_all-2.new.memo c.keep.new.memo c.in_ok-outcome.outcome kept made.ok c.requires.context whole o.styles named two.kept in
     let all = passes_both m both (passes_added m node (Needs m node context) c.relay_all-2.new.memo kept.entry context c.relay_all-2.new.steps c.finish_asked.new.steps both.agrees sound missing kept.in_context kept.fresh (own_need m node context) c.finish_asked.ensures.step) in
     subst (λ (memo : Memo). Passes m node (Needs m node context) c.args.memo.now memo c.args.steps.now c.finish_asked.new.steps true) (sym kept.added) all
 
-pub relay_element-returns-clause-kept : goal.relay_element-returns-clause-kept
-relay_element-returns-clause-kept g t c =
+pub relay_anew-returns-clause-kept : goal.relay_anew-returns-clause-kept
+relay_anew-returns-clause-kept g t c =
     let kept = (c.in_ok-keep.ensures {u = tt}).kept in
     let live = fresh_live (is_marked (out-Memo c.relay_all-2.new.memo)) kept.entry kept.fresh in
     subst (λ (memo : Memo). IsKept (out-Memo memo) c.args.context.now) (sym kept.added)
     record { entry = kept.entry; has = has_added c.relay_all-2.new.memo kept.entry live; in_context = kept.in_context }
 
-pub relay_element-returns-clause-tidy : goal.relay_element-returns-clause-tidy
-relay_element-returns-clause-tidy g t c =
+pub relay_anew-returns-clause-tidy : goal.relay_anew-returns-clause-tidy
+relay_anew-returns-clause-tidy g t c =
     λ h.
     let kept = (c.in_ok-keep.ensures {u = tt}).kept in
     let ones = (c.in_ok-one.ensures {u = tt}).tidy (tidy_below c.args.memo.now h) in
     subst IsTidy (sym kept.added) (tidy_added c.relay_all-2.new.memo kept.entry kept.fresh ((c.in_ok-two.ensures {u = tt}).tidy ones))
 
-pub relay_element-returns-clause-ok : goal.relay_element-returns-clause-ok
-relay_element-returns-clause-ok g t c =
+pub relay_anew-returns-clause-ok : goal.relay_anew-returns-clause-ok
+relay_anew-returns-clause-ok g t c =
     let m = c.args.metrics.now in
     let node = c.args.node.now in
     let context = c.args.context.now in
@@ -467,8 +471,8 @@ relay_element-returns-clause-ok g t c =
     let made = (c.in_ok-outcome.ensures {u = tt}) in
     (c.in_ok-keep.ensures {u = tt}).answer ∙ ap (λ (outcome : Outcome). outcome.answer) (made.ok ∙ waves_lay waves)
 
-pub relay_element-returns-clause-fit : goal.relay_element-returns-clause-fit
-relay_element-returns-clause-fit g t c =
+pub relay_anew-returns-clause-fit : goal.relay_anew-returns-clause-fit
+relay_anew-returns-clause-fit g t c =
     let m = c.args.metrics.now in
     let node = c.args.node.now in
     let context = c.args.context.now in
