@@ -7,22 +7,22 @@ use Rattle.kept_results.proofs.Renewing.{next_was, renewed_more, sealed_end, sma
 use Rattle.kept_results.proofs.Tidying.{calm_sealed, tidy_below}
 use Rattle.kept_results.proofs.ends.+seal.Goals as goal
 
-pub returns-then-is_calm-clause-sealed : goal.returns-then-is_calm-clause-sealed
-returns-then-is_calm-clause-sealed t c = sym (calm_sealed c.args.memo.now c.requires.tidy (sym c.is_calm.ensures ∙ c.if-is_calm.true))
+pub seal-returns-then-is_calm-clause-sealed : goal.seal-returns-then-is_calm-clause-sealed
+seal-returns-then-is_calm-clause-sealed t c = sym (calm_sealed c.args.memo.now c.requires.tidy (sym c.is_calm.ensures ∙ c.if-is_calm.true))
 
-pub returns-then-is_calm-clause-made : goal.returns-then-is_calm-clause-made
-returns-then-is_calm-clause-made t c =
+pub seal-returns-then-is_calm-clause-made : goal.seal-returns-then-is_calm-clause-made
+seal-returns-then-is_calm-clause-made t c =
     let none = none_calm c.args.memo.now c.requires.tidy (sym c.is_calm.ensures ∙ c.if-is_calm.true) in
     omega (arith, none)
 
-pub seal-requires : goal.seal-requires
-seal-requires t c =
+pub seal_through-seal-requires : goal.seal_through-seal-requires
+seal_through-seal-requires t c =
     let was = next_was sealed c.args.memo.now c.loop-at.memo c.loop-at.at c.at_mut.result.now c.loop-at.invariant.renewed c.at_mut.ensures.value in
     let falls : size-Memo c.at_mut.result.now < size-Memo c.args.memo.now = smaller c.args.memo.now c.loop-at.at c.at_mut.result.now was in
     (omega arith, tidy_below c.args.memo.now c.requires.tidy c.loop-at.at c.at_mut.result.now was)
 
-pub loop-at-preserved : goal.loop-at-preserved
-loop-at-preserved t c =
+pub seal_through-loop-at-preserved : goal.seal_through-loop-at-preserved
+seal_through-loop-at-preserved t c =
     let was = next_was sealed c.args.memo.now c.loop-at.memo c.loop-at.at c.at_mut.result.now c.loop-at.invariant.renewed c.at_mut.ensures.value in
     let more = fresh_more (out-Memo c.args.memo.now).below c.loop-at.at c.at_mut.result.now was in
     record {
@@ -30,14 +30,14 @@ loop-at-preserved t c =
       counted = omega (arith, more, c.loop-at.invariant.counted, c.seal.ensures.made, c.saturating_add-made.ensures);
     }
 
-pub returns-clause-sealed : goal.returns-clause-sealed
-returns-clause-sealed t c =
+pub seal_through-returns-clause-sealed : goal.seal_through-returns-clause-sealed
+seal_through-returns-clause-sealed t c =
     let all : length (out-Memo c.args.memo.now).below ≡ c.loop-at.at = omega arith in
     sealed_end c.args.memo.now c.loop-at.memo c.loop-at.at c.drop_older.new.entries c.loop-at.invariant.renewed all
     (c.drop_older.ensures ∙ ap (λ (b : Bool). settled_all b (out-Memo c.loop-at.memo).entries) c.is_marked-marked.ensures)
 
-pub returns-clause-made : goal.returns-clause-made
-returns-clause-made t c =
+pub seal_through-returns-clause-made : goal.seal_through-returns-clause-made
+seal_through-returns-clause-made t c =
     let memos = (out-Memo c.args.memo.now).below in
     let all = ap fresh_below (take_all c.loop-at.at memos (omega arith)) in
     omega (arith, all, fresh_out c.args.memo.now, c.loop-at.invariant.counted)
