@@ -84,7 +84,8 @@ pub fn asked_before(
     memo: &Memo,
     context: &Context,
 ) -> Result<Option<List<Question>>, Memory>
-    ensures { IfOk result (λ found. IfSome found (AskedBefore (out-Memo memo.now) context.now)) }
+    ensures some { IfOk result (λ found. IfSome found (AskedBefore (out-Memo memo.now) context.now)) }
+    ensures none { IfOk result (λ found. IfNone found (sees_the_same (out-Memo memo.now) ≡ true → IsMissing false context.now (out-Memo memo.now).entries)) }
 {
     if !sees_the_same(memo) {
         return Ok(None);

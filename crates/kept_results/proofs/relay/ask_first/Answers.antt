@@ -28,9 +28,9 @@ module _ (m : MetricsValue) (node : Node) (memo : Memo) (context : Context) (ask
 pub returns-in-Some-clause-ok : goal.returns-in-Some-clause-ok
 returns-in-Some-clause-ok c =
     first_still c.args.metrics.now c.args.view.now.node.now c.args.memo.now c.args.context.now c.in-Some.asks c.requires.agrees
-    (found c.in_ok-asks.field-0 c.in-Some.asks (AskedBefore (out-Memo c.args.memo.now) c.args.context.now) c.in-Some.is (c.in_ok-asks.ensures {u = tt}))
+    (found c.in_ok-asks.field-0 c.in-Some.asks (AskedBefore (out-Memo c.args.memo.now) c.args.context.now) c.in-Some.is (c.in_ok-asks.ensures {u = tt}).some)
 
 pub returns-in-Some-clause-styles : goal.returns-in-Some-clause-styles
 returns-in-Some-clause-styles c =
     styled_still c.args.metrics.now c.args.view.now.node.now c.args.memo.now c.args.context.now c.in-Some.asks c.requires.agrees
-    (found c.in_ok-asks.field-0 c.in-Some.asks (AskedBefore (out-Memo c.args.memo.now) c.args.context.now) c.in-Some.is (c.in_ok-asks.ensures {u = tt}))
+    (found c.in_ok-asks.field-0 c.in-Some.asks (AskedBefore (out-Memo c.args.memo.now) c.args.context.now) c.in-Some.is (c.in_ok-asks.ensures {u = tt}).some)
