@@ -1,8 +1,8 @@
 //! What an edit does to the layouts that are kept beside a tree.
 //!
-//! An edit changes one element at the end of a way. The memos on that way are marked, so that what
-//! they keep counts no more, and get the facts of their elements as these are then; a memo is put in,
-//! taken out or put in the place of another where a child is.
+//! An edit changes one element at the end of a way. The memos on that way are marked, so that no layout
+//! that they keep counts, and get the facts of their elements as these are then; a memo is put in, taken
+//! out or put in the place of another where a child is.
 //!
 //! - Models: this project's own; MathML Core says nothing of it.
 //! - Proved: after the same change of both, memos agree with the tree again, and taking the change back

@@ -2,7 +2,8 @@
 //!
 //! A `Memo` has the shape of a tree. At each element it keeps the outcomes in the contexts in which
 //! that element was laid out, so that a later layout computes only what an edit changed. An edit
-//! marks the elements on the way to it; what a marked element keeps from before is of no use.
+//! marks the elements on the way to it; what a marked element keeps from before doesn't count, but for
+//! what it asked in the first wave, where layout sees the same of it as then.
 //!
 //! - Models: this project's own; MathML Core says nothing of it.
 //! - Proved: a pass gives the layout exactly, computes nothing that is kept, and nothing twice, and can
