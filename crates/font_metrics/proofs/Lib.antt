@@ -4,6 +4,7 @@ pub mod Tables
 pub mod Listed
 pub mod Cuts
 pub mod Steps
+pub mod Pairs
 pub mod EachKind
 pub mod Finish
 pub mod SameNames

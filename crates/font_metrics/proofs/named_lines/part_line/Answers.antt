@@ -1,4 +1,5 @@
-use Rattle.std.proofs.Common.{◌≡◌, ◌∙◌, ap, sym, refl, ℕ, ◌≤◌, ◌<◌, List, [], ◌∷◌, length, get_or, Bor, arith}
+use Rattle.std.proofs.Common.{◌≡◌, ◌∙◌, sym, refl, ℕ, ◌≤◌, ◌<◌, List, [], ◌∷◌, length, get_or, Bor, arith}
+use Rattle.font_metrics.specs.Faults.{both}
 use Rattle.font_metrics.specs.Lines.{lent, based_on, part_with, part_in}
 use Rattle.font_metrics.specs.Metrics.{NamedGlyph}
 use Rattle.font_metrics.proofs.named_lines.part_line.Goals as goal
@@ -20,5 +21,5 @@ six glyphs (a ∷ b ∷ c ∷ e ∷ f ∷ g ∷ x ∷ ws) d h k = absurd (omega 
 pub returns-in-len6 : goal.returns-in-len6
 returns-in-len6 c =
     let glyphs = c.args.glyphs.now in
-    c.based_on.ensures ∙ ap (based_on glyphs _) c.part_with-part.ensures
+    c.both.ensures ∙ (λ i. both (c.named.ensures i) (c.part_with.ensures i))
     ∙ sym (six glyphs c.args.fields.now _ c.in-len6.len_at_least c.in-len6.len_below)
