@@ -13,6 +13,8 @@ pub mod Entries
 pub mod TableKinds
 pub mod Slots
 pub mod Ranges
+pub mod LineTexts
+pub mod Refusing
 pub mod Forward
 pub mod Values
 pub mod Scaling

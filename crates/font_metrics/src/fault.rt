@@ -73,5 +73,9 @@ pub fn both<A: Copy, B: Copy>(
 ) -> Result<(A, B), LineFault>
     ensures { result ≡ both first second }
 {
-    Ok((first?, second?))
+    match (first, second) {
+        (Ok(first), Ok(second)) => Ok((first, second)),
+        (Err(fault), _) => Err(fault),
+        (_, Err(fault)) => Err(fault),
+    }
 }

@@ -1,7 +1,7 @@
-ghost use Rattle.std.specs.Prelude.{◌≡◌, IfOk};
+ghost use Rattle.std.specs.Prelude.{◌≡◌};
 ghost use Rattle.font_metrics.specs.Faults.{step_map};
 ghost use Rattle.font_metrics.specs.Lines.{lent, word_at, upem_in, line_in, one_length_in, length_in, reach_in, reach_if_given, constant_with, constant_in, glyph_with, glyph_in, operator_with, operator_in, SaysUpem, SaysLine, SaysXHeight, SaysOverlap, SaysConstant, SaysGlyph, SaysOperator};
-ghost use Rattle.font_metrics.specs.Said.{item_of, HasLineText};
+ghost use Rattle.font_metrics.specs.Said.{item_of};
 ghost use Rattle.font_metrics.specs.Constants.{lowest_of, highest_of};
 
 use crate::choices::{axis, category, extender, form};
@@ -126,8 +126,7 @@ fn glyph_with<'a>(
 
 /// `operator CODES FORM CATEGORY AXIS`
 pub fn operator_line<'a>(fields: &[&'a [u8]]) -> Result<Said<'a>, LineFault>
-    ensures value { step_map item_of result ≡ step_map SaysOperator (operator_in (lent fields.now)) }
-    ensures text { IfOk result HasLineText }
+    ensures { step_map item_of result ≡ step_map SaysOperator (operator_in (lent fields.now)) }
 {
     match fields {
         &[codes, place, properties, direction] => {
@@ -143,8 +142,7 @@ fn operator_with<'a>(
     properties: &'a [u8],
     direction: &'a [u8],
 ) -> Result<Said<'a>, LineFault>
-    ensures value { step_map item_of result ≡ step_map SaysOperator (operator_with codes.now place.now properties.now direction.now) }
-    ensures text { IfOk result HasLineText }
+    ensures { step_map item_of result ≡ step_map SaysOperator (operator_with codes.now place.now properties.now direction.now) }
 {
     let named = both(operator_text(codes), form(place));
     let ((text, form), (category, axis)) = both(

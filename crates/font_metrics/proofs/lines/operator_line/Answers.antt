@@ -17,5 +17,5 @@ read : (ws : List (Bor (List ℕ))) (d : Bor (List ℕ)) (said : Step Item) → 
     → said ≡ step_map SaysOperator (operator_with (get_or ws 0 d).now (get_or ws 1 d).now (get_or ws 2 d).now (get_or ws 3 d).now) → said ≡ step_map SaysOperator (operator_in (lent ws))
 read ws d said low high h = h ∙ ap (step_map SaysOperator) (sym (fields ws d low high))
 
-pub returns-in-len4-clause-value : goal.returns-in-len4-clause-value
-returns-in-len4-clause-value c = read c.args.fields.now _ _ c.in-len4.len_at_least c.in-len4.len_below c.operator_with.ensures.value
+pub returns-in-len4 : goal.returns-in-len4
+returns-in-len4 c = read c.args.fields.now _ _ c.in-len4.len_at_least c.in-len4.len_below c.operator_with.ensures

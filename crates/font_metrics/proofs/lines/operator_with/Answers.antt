@@ -26,17 +26,17 @@ read t f g a all text form category axis ht hf hg ha h =
     ap (step_map line_of) (h ∙ (λ i. both (both (ht i) (hf i)) (both (hg i) (ha i))))
     ∙ sym (four (operator_text_in text) (form_in form) (category_in category) (axis_in axis) line_of)
 
-pub returns-in_err-text-clause-value : goal.returns-in_err-text-clause-value
-returns-in_err-text-clause-value c =
+pub returns-in_err-text : goal.returns-in_err-text
+returns-in_err-text c =
     ap (step_map item_of) (failed c.from_residual.result c.in_err-text.field-0.0 c.from_residual.ensures.1)
     ∙ ap (step_map SaysOperator)
     (ap (step_map line_of) (sym c.in_err-text.was)
-    ∙ read _ _ _ _ c.both-2.result _ _ _ _ c.operator_text.ensures.value c.form.ensures c.category.ensures c.axis.ensures
+    ∙ read _ _ _ _ c.both-2.result _ _ _ _ c.operator_text.ensures c.form.ensures c.category.ensures c.axis.ensures
     (c.both-2.ensures ∙ (λ i. both (c.both-named.ensures i) (c.both.ensures i))))
 
-pub returns-clause-value : goal.returns-clause-value
-returns-clause-value c =
+pub returns : goal.returns
+returns c =
     ap (step_map SaysOperator)
     (ap (step_map line_of) (sym c.in_ok-text.was)
-    ∙ read _ _ _ _ c.both-2.result _ _ _ _ c.operator_text.ensures.value c.form.ensures c.category.ensures c.axis.ensures
+    ∙ read _ _ _ _ c.both-2.result _ _ _ _ c.operator_text.ensures c.form.ensures c.category.ensures c.axis.ensures
     (c.both-2.ensures ∙ (λ i. both (c.both-named.ensures i) (c.both.ensures i))))
