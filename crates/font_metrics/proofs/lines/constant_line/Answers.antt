@@ -35,6 +35,6 @@ returns-in-len2 c =
 pub returns-in_default : goal.returns-in_default
 returns-in_default c =
     elim c.in_default.branch [
-      in_default-via-then-fields-lt2 w ↦ ap (step_map SaysConstant) (sym (fewer c.args.fields.now (omega (arith, ltb-true))))
-    | in_default-via-else-fields-lt2+else-fields-lt3 w ↦ ap (step_map SaysConstant) (sym (more c.args.fields.now (omega (arith, ltb-false))))
+      | in_default-via-then-fields-lt2 w ↦ ap (step_map SaysConstant) (sym (fewer c.args.fields.now (omega (arith, ltb-true))))
+      | in_default-via-else-fields-lt2+else-fields-lt3 w ↦ ap (step_map SaysConstant) (sym (more c.args.fields.now (omega (arith, ltb-false))))
     ]

@@ -43,6 +43,6 @@ returns-in-len4 c = read c.args.fields.now _ _ c.in-len4.len_at_least c.in-len4.
 pub returns-in_default : goal.returns-in_default
 returns-in_default c =
     elim c.in_default.branch [
-      in_default-via-then-fields-lt4 w ↦ ap (step_map SaysOperator) (sym (fewer c.args.fields.now (omega (arith, ltb-true))))
-    | in_default-via-else-fields-lt4+else-fields-lt5 w ↦ ap (step_map SaysOperator) (sym (more c.args.fields.now (omega (arith, ltb-false))))
+      | in_default-via-then-fields-lt4 w ↦ ap (step_map SaysOperator) (sym (fewer c.args.fields.now (omega (arith, ltb-true))))
+      | in_default-via-else-fields-lt4+else-fields-lt5 w ↦ ap (step_map SaysOperator) (sym (more c.args.fields.now (omega (arith, ltb-false))))
     ]

@@ -40,6 +40,6 @@ returns-in_ok-length-in-len1 c =
 pub returns-in_default : goal.returns-in_default
 returns-in_default c =
     elim c.in_default.branch [
-      in_default-via-then-fields-lt1 w ↦ ap (step_map SaysOverlap) (sym (fewer c.args.fields.now (omega (arith, ltb-true))))
-    | in_default-via-else-fields-lt1+else-fields-lt2 w ↦ ap (step_map SaysOverlap) (sym (more c.args.fields.now (omega (arith, ltb-false))))
+      | in_default-via-then-fields-lt1 w ↦ ap (step_map SaysOverlap) (sym (fewer c.args.fields.now (omega (arith, ltb-true))))
+      | in_default-via-else-fields-lt1+else-fields-lt2 w ↦ ap (step_map SaysOverlap) (sym (more c.args.fields.now (omega (arith, ltb-false))))
     ]
