@@ -20,3 +20,10 @@ five (Ok x) (Ok y) (Ok z) (Err fault) e f = refl
 five (Ok x) (Ok y) (Err fault) d e f = refl
 five (Ok x) (Err fault) c d e f = refl
 five (Err fault) b c d e f = refl
+
+pub three : {A B C R : Type 0} (a : Step A) (b : Step B) (c : Step C) (f : A × (B × C) → R)
+    → (a >>= λ x. b >>= λ y. c >>= λ z. Ok (f (x, (y, z)))) ≡ step_map f (both a (both b c))
+three (Ok x) (Ok y) (Ok z) f = refl
+three (Ok x) (Ok y) (Err fault) f = refl
+three (Ok x) (Err fault) c f = refl
+three (Err fault) b c f = refl
