@@ -1,4 +1,4 @@
-use Rattle.std.proofs.Common.{◌≡◌, ◌∙◌, ap, sym, pos, ℕ}
+use Rattle.std.proofs.Common.{◌∙◌, ap, sym, pos, ℕ}
 use Rattle.font_metrics.specs.declared.growth.Variant.{Variant}
 use Rattle.font_metrics.specs.Faults.{step_map, both}
 use Rattle.font_metrics.specs.Lines.{named_in, length_in}

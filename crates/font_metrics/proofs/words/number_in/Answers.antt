@@ -40,7 +40,6 @@ returns-in-Some-clause-low c =
     let test : is_between c.args.low c.args.high c.in-Some.number ≡ true = simp to_z-of_z at c.if-low-number.true in
     simp to_z-of_z (le_z_yes (subst T (sym (and_parts _ _ test).0) tt))
 
-
 pub returns-in-Some-clause-high : goal.returns-in-Some-clause-high
 returns-in-Some-clause-high c =
     let fits : SFits w32 c.in-Some.number = search rules in
