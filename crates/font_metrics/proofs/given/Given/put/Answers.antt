@@ -31,8 +31,3 @@ pub returns-in-Character : goal.returns-in-Character
 returns-in-Character c =
     on_ok_weaker c.add-in-Character.result
     (λ new. (λ i. record c.args.self.now { characters = new i }) ∙ kept c.args.self.now c.args.said _ c.in-Character.is) c.add-in-Character.ensures.ok
-
-pub returns-in-Operator : goal.returns-in-Operator
-returns-in-Operator c =
-    on_ok_weaker c.add_operator.result
-    (λ new. (λ i. record c.args.self.now { operators = new i }) ∙ kept c.args.self.now c.args.said _ c.in-Operator.is) c.add_operator.ensures
