@@ -4,6 +4,7 @@ pub mod Tables
 pub mod Listed
 pub mod Cuts
 pub mod Steps
+pub mod Pairs
 pub mod EachKind
 pub mod Finish
 pub mod SameNames
@@ -12,6 +13,8 @@ pub mod Entries
 pub mod TableKinds
 pub mod Slots
 pub mod Ranges
+pub mod LineTexts
+pub mod Refusing
 pub mod Forward
 pub mod Values
 pub mod Scaling

@@ -18,6 +18,13 @@ abbrev pub step_map : {X Y : Type 0} → (X → Y) → Step X → Step Y
 step_map f (Ok x) = Ok (f x)
 step_map f (Err fault) = Err fault
 
+-- both values, or the first fault
+abbrev pub both : {X Y : Type 0} → Step X → Step Y → Step (X × Y)
+both first second = do
+  x ← first
+  y ← second
+  Ok (x, y)
+
 -- what is there, or a fault
 abbrev pub or_fault : {X : Type 0} → LineFault → Option X → Step X
 or_fault fault None = Err fault

@@ -1,12 +1,12 @@
-ghost use Rattle.std.specs.Prelude.{◌≡◌, IfOk};
+ghost use Rattle.std.specs.Prelude.{◌≡◌};
 ghost use Rattle.font_metrics.specs.Faults.{step_map};
-ghost use Rattle.font_metrics.specs.Lines.{lent, word_at, upem_in, line_with, line_in, one_length_in, length_in, reach_in, reach_if_given, constant_with, constant_in, glyph_with, glyph_in, operator_with, operator_in, SaysUpem, SaysLine, SaysXHeight, SaysOverlap, SaysConstant, SaysGlyph, SaysOperator};
-ghost use Rattle.font_metrics.specs.Said.{item_of, HasLineText};
+ghost use Rattle.font_metrics.specs.Lines.{lent, word_at, upem_in, line_in, one_length_in, length_in, reach_in, reach_if_given, constant_with, constant_in, glyph_with, glyph_in, operator_with, operator_in, SaysUpem, SaysLine, SaysXHeight, SaysOverlap, SaysConstant, SaysGlyph, SaysOperator};
+ghost use Rattle.font_metrics.specs.Said.{item_of};
 ghost use Rattle.font_metrics.specs.Constants.{lowest_of, highest_of};
 
 use crate::choices::{axis, category, extender, form};
 use crate::constants::place_of_text;
-use crate::fault::LineFault;
+use crate::fault::{LineFault, both};
 use crate::glyph::Measures;
 use crate::said::Said;
 use crate::words::{glyph_name, natural_in, number_in, operator_text};
@@ -17,7 +17,7 @@ pub fn upem_line<'a>(fields: &[&'a [u8]]) -> Result<Said<'a>, LineFault>
     ensures { step_map item_of result ≡ step_map SaysUpem (upem_in (lent fields.now)) }
 {
     match fields {
-        [units] => Ok(Said::Upem(natural_in(16, 16384, units)?)),
+        &[units] => Ok(Said::Upem(natural_in(16, 16384, units)?)),
         _ => Err(LineFault::FieldCount),
     }
 }
@@ -27,17 +27,9 @@ pub fn extent_line<'a>(fields: &[&'a [u8]]) -> Result<Said<'a>, LineFault>
     ensures { step_map item_of result ≡ step_map SaysLine (line_in (lent fields.now)) }
 {
     match fields {
-        [ascent, descent] => line_with(ascent, descent),
+        &[ascent, descent] => Ok(Said::Line(both(length(ascent), length(descent))?)),
         _ => Err(LineFault::FieldCount),
     }
-}
-
-fn line_with<'a>(ascent: &'a [u8], descent: &'a [u8]) -> Result<Said<'a>, LineFault>
-    ensures { step_map item_of result ≡ step_map SaysLine (line_with ascent.now descent.now) }
-{
-    let ascent = length(ascent)?;
-    let descent = length(descent)?;
-    Ok(Said::Line((ascent, descent)))
 }
 
 /// `xheight HEIGHT`
@@ -45,7 +37,7 @@ pub fn x_height_line<'a>(fields: &[&'a [u8]]) -> Result<Said<'a>, LineFault>
     ensures { step_map item_of result ≡ step_map SaysXHeight (one_length_in (lent fields.now)) }
 {
     match fields {
-        [height] => Ok(Said::XHeight(length(height)?)),
+        &[height] => Ok(Said::XHeight(length(height)?)),
         _ => Err(LineFault::FieldCount),
     }
 }
@@ -55,7 +47,7 @@ pub fn overlap_line<'a>(fields: &[&'a [u8]]) -> Result<Said<'a>, LineFault>
     ensures { step_map item_of result ≡ step_map SaysOverlap (one_length_in (lent fields.now)) }
 {
     match fields {
-        [least] => Ok(Said::Overlap(length(least)?)),
+        &[least] => Ok(Said::Overlap(length(least)?)),
         _ => Err(LineFault::FieldCount),
     }
 }
@@ -65,7 +57,7 @@ pub fn constant_line<'a>(fields: &[&'a [u8]]) -> Result<Said<'a>, LineFault>
     ensures { step_map item_of result ≡ step_map SaysConstant (constant_in (lent fields.now)) }
 {
     match fields {
-        [name, value] => constant_with(name, value),
+        &[name, value] => constant_with(name, value),
         _ => Err(LineFault::FieldCount),
     }
 }
@@ -98,7 +90,7 @@ pub fn glyph_line<'a>(fields: &[&'a [u8]]) -> Result<Said<'a>, LineFault>
     ensures { step_map item_of result ≡ step_map SaysGlyph (glyph_in (lent fields.now)) }
 {
     match fields {
-        [name, advance, ascent, descent, more @ ..] if more.len() <= 2 => {
+        &[name, advance, ascent, descent, ref more @ ..] if more.len() <= 2 => {
             glyph_with(name, advance, ascent, descent, more)
         }
         _ => Err(LineFault::FieldCount),
@@ -115,12 +107,13 @@ fn glyph_with<'a>(
     ensures { step_map item_of result ≡ step_map SaysGlyph
         (glyph_with name.now advance.now ascent.now descent.now (word_at 0 (lent more.now)) (word_at 1 (lent more.now))) }
 {
-    let name = glyph_name(name)?;
-    let advance = length(advance)?;
-    let ink_ascent = reach(ascent)?;
-    let ink_descent = reach(descent)?;
-    let italic = reach_at(0, more)?;
-    let accent = reach_at(1, more)?;
+    let named = both(glyph_name(name), length(advance));
+    let ink = both(reach(ascent), reach(descent));
+    let attached = both(reach_at(0, more), reach_at(1, more));
+    let ((name, advance), ((ink_ascent, ink_descent), (italic, accent))) = both(
+        named,
+        both(ink, attached),
+    )?;
     let measures = Measures {
         advance,
         ink_ascent,
@@ -133,11 +126,10 @@ fn glyph_with<'a>(
 
 /// `operator CODES FORM CATEGORY AXIS`
 pub fn operator_line<'a>(fields: &[&'a [u8]]) -> Result<Said<'a>, LineFault>
-    ensures value { step_map item_of result ≡ step_map SaysOperator (operator_in (lent fields.now)) }
-    ensures text { IfOk result HasLineText }
+    ensures { step_map item_of result ≡ step_map SaysOperator (operator_in (lent fields.now)) }
 {
     match fields {
-        [codes, place, properties, direction] => {
+        &[codes, place, properties, direction] => {
             operator_with(codes, place, properties, direction)
         }
         _ => Err(LineFault::FieldCount),
@@ -150,13 +142,13 @@ fn operator_with<'a>(
     properties: &'a [u8],
     direction: &'a [u8],
 ) -> Result<Said<'a>, LineFault>
-    ensures value { step_map item_of result ≡ step_map SaysOperator (operator_with codes.now place.now properties.now direction.now) }
-    ensures text { IfOk result HasLineText }
+    ensures { step_map item_of result ≡ step_map SaysOperator (operator_with codes.now place.now properties.now direction.now) }
 {
-    let text = operator_text(codes)?;
-    let form = form(place)?;
-    let category = category(properties)?;
-    let axis = axis(direction)?;
+    let named = both(operator_text(codes), form(place));
+    let ((text, form), (category, axis)) = both(
+        named,
+        both(category(properties), axis(direction)),
+    )?;
     Ok(Said::Operator(OperatorLine {
         text,
         form,
@@ -185,6 +177,6 @@ fn reach_at(place: usize, words: &[&[u8]]) -> Result<Option<i32>, LineFault>
 {
     match words.get(place) {
         None => Ok(None),
-        Some(word) => Ok(Some(reach(word)?)),
+        Some(&word) => Ok(Some(reach(word)?)),
     }
 }

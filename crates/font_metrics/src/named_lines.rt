@@ -1,10 +1,10 @@
 ghost use Rattle.std.specs.Prelude.{◌≡◌, ◌≤◌, length};
 ghost use Rattle.font_metrics.specs.Faults.{step_map};
-ghost use Rattle.font_metrics.specs.Lines.{lent, named_in, character_with, character_in, variant_with, variant_in, based_on, part_with, part_in, SaysCharacter};
+ghost use Rattle.font_metrics.specs.Lines.{lent, named_in, character_in, variant_with, variant_in, part_with, part_in, SaysCharacter};
 ghost use Rattle.font_metrics.specs.Said.{item_of};
 
 use crate::choices::extender;
-use crate::fault::LineFault;
+use crate::fault::{LineFault, both};
 use crate::glyph::GlyphId;
 use crate::glyphs::GlyphTable;
 use crate::growth::{Part, Variant};
@@ -18,22 +18,9 @@ pub fn character_line<'a>(glyphs: &GlyphTable, fields: &[&'a [u8]]) -> Result<Sa
     ensures { step_map item_of result ≡ step_map SaysCharacter (character_in glyphs.now (lent fields.now)) }
 {
     match fields {
-        [code, name] => character_with(glyphs, code, name),
+        &[code, name] => Ok(Said::Character(both(letter(code), named(glyphs, name))?)),
         _ => Err(LineFault::FieldCount),
     }
-}
-
-fn character_with<'a>(
-    glyphs: &GlyphTable,
-    code: &'a [u8],
-    name: &'a [u8],
-) -> Result<Said<'a>, LineFault>
-    requires { length glyphs.now ≤ 65535 }
-    ensures { step_map item_of result ≡ step_map SaysCharacter (character_with glyphs.now code.now name.now) }
-{
-    let letter = letter(code)?;
-    let place = named(glyphs, name)?;
-    Ok(Said::Character((letter, place)))
 }
 
 /// `BASE VARIANT MEASURE`: the base's place, and its variant.
@@ -42,7 +29,7 @@ pub fn variant_line(glyphs: &GlyphTable, fields: &[&[u8]]) -> Result<(u16, Varia
     ensures { result ≡ variant_in glyphs.now (lent fields.now) }
 {
     match fields {
-        [base, variant, measure] => variant_with(glyphs, base, variant, measure),
+        &[base, variant, measure] => variant_with(glyphs, base, variant, measure),
         _ => Err(LineFault::FieldCount),
     }
 }
@@ -56,10 +43,13 @@ fn variant_with(
     requires { length glyphs.now ≤ 65535 }
     ensures { result ≡ variant_with glyphs.now base.now variant.now measure.now }
 {
-    let place = named(glyphs, base)?;
-    let glyph = GlyphId(named(glyphs, variant)?);
-    let measure = i64::from(length(measure)?);
-    Ok((place, Variant { glyph, measure }))
+    let larger = both(named(glyphs, variant), length(measure));
+    let (place, (variant, measure)) = both(named(glyphs, base), larger)?;
+    let variant = Variant {
+        glyph: GlyphId(variant),
+        measure: i64::from(measure),
+    };
+    Ok((place, variant))
 }
 
 /// `BASE PART FIX|EXT START END FULL`: the base's place, and a part of its assembly.
@@ -68,26 +58,12 @@ pub fn part_line(glyphs: &GlyphTable, fields: &[&[u8]]) -> Result<(u16, Part), L
     ensures { result ≡ part_in glyphs.now (lent fields.now) }
 {
     match fields {
-        [base, part, role, start, end, full] => {
-            let part = part_with(glyphs, part, role, start, end, full);
-            based_on(glyphs, base, part)
-        }
+        &[base, part, role, start, end, full] => both(
+            named(glyphs, base),
+            part_with(glyphs, part, role, start, end, full),
+        ),
         _ => Err(LineFault::FieldCount),
     }
-}
-
-/// The base is looked for first.
-fn based_on(
-    glyphs: &GlyphTable,
-    base: &[u8],
-    part: Result<Part, LineFault>,
-) -> Result<(u16, Part), LineFault>
-    requires { length glyphs.now ≤ 65535 }
-    ensures { result ≡ based_on glyphs.now base.now part }
-{
-    let place = named(glyphs, base)?;
-    let part = part?;
-    Ok((place, part))
 }
 
 fn part_with(
@@ -101,17 +77,15 @@ fn part_with(
     requires { length glyphs.now ≤ 65535 }
     ensures { result ≡ part_with glyphs.now name.now role.now start.now end.now full.now }
 {
-    let glyph = GlyphId(named(glyphs, name)?);
-    let extender = extender(role)?;
-    let start = i64::from(length(start)?);
-    let end = i64::from(length(end)?);
-    let full = i64::from(length(full)?);
+    let kind = both(named(glyphs, name), extender(role));
+    let connectors = both(length(start), length(end));
+    let ((place, extender), ((start, end), full)) = both(kind, both(connectors, length(full)))?;
     Ok(Part {
-        glyph,
+        glyph: GlyphId(place),
         extender,
-        start,
-        end,
-        full,
+        start: i64::from(start),
+        end: i64::from(end),
+        full: i64::from(full),
     })
 }
 

@@ -149,7 +149,7 @@ fn is_version(words: &[&[u8]]) -> bool
     ensures { result ≡ is_version (lent words.now) }
 {
     match words {
-        [name, version] => is_text(name, "mathlay-metrics") & is_text(version, "1"),
+        &[name, version] => is_text(name, "mathlay-metrics") & is_text(version, "1"),
         _ => false,
     }
 }

@@ -1,7 +1,7 @@
-ghost use Rattle.std.specs.Prelude.{◌≡◌, ◌≤◌, length, IfOk};
+ghost use Rattle.std.specs.Prelude.{◌≡◌, ◌≤◌, length};
 ghost use Rattle.font_metrics.specs.Faults.{step_map};
 ghost use Rattle.font_metrics.specs.Lines.{lent, item_in};
-ghost use Rattle.font_metrics.specs.Said.{item_of, HasLineText, IsOfNoTable};
+ghost use Rattle.font_metrics.specs.Said.{item_of, IsOfNoTable};
 
 use crate::fault::LineFault;
 use crate::glyph::Measures;
@@ -39,8 +39,7 @@ pub fn line_says<'a>(
 ) -> Result<Said<'a>, LineFault>
     requires few { length glyphs.now ≤ 65535 }
     requires word { IsOfNoTable keyword }
-    ensures value { step_map item_of result ≡ item_in glyphs.now keyword (lent fields.now) }
-    ensures text { IfOk result HasLineText }
+    ensures { step_map item_of result ≡ item_in glyphs.now keyword (lent fields.now) }
 {
     match keyword {
         Keyword::Upem => upem_line(fields),

@@ -2,7 +2,6 @@ ghost use Rattle.std.specs.Prelude.{◌≡◌, ◌<◌, ◌≤◌, ◌^◌, leng
 ghost use Rattle.std.specs.Option.{option_map};
 ghost use Rattle.std.specs.List.{list_all};
 ghost use Rattle.fixed_units.specs.Numbers.{IsWithin};
-ghost use Rattle.op_dictionary.specs.Pairs.{IsLineText};
 ghost use Rattle.font_metrics.specs.Faults.{step_map, or_fault};
 ghost use Rattle.font_metrics.specs.declared.fault.LineFault.TheVariants as fault;
 ghost use Rattle.font_metrics.specs.Words.{value_of_digits, numeral_of, number_of, number_in, natural_in, code_of, letter_in, in_pair, one_in, pair_in, operator_text_in, is_name_byte, is_name, name_in};
@@ -47,8 +46,7 @@ pub fn letter(word: &[u8]) -> Result<char, LineFault>
 
 /// The text of an operator: one code, or two of at most `FFFF` that a plus joins.
 pub fn operator_text(word: &[u8]) -> Result<OpText, LineFault>
-    ensures value { result ≡ operator_text_in word.now }
-    ensures text { IfOk result IsLineText }
+    ensures { result ≡ operator_text_in word.now }
 {
     match word.iter().position(|byte| *byte == b'+') {
         None => one(word),
@@ -69,16 +67,14 @@ pub fn glyph_name(word: &[u8]) -> Result<&str, LineFault>
 }
 
 fn one(code: &[u8]) -> Result<OpText, LineFault>
-    ensures value { result ≡ one_in code.now }
-    ensures text { IfOk result IsLineText }
+    ensures { result ≡ one_in code.now }
 {
     let letter = letter(code)?;
     Ok(OpText::One(letter))
 }
 
 fn pair(first: &[u8], second: &[u8]) -> Result<OpText, LineFault>
-    ensures value { result ≡ pair_in first.now second.now }
-    ensures text { IfOk result IsLineText }
+    ensures { result ≡ pair_in first.now second.now }
 {
     match (code(first), code(second)) {
         (Some(first), Some(second)) => {
@@ -92,8 +88,7 @@ fn pair(first: &[u8], second: &[u8]) -> Result<OpText, LineFault>
 
 /// The character of a code of a pair: it has at most 16 bits.
 fn in_pair(code: u32) -> Result<char, LineFault>
-    ensures value { result ≡ in_pair code }
-    ensures small { IfOk result (λ letter. letter ≤ 0xFFFF) }
+    ensures { result ≡ in_pair code }
 {
     if code <= 0xFFFF {
         char::from_u32(code).ok_or(LineFault::OutOfRange)

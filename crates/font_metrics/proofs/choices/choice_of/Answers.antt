@@ -1,5 +1,7 @@
 use Rattle.std.proofs.Common.{◌∙◌, ap, sym, Some}
+use Rattle.std.proofs.lemmas.List.{take_all}
 use Rattle.std.specs.Str.{bytes_eq}
+use Rattle.font_metrics.specs.Words.{choice_in}
 use Rattle.font_metrics.proofs.Choosing.{chosen, none-more}
 use Rattle.font_metrics.proofs.choices.choice_of.Goals as goal
 
@@ -17,3 +19,10 @@ loop-text-preserved g c =
     let word = c.args.word.now in
     none-more c.args.choices.now c.loop-text.text-index item word c.loop-text-test.true c.loop-text.invariant
     (ap (λ choice. bytes_eq word choice.0.now) (sym c.loop-text-item.is) ∙ sym c.is_text.ensures ∙ c.if-is_text.false)
+
+pub returns : goal.returns
+unfolding choice_in
+returns g c =
+    let choices = c.args.choices.now in
+    sym c.loop-text.invariant
+    ∙ ap (λ shown. choice_in shown c.args.word.now) (take_all c.loop-text.text-index choices c.loop-text-test.false)

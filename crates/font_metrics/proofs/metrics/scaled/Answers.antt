@@ -1,9 +1,15 @@
-use Rattle.std.proofs.Common.{◌∙◌, ap, subst, sym, lit<, lit≤, to_z, of_z, w64, ◌*ℤ◌, pos, ◌^◌, ◌≤ℤ◌, ◌<ℤ◌, arith}
+use Rattle.std.proofs.Common.{◌≡◌, SFits, ◌∙◌, ap, subst, sym, lit<, lit≤, to_z, of_z, w64, ◌*ℤ◌, pos, ◌^◌, ◌≤ℤ◌, ◌<ℤ◌, arith}
 use Rattle.fixed_units.specs.Numbers.{IsWithin, rounded}
-use Rattle.fixed_units.proofs.Within.{product_in, widened, quotient_in}
+use Rattle.fixed_units.proofs.Within.{fits_i64, product_in, widened, quotient_in}
 use Rattle.fixed_units.proofs.Signed.{signed}
 use Rattle.font_metrics.proofs.Scaling.{back64, product_back, upem_back}
 use Rattle.font_metrics.proofs.metrics.scaled.Goals as goal
+
+pub overflow_mul-value : goal.overflow_mul-value
+overflow_mul-value c =
+    let parts : to_z w64 (of_z w64 c.args.value) *ℤ to_z w64 (of_z w64 c.args.size) ≡ c.args.value *ℤ c.args.size =
+    λ i. back64 c.requires.value_in (lit< tt) i *ℤ back64 c.requires.size_in (lit< tt) i in
+    subst (SFits w64) (sym parts) (fits_i64 (product_in c.requires.value_in c.requires.size_in) (lit< tt))
 
 pub round-requires-clause-positive : goal.round-requires-clause-positive
 round-requires-clause-positive c =

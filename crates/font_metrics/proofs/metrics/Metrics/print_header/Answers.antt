@@ -1,0 +1,16 @@
+use Rattle.std.proofs.Common.{◌≡◌, ◌++◌, List, ℕ, append_assoc}
+use Rattle.std.proofs.lemmas.Result.{on_ok_weaker}
+use Rattle.font_metrics.proofs.metrics.Metrics.print_header.Goals as goal
+
+-- text behind text
+behind : (l a b c d x y z w v : List ℕ) (all : List ℕ) → a ≡ l ++ x → b ≡ a ++ y → c ≡ b ++ z → d ≡ c ++ w → all ≡ d ++ v
+    → all ≡ l ++ (x ++ (y ++ (z ++ (w ++ v))))
+behind l a b c d x y z w v all ha hb hc hd h = rw (h, hd, hc, hb, ha) (simp append_assoc)
+
+pub returns : goal.returns
+returns c =
+    rw (← c.self.view_is)
+    (on_ok_weaker c.print_overlap.result
+    (λ last. behind c.args.lines.now c.add_line.new.self c.add_line-2.new.self c.add_line-3.new.self c.add_line-4.new.self _ _ _ _ _ c.print_overlap.new.lines c.in_ok-add_line.ensures c.in_ok-add_line-2.ensures c.in_ok-add_line-3.ensures
+    c.in_ok-add_line-4.ensures last)
+    c.print_overlap.ensures)
