@@ -22,7 +22,7 @@ use Rattle.kept_results.proofs.Lists.{pushed, set_here, still_first}
 use Rattle.kept_results.proofs.Turns.{facts_known}
 use Rattle.kept_edits.specs.Changed.{changed_below, seen_anew}
 use Rattle.kept_edits.specs.Known.{BesideLaw, IsBeside, IsKnownOn}
-use Rattle.kept_edits.specs.Laws.{IsAlike, IsReadyFor, IsSame, KnownOn}
+use Rattle.kept_edits.specs.Laws.{IsSeenAsBefore, IsReadyFor, IsSame, KnownOn}
 use Rattle.kept_edits.specs.declared.change.MemoChange.{MemoChange}
 use Rattle.kept_edits.specs.declared.change.Renewal.{Renewal}
 use Rattle.kept_edits.proofs.Alike.{map_same}
@@ -51,7 +51,7 @@ known_here node memo known before (place ∷ path) z b e = absurd (omega (arith,
 -- what an element on the way is, over what is known of the child there
 pub record IsOwn (node : Node) (memo : Memo) (place : ℕ) (path : List ℕ) (own : Renewal) : Type 0 where
   pub facts_are : own.facts ≡ facts node
-  pub alike : own.alike ≡ true → IsAlike place path node memo
+  pub alike : own.alike ≡ true → IsSeenAsBefore place path node memo
 
 further_on : (node child : Node) (memo kept : Memo) (known before : List Renewal) (own : Renewal) (place : ℕ) (path : List ℕ) → slice_get (out-Node node).children place ≡ Some child
     → slice_get (out-Memo memo).below place ≡ Some kept → IsKnownOn path child kept before → IsOwn node memo place path own → known ≡ before ++ own ∷ []

@@ -9,7 +9,6 @@ use Rattle.tree_edits.specs.Paths.{node_at}
 use Rattle.tree_edits.specs.declared.change.Change.{Change}
 use Rattle.tree_edits.specs.declared.change.Change.TheVariants.{SetText, SetValue, PutChild, TakeChild, SwapChild}
 use Rattle.tree_edits.specs.declared.edit.Edit.{Edit}
-use Rattle.kept_edits.specs.declared.change.Renewal.{Renewal}
 use Rattle.layout_model.specs.Layout.{Visit, root_context, visits}
 use Rattle.layout_model.specs.declared.context.Context.{Context}
 use Rattle.kept_results.specs.Passes.{HasNoRepeat, Needs, Pair}
@@ -21,6 +20,7 @@ use Rattle.kept_edits.specs.Laws.{IsSame}
 use Rattle.kept_edits.specs.Need.{IsCounted, IsSealedFor}
 use Rattle.kept_edits.specs.Passed.{TakesMissing}
 use Rattle.kept_edits.specs.declared.change.MemoChange.{MemoChange}
+use Rattle.kept_edits.specs.declared.change.Renewal.{Renewal}
 
 -- ---- what may have to be made
 

@@ -7,8 +7,8 @@ use Rattle.kept_results.specs.Looking.{own_facts}
 use Rattle.kept_results.specs.declared.memo.Memo.{Memo}
 use Rattle.kept_results.specs.declared.memo.Memo.TheViews.{out-Memo, roll-Memo}
 use Rattle.kept_edits.specs.declared.change.MemoChange.{MemoChange}
-use Rattle.kept_edits.specs.declared.change.Renewal.{Renewal}
 use Rattle.kept_edits.specs.declared.change.MemoChange.TheVariants.{Stay, PutMemo, TakeMemo, SwapMemo}
+use Rattle.kept_edits.specs.declared.change.Renewal.{Renewal}
 
 -- ---- the memos of an element's children
 

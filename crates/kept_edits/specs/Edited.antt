@@ -9,11 +9,11 @@ use Rattle.tree_edits.specs.Paths.{FitsAt, changed, changed_at, children_of, nod
 use Rattle.tree_edits.specs.declared.change.Change.{Change}
 use Rattle.tree_edits.specs.declared.change.Change.TheVariants.{SetText, SetValue, PutChild, TakeChild, SwapChild}
 use Rattle.tree_edits.specs.declared.edit.Edit.{Edit}
-use Rattle.kept_edits.specs.declared.change.Renewal.{Renewal}
 use Rattle.kept_results.specs.declared.memo.Memo.{Memo}
 use Rattle.kept_edits.specs.Changed.{changed_memo}
 use Rattle.kept_edits.specs.Laws.{IsReadyFor, IsSame, KnownOn}
 use Rattle.kept_edits.specs.declared.change.MemoChange.{MemoChange}
+use Rattle.kept_edits.specs.declared.change.Renewal.{Renewal}
 
 -- the same change, with room for what it adds to an element
 abbrev pub with_room : Change → Node → Change

@@ -3,7 +3,6 @@ use Rattle.std.specs.Prelude.{◌≡◌, ℕ, Bool, true, List}
 use Rattle.font_metrics.specs.Metrics.{MetricsValue}
 use Rattle.math_tree.specs.declared.node.Node.{Node}
 use Rattle.tree_edits.specs.declared.change.Change.{Change}
-use Rattle.kept_edits.specs.declared.change.Renewal.{Renewal}
 use Rattle.layout_model.specs.declared.context.Context.{Context}
 use Rattle.kept_results.specs.Ends.{sealed, settled, stripped}
 use Rattle.kept_results.specs.Kept.{Holds, IsKept}
@@ -16,6 +15,7 @@ use Rattle.kept_edits.specs.Changed.{FitsMemo, changed_memo, taken_from, undone_
 use Rattle.kept_edits.specs.Laws.{IsSame, back_of}
 use Rattle.kept_edits.specs.Need.{CameFrom, IsSealedFor}
 use Rattle.kept_edits.specs.declared.change.MemoChange.{MemoChange}
+use Rattle.kept_edits.specs.declared.change.Renewal.{Renewal}
 
 -- a pass that was done is sealed: no edit and no pass is under way, and all that the root needs is kept
 abbrev pub AcceptedLaw : Type 0

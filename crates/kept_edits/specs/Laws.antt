@@ -35,9 +35,10 @@ IsSame m (TakeChild index) (TakeMemo place) = place ≡ index
 IsSame m (SwapChild index child) (SwapMemo place memo) = (place ≡ index) × IsReadyFor m child memo
 IsSame m change other = ⊥
 
--- layout sees the same of an element on a way, and of its children, as before the change: no other change is under way,
--- the element at the end stands deeper than a child, and the child on the way is what its memo knows of it from before
-pub record IsAlike (place : ℕ) (path : List ℕ) (node : Node) (memo : Memo) : Type 0 where
+-- what suffices for layout to see the same of an element on a way, and of its children, as before the change: no other
+-- change is under way, the element at the end stands deeper than a child, and the child on the way is what its memo
+-- knows of it from before
+pub record IsSeenAsBefore (place : ℕ) (path : List ℕ) (node : Node) (memo : Memo) : Type 0 where
   pub unmarked : is_marked (out-Memo memo) ≡ false
   pub deeper : 0 < length path
   pub child_is : (child : Node) (kept : Memo) → slice_get (out-Node node).children place ≡ Some child → slice_get (out-Memo memo).below place ≡ Some kept → facts child ≡ own_facts kept
@@ -46,7 +47,7 @@ pub record IsAlike (place : ℕ) (path : List ℕ) (node : Node) (memo : Memo) :
 abbrev pub KnownOn : List Renewal → List ℕ → Node → Memo → Type 0
 KnownOn known [] node memo = slice_get known 0 ≡ Some (seen_anew (facts node))
 KnownOn known (place ∷ path) node memo =
-    (own : Renewal) × (slice_get known (length (place ∷ path)) ≡ Some own) × (own.facts ≡ facts node) × (own.alike ≡ true → IsAlike place path node memo)
+    (own : Renewal) × (slice_get known (length (place ∷ path)) ≡ Some own) × (own.facts ≡ facts node) × (own.alike ≡ true → IsSeenAsBefore place path node memo)
     × ((child : Node) (kept : Memo) → slice_get (out-Node node).children place ≡ Some child → slice_get (out-Memo memo).below place ≡ Some kept → KnownOn known path child kept)
 
 -- where the same is changed in a tree and in memos that agree with it, they agree again

@@ -5,7 +5,6 @@ use Rattle.font_metrics.specs.Metrics.{MetricsValue}
 use Rattle.math_tree.specs.declared.node.Node.{Node}
 use Rattle.tree_edits.specs.declared.change.Change.{Change}
 use Rattle.tree_edits.specs.declared.change.Change.TheVariants.{SetText, SetValue, PutChild, TakeChild, SwapChild}
-use Rattle.kept_edits.specs.declared.change.Renewal.{Renewal}
 use Rattle.layout_model.specs.declared.context.Context.{Context}
 use Rattle.kept_results.specs.Kept.{Holds, HoldsOne}
 use Rattle.kept_results.specs.Laws.{is_unmarked}
@@ -15,6 +14,7 @@ use Rattle.kept_results.specs.declared.memo.Memo.{Memo}
 use Rattle.kept_edits.specs.Changed.{FitsMemo, changed_memo}
 use Rattle.kept_edits.specs.Laws.{IsReadyFor, IsSame}
 use Rattle.kept_edits.specs.declared.change.MemoChange.{MemoChange}
+use Rattle.kept_edits.specs.declared.change.Renewal.{Renewal}
 
 -- ---- elements that an edit leaves alone
 

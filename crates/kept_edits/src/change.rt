@@ -25,7 +25,7 @@ pub enum MemoChange {
 pub struct Renewal {
     /// What it is among operators.
     pub facts: Facts,
-    /// Whether layout sees the same of it and of its children as before.
+    /// Whether it is known that layout sees the same of it and of its children as before.
     pub alike: bool,
 }
 

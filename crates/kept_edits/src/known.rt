@@ -15,8 +15,8 @@ use math_tree::Node;
 use std::alloc::Global;
 
 /// What the elements on the way to a changed one are, that one first: of the changed tree, and the
-/// memos that are not changed yet. Of other elements only what is known of the children on the way is
-/// read, and not even that of an element of which layout sees the same as before.
+/// memos that are not changed yet. Of other elements only what is known of the children of those on the
+/// way is read. An element whose child on the way is what it was, and isn't the changed one, is what it was.
 pub fn known_on(
     alloc: Global,
     node: &Node,
@@ -47,8 +47,8 @@ pub fn known_on(
     }
 }
 
-/// Whether two elements are the same, neither of them an operator. Operators aren't looked at, so that they
-/// count as different.
+/// Whether two elements are the same among operators, and neither of them is an embellished one. Those
+/// aren't compared.
 fn is_same(a: &Facts, b: &Facts) -> bool
     ensures { result ≡ true → a.now ≡ b.now }
 {

@@ -30,7 +30,8 @@ Stores entry outcome = entry.outcome ≡ outcome
 abbrev pub is_marked : {X : Type 0} → Memo-F X → Bool
 is_marked layer = is_some layer.former
 
--- the present edit changes the element, or one below it, and layout sees the same of it and of its children as before
+-- the present edit changes the element, or one below it, and it is known that layout sees the same of it and of its
+-- children as before
 abbrev pub sees_the_same : {X : Type 0} → Memo-F X → Bool
 sees_the_same layer = option_map_or (λ former. former.alike) layer.former false
 
@@ -70,8 +71,8 @@ pub record NamesKept (node : Node) (below : List Memo) (question : Question) : T
   pub at : slice_get below child.place ≡ Some memo
   pub kept : IsKept (out-Memo memo) question.context
 
--- an entry keeps the layout of its element as the tree is now; all that is made for it is in range; and all that
--- it asks is kept
+-- an entry keeps the layout of its element as the tree is now; all that is made for it is in range; what it asks first
+-- keeps the bounds of styles; and all that it asks is kept
 pub record IsSound (m : MetricsValue) (node : Node) (below : List Memo) (entry : Entry) : Type 0 where
   pub stores : Stores entry (lay m node entry.context)
   pub suits : Suits m node entry.context

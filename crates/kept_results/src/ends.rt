@@ -28,7 +28,8 @@ pub fn seal(memo: &mut Memo) -> usize
     if is_calm(memo) { 0 } else { seal_through(memo) }
 }
 
-/// The same, whatever the edit and the pass did. It stands apart, since they left most elements alone.
+/// The same, whatever the edit and the pass did. It stands apart, so that an element that they left alone
+/// is passed by without the frame of this call: most were.
 #[cycle(seal)]
 #[inline(never)]
 fn seal_through(memo: &mut Memo) -> usize

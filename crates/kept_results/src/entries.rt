@@ -18,7 +18,8 @@ pub fn is_marked(memo: &Memo) -> bool
     memo.former.is_some()
 }
 
-/// Whether the present edit changes the element, or one below it, and layout sees the same of it as before.
+/// Whether the present edit changes the element, or one below it, and it is known that layout sees the
+/// same of it as before.
 fn sees_the_same(memo: &Memo) -> bool
     ensures { result ≡ sees_the_same (out-Memo memo.now) }
 {
@@ -77,8 +78,8 @@ pub fn kept_answer(alloc: Global, memo: &Memo, context: &Context) -> Result<Opti
     Ok(None)
 }
 
-/// What an element asked in the first wave before the present edit, in the same context, where layout
-/// sees the same of it as then.
+/// What an entry in a context, older or not, asked in the first wave, where it is known that layout sees
+/// the same of the element as before the present edit.
 pub fn asked_before(
     alloc: Global,
     memo: &Memo,

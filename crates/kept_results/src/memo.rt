@@ -20,8 +20,8 @@ pub struct Entry {
 pub struct Former {
     /// What it was among operators.
     pub facts: Facts,
-    /// Whether layout sees the same of it and of its children as before the edit. What the element asked
-    /// in the first wave then is what it asks now.
+    /// Whether it is known that layout sees the same of it and of its children as before the edit. What
+    /// the element asked in the first wave then is what it asks now.
     pub alike: bool,
 }
 

@@ -56,7 +56,8 @@ pub fn relay_element<L: Ledger>(
     }
 }
 
-/// The same, where no answer is kept. It stands apart, since most elements that a pass asks have one.
+/// The same, where no answer is kept. It stands apart, so that a kept answer is found without the frame of
+/// this call: most elements that a pass asks have one.
 #[cycle(relay)]
 #[inline(never)]
 fn relay_anew<L: Ledger>(
@@ -92,8 +93,8 @@ fn relay_anew<L: Ledger>(
     Ok(keep(alloc, memo, context, outcome, ones, twos)?)
 }
 
-/// The questions of the first wave. Where layout sees the same of the element as before the present
-/// edit, they are those that it asked then.
+/// The questions of the first wave. Where it is known that layout sees the same of the element as before
+/// the present edit, they are those that it asked then.
 fn ask_first(
     alloc: Global,
     memo: &Memo,
