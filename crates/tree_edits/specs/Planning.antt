@@ -5,12 +5,14 @@ use Rattle.math_tree.specs.Trees.{TreeValue, IsWhole, IsTotalled}
 use Rattle.math_tree.specs.declared.node.Node.{Node}
 use Rattle.tree_edits.specs.Edits.{named, has_id, head_of, edited, refusal_of}
 use Rattle.tree_edits.specs.Paths.{node_at, changed, changed_at, Fits, FitsAt}
-use Rattle.tree_edits.specs.Reasons.{own_reason, shown}
+use Rattle.tree_edits.specs.Reasons.{broken_limit, own_reason, shown}
+use Rattle.tree_edits.specs.Sizes.{totals_of}
 use Rattle.tree_edits.specs.Undoing.{IsOrdered}
 use Rattle.tree_edits.specs.WaysBack.{back_from, room_for}
 use Rattle.tree_edits.specs.declared.change.Change.{Change}
 use Rattle.tree_edits.specs.declared.change.Change.TheVariants.{SetValue, PutChild}
 use Rattle.tree_edits.specs.declared.edit.Edit.{Edit}
+use Rattle.tree_edits.specs.declared.planning.Accepted.{Accepted}
 use Rattle.tree_edits.specs.declared.planning.Plan.{Plan}
 use Rattle.tree_edits.specs.declared.planning.Step.{Step}
 
@@ -26,6 +28,14 @@ pub record Allows (edit : Edit) (tree : TreeValue) (path : List ℕ) (element : 
 pub record IsAllowed (edit : Edit) (tree : TreeValue) (path : List ℕ) : Type 0 where
   pub element : Node
   pub allows : Allows edit tree path element
+
+-- nothing is against the edit: no reason lies there, and the edited tree, of which these are the
+-- numbers, breaks no limit
+pub record IsAccepted (tree : TreeValue) (edit : Edit) (accepted : Accepted) : Type 0 where
+  pub element : Node
+  pub allows : Allows edit tree accepted.path element
+  pub totals_are : accepted.totals ≡ totals_of (edited tree edit)
+  pub within : broken_limit accepted.totals.deep accepted.totals.size.elements accepted.totals.size.bytes accepted.totals.next_id ≡ None
 
 -- ---- one step
 

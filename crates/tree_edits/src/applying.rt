@@ -77,7 +77,6 @@ pub fn apply_at(
 }
 
 /// Carries a plan out. It takes no memory.
-#[tactic(auto, using(crate::proofs::StandIn::stands_in))]
 fn carry_out_plan(tree: &mut Tree, plan: Plan) -> Taken
     requires { CanCarryOut plan tree.old }
     ensures tree { tree.new ≡ planned plan tree.old }

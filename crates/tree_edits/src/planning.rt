@@ -4,9 +4,10 @@ ghost use Rattle.std.specs.Prelude.{◌≡◌, ◌+◌, ◌≤◌, ◌^◌, leng
 ghost use Rattle.math_tree.specs.Print.{renumbered};
 ghost use Rattle.math_tree.specs.Trees.{element_count};
 ghost use Rattle.tree_edits.specs.Applying.{IsProperEdit, IsReason};
+ghost use Rattle.tree_edits.specs.declared.edit.EditRefusal.TheVariants.{Memory as OutOfMemory};
 ghost use Rattle.tree_edits.specs.Edits.{added, edited, named};
 ghost use Rattle.tree_edits.specs.Paths.{children_of, Finds, FitsAt};
-ghost use Rattle.tree_edits.specs.Planning.{IsAllowed, IsPlan, IsStep, Makes, PutsIn, SetsValue};
+ghost use Rattle.tree_edits.specs.Planning.{IsAccepted, IsAllowed, IsPlan, IsStep, Makes, PutsIn, SetsValue};
 
 use crate::change::Change;
 use crate::numbering::renumber;
@@ -31,6 +32,15 @@ pub struct Plan {
     pub spare: Spare,
 }
 
+/// What is found by looks at a tree where nothing is against an edit: the way to the element that it
+/// names, and the numbers of the edited tree; with the root for the meantime.
+#[derive(Drop)]
+pub struct Accepted {
+    pub path: Path,
+    pub totals: Totals,
+    pub spare: Spare,
+}
+
 /// A change of the element at the end of a way, and the way back from it.
 #[derive(Drop)]
 pub struct Step {
@@ -52,23 +62,66 @@ impl Plan {
         ensures planned { IfOk result (IsPlan tree.now edit) }
         ensures refused { IfErr result (IsReason tree.now edit) }
     {
-        let Some(path) = found else {
-            return Err(EditRefusal::UnknownNode);
-        };
-        let element = element_at(tree.root(), path.as_slice());
-        if let Some(reason) = own_reason(&edit, path.level(), element) {
-            return Err(reason);
-        }
-        let totals = Totals::of_edited(tree, &path, element, &edit);
-        if let Some(reason) = totals.broken_limit() {
-            return Err(reason);
-        }
+        let accepted = Accepted::make(alloc, tree, found, &edit)?;
+        Plan::of_accepted(alloc, tree, accepted, edit)
+    }
+
+    /// The plan of an edit that nothing is against.
+    fn of_accepted(
+        alloc: Global,
+        tree: &Tree,
+        accepted: Accepted,
+        edit: Edit,
+    ) -> Result<Plan, EditRefusal>
+        requires proper { IsProperEdit edit }
+        requires accepted { IsAccepted tree.now edit accepted }
+        ensures planned { IfOk result (IsPlan tree.now edit) }
+        ensures refused { IfErr result (λ refusal. refusal ≡ OutOfMemory) }
+    {
+        let Accepted {
+            path,
+            totals,
+            spare,
+        } = accepted;
         Ok(Plan {
             step: Step::of_edit(alloc, tree, path, edit)?,
             next_id: totals.next_id,
             elements: totals.size.elements as u32,
             bytes: totals.size.bytes,
-            spare: Spare::make(alloc)?,
+            spare,
+        })
+    }
+}
+
+impl Accepted {
+    /// That of an edit, or the first reason against it. The edit is only lent: to let one go costs
+    /// the proof of a function much at each place where it returns.
+    fn make(
+        alloc: Global,
+        tree: &Tree,
+        found: Option<Path>,
+        edit: &Edit,
+    ) -> Result<Accepted, EditRefusal>
+        requires { Finds (named edit.now) 1 tree.now.root found }
+        ensures accepted { IfOk result (IsAccepted tree.now edit.now) }
+        ensures refused { IfErr result (IsReason tree.now edit.now) }
+    {
+        let Some(path) = found else {
+            return Err(EditRefusal::UnknownNode);
+        };
+        let element = element_at(tree.root(), path.as_slice());
+        if let Some(reason) = own_reason(edit, path.level(), element) {
+            return Err(reason);
+        }
+        let totals = Totals::of_edited(tree, &path, element, edit);
+        if let Some(reason) = totals.broken_limit() {
+            return Err(reason);
+        }
+        let spare = Spare::make(alloc)?;
+        Ok(Accepted {
+            path,
+            totals,
+            spare,
         })
     }
 }
