@@ -3,7 +3,8 @@ ghost use Rattle.tree_edits.specs.Edits.{named};
 
 use fixed_units::{Memory, Txt};
 use math_tree::{Node, NodeId};
-use thiserror::Error;
+use std::error::Error;
+use std::fmt;
 
 /// A change of one element of a tree.
 #[derive(Debug, Drop)]
@@ -38,46 +39,63 @@ impl Edit {
 }
 
 /// Why an edit is refused, in the order in which it is looked for; the tree is then as it was.
-#[derive(Clone, Copy, Debug, PartialEq, Eq, Error)]
+#[derive(Clone, Copy, Debug, PartialEq, Eq)]
 pub enum EditRefusal {
     /// No element has the id.
-    #[error("no element has the id")]
     UnknownNode,
     /// Only a text element has a text.
-    #[error("only a text element has a text")]
     NotText,
     /// A text element has no children.
-    #[error("a text element has no children")]
     IsText,
     /// The index is above the number of children.
-    #[error("the index is above the number of children")]
     IndexPast,
     /// The root is neither removed nor replaced.
-    #[error("the root is neither removed nor replaced")]
     RootFixed,
     /// The name of the attribute isn't in its form.
-    #[error("the name of the attribute isn't in its form")]
     BadName,
     /// `dir` would be `rtl`, which isn't laid out yet.
-    #[error("`dir` would be `rtl`, which isn't laid out yet")]
     RightToLeft,
     /// The text or the value has more than 65,536 bytes.
-    #[error("the text or the value is too long")]
     TextLong,
     /// The tree would have more than 60 levels.
-    #[error("the tree would have too many levels")]
     TooDeep,
     /// The tree would have more than 65,536 elements, or names, attributes and texts of more than
     /// 4,194,304 bytes.
-    #[error("the tree would have too many elements or bytes")]
     TooMany,
     /// No ids are left for the new elements.
-    #[error("no ids are left for the new elements")]
     IdsSpent,
     /// Memory was refused.
-    #[error("memory was refused")]
     Memory,
 }
+
+impl EditRefusal {
+    /// The reason in words. A look-up of texts, which are then written at one place, takes a proof
+    /// less than half as long as a message written in each arm.
+    fn words(self) -> &'static str {
+        match self {
+            EditRefusal::UnknownNode => "no element has the id",
+            EditRefusal::NotText => "only a text element has a text",
+            EditRefusal::IsText => "a text element has no children",
+            EditRefusal::IndexPast => "the index is above the number of children",
+            EditRefusal::RootFixed => "the root is neither removed nor replaced",
+            EditRefusal::BadName => "the name of the attribute isn't in its form",
+            EditRefusal::RightToLeft => "`dir` would be `rtl`, which isn't laid out yet",
+            EditRefusal::TextLong => "the text or the value is too long",
+            EditRefusal::TooDeep => "the tree would have too many levels",
+            EditRefusal::TooMany => "the tree would have too many elements or bytes",
+            EditRefusal::IdsSpent => "no ids are left for the new elements",
+            EditRefusal::Memory => "memory was refused",
+        }
+    }
+}
+
+impl fmt::Display for EditRefusal {
+    fn fmt<W: fmt::Write>(&self, f: &mut fmt::Formatter<W>) -> fmt::Result {
+        f.write_str(self.words())
+    }
+}
+
+impl Error for EditRefusal {}
 
 impl From<Memory> for EditRefusal {
     ghost use Rattle.std.specs.Prelude.{◌≡◌};
