@@ -1,1 +1,1 @@
-mod Unstretched
+pub mod Unstretched

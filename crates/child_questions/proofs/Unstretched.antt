@@ -1,5 +1,5 @@
 -- Where no child stretches, nothing is asked in the second wave, but of a table.
-use Rattle.std.proofs.Common.{◌≡◌, ap, refl, ℕ, ◌+◌, true, false, Bool, List, [], ◌∷◌, Option, Some, None, is_none, ◌&&◌}
+use Rattle.std.proofs.Common.{◌≡◌, ap, refl, ℕ, ◌+◌, true, false, not, Bool, List, [], ◌∷◌, Option, Some, None, is_none, ◌&&◌}
 use Rattle.std.specs.List.{list_all}
 use Rattle.fixed_units.specs.declared.boxes.MathBox.{MathBox}
 use Rattle.fixed_units.specs.declared.pull.Pull.{Pull}
@@ -12,11 +12,12 @@ use Rattle.row_stretch.specs.Questions.{asks_from, is_along, planned, row_second
 use Rattle.row_stretch.specs.declared.asking.Plan.{Plan}
 use Rattle.row_stretch.specs.declared.parts.KidPull.{KidPull}
 use Rattle.layout_model.specs.Contexts.{pull_of}
-use Rattle.layout_model.specs.Questions.{asked_all, kid_pulls, second_as, second_asks}
+use Rattle.layout_model.specs.Questions.{asked_all, asking, kid_pulls, second, second_as, second_asks}
 use Rattle.layout_model.specs.declared.asking.Asking.{Asking}
 use Rattle.layout_model.specs.declared.asking.Asking.TheVariants.{Nothing, Plainly, ForTheBase, AsRow, AsLimits, AsTable}
 use Rattle.layout_model.specs.declared.context.Context.{Context}
 use Rattle.layout_model.specs.declared.outcome.Answer.{Answer}
+use Rattle.child_questions.specs.Surveys.{has_one_wave, is_as_table, survey_of}
 
 -- a child that stretches along no axis
 abbrev pub rests : KidPull → Bool
@@ -62,3 +63,13 @@ none_second Plainly m seen context answers other h = refl
 none_second ForTheBase m seen context answers other h = refl
 none_second AsRow m seen context answers other h = ap (asked_all m seen context) (rows_none (kid_pulls m seen context) (pull_of context.stretch) _ h)
 none_second AsLimits m seen context answers other h = ap (asked_all m seen context) (limits_none (kid_pulls m seen context) (pull_of context.stretch) _ h)
+
+no_table : (how : Asking) → not (is_as_table how) ≡ true → how ≡ AsTable → ⊥
+no_table how h e = let is : is_as_table how ≡ true = ap is_as_table e in cc
+
+-- what an element with one wave asks in the second
+pub one_wave : (m : MetricsValue) (seen : Seen) (context : Context) (answers : List Answer) → has_one_wave (survey_of m seen context) ≡ true → second m seen context answers ≡ []
+unfolding second
+one_wave m seen context answers h =
+    let both = both_true (not (is_as_table (asking m seen context))) (list_all rests (kid_pulls m seen context)) h in
+    none_second (asking m seen context) m seen context answers (no_table (asking m seen context) both.0) both.1

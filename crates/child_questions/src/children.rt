@@ -55,10 +55,10 @@ fn is_subscript<V: View>(parent: &V, index: usize) -> bool
     matches!(parent.facts().laid, Kind::Mmultiscripts) && index % 2 == 1
 }
 
-/// Where a child in flow stands.
-fn place_of<V: View>(parent: &V, survey: &Survey, index: usize) -> Place
-    requires accent { survey.now.accent ≡ is_true (codes "accent") (seen_of (V.element parent.now)).head.attributes }
-    requires accentunder { survey.now.accentunder ≡ is_true (codes "accentunder") (seen_of (V.element parent.now)).head.attributes }
+/// Where a child in flow stands; what its parent's attributes say of accents is given.
+fn place_of<V: View>(parent: &V, accent: bool, accentunder: bool, index: usize) -> Place
+    requires accent { accent ≡ is_true (codes "accent") (seen_of (V.element parent.now)).head.attributes }
+    requires accentunder { accentunder ≡ is_true (codes "accentunder") (seen_of (V.element parent.now)).head.attributes }
     requires index { index < 2 ^ 32 }
     ensures { result ≡ place_of (seen_of (V.element parent.now)) index }
 {
@@ -66,22 +66,43 @@ fn place_of<V: View>(parent: &V, survey: &Survey, index: usize) -> Place
     Place {
         parent: parent.head().kind,
         index: index as u32,
-        accent: survey.accent,
-        accentunder: survey.accentunder,
+        accent,
+        accentunder,
         subscript,
     }
 }
 
 /// The style of a child in flow.
-#[tactic(auto, unfolding(layout_model::specs::Contexts::kid_style))]
-fn kid_style<V: View>(
+pub fn style_of_kid<V: View>(
     parent: &V,
-    survey: &Survey,
     context: &Context,
     metrics: &Metrics,
     index: usize,
 ) -> Style
-    requires known { survey.now ≡ survey_of metrics.now (seen_of (V.element parent.now)) context.now }
+    requires within { index < length (seen_of (V.element parent.now)).kids }
+    requires style { IsStyle context.now.style }
+    requires size { size_of metrics.now context.now.style ≤ℤ pos (2 ^ 20) }
+    ensures value { result ≡ kid_style metrics.now (seen_of (V.element parent.now)) context.now.style index }
+    ensures style { IsStyle result }
+{
+    let attributes = &parent.head().attributes;
+    let accent = is_true("accent", attributes);
+    let accentunder = is_true("accentunder", attributes);
+    kid_style(parent, accent, accentunder, context, metrics, index)
+}
+
+/// The same where it is known what its parent's attributes say of accents.
+#[tactic(auto, unfolding(layout_model::specs::Contexts::kid_style))]
+fn kid_style<V: View>(
+    parent: &V,
+    accent: bool,
+    accentunder: bool,
+    context: &Context,
+    metrics: &Metrics,
+    index: usize,
+) -> Style
+    requires accent { accent ≡ is_true (codes "accent") (seen_of (V.element parent.now)).head.attributes }
+    requires accentunder { accentunder ≡ is_true (codes "accentunder") (seen_of (V.element parent.now)).head.attributes }
     requires within { index < length (seen_of (V.element parent.now)).kids }
     requires style { IsStyle context.now.style }
     requires size { size_of metrics.now context.now.style ≤ℤ pos (2 ^ 20) }
@@ -89,7 +110,7 @@ fn kid_style<V: View>(
     ensures style { IsStyle result }
 {
     let _count = parent.kids();
-    let place = place_of(parent, survey, index);
+    let place = place_of(parent, accent, accentunder, index);
     child_style(&context.style, place, parent.kid(index), metrics)
 }
 
@@ -109,8 +130,9 @@ pub fn kid_context<V: View>(
     ensures value { result ≡ kid_context metrics.now (seen_of (V.element parent.now)) context.now index stretch }
     ensures style { IsStyle result.style }
 {
+    let (accent, accentunder) = (survey.accent, survey.accentunder);
     Context {
-        style: kid_style(parent, survey, context, metrics, index),
+        style: kid_style(parent, accent, accentunder, context, metrics, index),
         form: form_within(parent, survey.fences, index, context.form),
         stretch,
     }

@@ -19,6 +19,6 @@ mod tables; // the columns that rows are asked with
 mod waves; // the questions of both waves
 
 pub use asks::{asking, has_moved_limits};
-pub use children::{base_properties, is_true, kid_axis, pull_of};
+pub use children::{base_properties, is_true, kid_axis, pull_of, style_of_kid};
 pub use survey::Survey;
 pub use waves::{first_questions, second_questions, wave_one, wave_two};

@@ -1,9 +1,10 @@
-ghost use Rattle.std.specs.Prelude.{◌≡◌, true, false, IfOk, OnOk, Err};
+ghost use Rattle.std.specs.Prelude.{◌≡◌, true, false, is_none, IfOk, OnOk, Err};
+ghost use Rattle.std.specs.List.{list_all};
 ghost use Rattle.fixed_units.specs.declared.refusal.LayRefusal.TheVariants.{Range};
 ghost use Rattle.embellished.specs.Seen.{seen_of};
 ghost use Rattle.style_scope.specs.Sizes.{IsStyle, size_of};
 ghost use Rattle.layout_model.specs.Range.{is_font_size};
-ghost use Rattle.child_questions.specs.Surveys.{survey_of};
+ghost use Rattle.child_questions.specs.Surveys.{has_one_wave, survey_of};
 
 use crate::asks::{asking, kid_pulls};
 use crate::children::is_true;
@@ -72,6 +73,21 @@ impl Survey {
             accentunder: is_true("accentunder", attributes),
         })
     }
+
+    /// Whether the first wave is all that the element asks, whatever is answered: it is no table, and no
+    /// child stretches.
+    pub fn has_one_wave(&self) -> bool
+        ensures { result ≡ has_one_wave self.now }
+    {
+        !matches!(self.asking, Asking::AsTable) && none_stretches(self.pulls.as_slice())
+    }
+}
+
+/// Whether no child stretches along any axis.
+fn none_stretches(pulls: &[KidPull]) -> bool
+    ensures { result ≡ list_all (λ kid. is_none kid.axis) pulls.now }
+{
+    pulls.iter().all(|kid| kid.axis.is_none())
 }
 
 /// Whether the font size of a style lies in 0 to 2^20 units.

@@ -94,11 +94,11 @@ pub fn second_questions<V: View>(
     ensures styles { IfOk result (All HasStyle) }
     ensures value { IfOk result (λ asks. asks ≡ second metrics.now (seen_of (V.element view.now)) context.now first.now) }
 {
+    if survey.has_one_wave() {
+        return Ok(List::make(alloc));
+    }
     if matches!(survey.asking, Asking::AsTable) {
         return rows_asked(alloc, view, survey, context, metrics, first);
-    }
-    if none_stretches(survey.pulls.as_slice()) {
-        return Ok(List::make(alloc));
     }
     // The view's count bounds how many pulls there are.
     let _count = view.kids();
@@ -106,13 +106,6 @@ pub fn second_questions<V: View>(
     let own = pull_of(&context.stretch);
     let asks = second_asks(alloc, survey.asking, &survey.pulls, own, &frames)?;
     asked_all(alloc, view, survey, context, metrics, &asks)
-}
-
-/// Whether no child stretches along any axis: then no element has further questions, but for a table.
-fn none_stretches(pulls: &[KidPull]) -> bool
-    ensures { result ≡ list_all (λ kid. is_none kid.axis) pulls.now }
-{
-    pulls.iter().all(|kid| kid.axis.is_none())
 }
 
 /// The questions to children with their pulls.

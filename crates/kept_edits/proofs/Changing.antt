@@ -14,9 +14,8 @@ use Rattle.tree_edits.specs.Paths.{Fits, FitsAt, changed, changed_at, children_o
 use Rattle.tree_edits.specs.declared.change.Change.{Change}
 use Rattle.tree_edits.specs.declared.change.Change.TheVariants.{SetText, SetValue, PutChild, TakeChild, SwapChild}
 use Rattle.embellished.specs.Facts.{facts}
-use Rattle.embellished.specs.Seen.{kid_of}
 use Rattle.kept_results.specs.Ends.{not_fresh, stripped}
-use Rattle.kept_results.specs.Kept.{AreApart, AsksTheSame, IsMemoOf, is_live}
+use Rattle.kept_results.specs.Kept.{AreApart, IsMemoOf, StaysBut, is_live}
 use Rattle.kept_results.specs.Looking.{own_facts}
 use Rattle.kept_results.specs.declared.memo.Entry.{Entry}
 use Rattle.kept_results.specs.declared.memo.Memo.{Memo}
@@ -30,7 +29,7 @@ use Rattle.kept_edits.specs.Laws.{ChangeLaw, IsReadyFor, IsSame, KnownOn}
 use Rattle.kept_edits.specs.declared.change.MemoChange.{MemoChange}
 use Rattle.kept_edits.specs.declared.change.MemoChange.TheVariants.{Stay, PutMemo, TakeMemo, SwapMemo}
 use Rattle.kept_edits.specs.declared.change.Renewal.{Renewal}
-use Rattle.kept_edits.proofs.Alike.{asks_still, kid_stays, seen_stays}
+use Rattle.kept_edits.proofs.Alike.{stay_but}
 use Rattle.kept_edits.proofs.Lists.{both_insert, both_remove, both_set, length_insert, length_remove, same_all, some_at}
 
 -- ---- no entry is fresh
@@ -90,7 +89,7 @@ below_plain memo place kept h at =
 
 abbrev pub marked : Memo → Renewal → List Memo → Memo-F Memo
 marked memo own below = record {
-  former = Some record { facts = own_facts memo; alike = own.alike };
+  former = Some record { facts = own_facts memo; alike_but = own.alike_but };
   facts = own.facts;
   entries = (out-Memo memo).entries;
   below = below;
@@ -175,11 +174,12 @@ module _ (m : MetricsValue) where
 
   -- ---- where it agrees
 
-  -- what its entries asked is what the element asks now
-  abbrev AskTheSame : Node → Memo → Type 0
-  AskTheSame node memo = (i : ℕ) (entry : Entry) → slice_get (out-Memo memo).entries i ≡ Some entry → AsksTheSame m node entry
+  -- its regular entries stay but for a child
+  abbrev StayBut : Node → Memo → List Memo → ℕ → Type 0
+  StayBut node memo below but = (i : ℕ) (entry : Entry) → slice_get (out-Memo memo).entries i ≡ Some entry → entry.regular ≡ true → StaysBut m node below but entry
 
-  marked_ready : (node : Node) (memo : Memo) (own : Renewal) (below : List Memo) → stripped memo ≡ memo → own.facts ≡ facts node → (own.alike ≡ true → AskTheSame node memo)
+  marked_ready : (node : Node) (memo : Memo) (own : Renewal) (below : List Memo) → stripped memo ≡ memo → own.facts ≡ facts node
+      → ((but : ℕ) → own.alike_but ≡ Some but → StayBut node memo below but)
       → Paired (children_of node) below → IsReadyFor m node (with_below (renewed own memo) below)
   marked_ready node memo own below h is alike pairs =
       let layer : Memo-F Memo = marked memo own below in
@@ -189,7 +189,7 @@ module _ (m : MetricsValue) where
         as_many = pairs.as_many;
         sound = λ entry has. absurd (no_live (out-Memo memo).entries has.place entry none has.at has.live);
         apart = none_apart (out-Memo memo).entries none;
-        same = alike;
+        stays = λ but is_alike i entry at older regular. alike but is_alike i entry at regular;
       } in
       let agrees = agrees_made m node layer here (λ i child kept a b. (pairs.each i child kept a b).agrees) in
       let all : map stripped below ≡ below = same_all stripped below (λ i kept at.
@@ -220,7 +220,7 @@ module _ (m : MetricsValue) where
       let own_is = own_at known 0 (seen_anew (facts (changed change node))) (seen_anew (own_facts memo)) is in
       marked_ready (changed change node) memo (get_or known 0 (seen_anew (own_facts memo))) (changed_below other (out-Memo memo).below) h.plain
       (ap (λ (own : Renewal). own.facts) own_is)
-      (λ alike. absurd (true≢false (sym alike ∙ ap (λ (own : Renewal). own.alike) own_is)))
+      (λ but alike. absurd (none-some but (ap (λ (own : Renewal). own.alike_but) (sym own_is) ∙ alike)))
       (paired_changed node (out-Memo memo).below change other fits_here same (paired node memo h))
   change_at (place ∷ path) node memo change other known h fits same is =
       let nodes : List Node = children_of node in
@@ -244,13 +244,13 @@ module _ (m : MetricsValue) where
       let ready_child = pairs.each place child kept c.1 k.1 in
       let ready = change_at path child kept change other known ready_child c.2 same (known_made.4 child' kept there k.1) in
       let own_is = own_at known (length (place ∷ path)) known_made.0 (seen_anew (own_facts memo)) known_made.1 in
-      let alike : known_made.0.alike ≡ true → AskTheSame made memo = λ is_alike.
-      let a = known_made.3 is_alike in
-      let kid : kid_of child' ≡ kid_of child = kid_stays change path child a.deeper (a.child_is child' kept there k.1 ∙ (ready_child.agrees.at [] child kept (refl, refl)).facts_are) in
-      asks_still m node made memo h a.unmarked (seen_stays node place child child' c.1 kid) in
+      let alike : (but : ℕ) → known_made.0.alike_but ≡ Some but → StayBut made memo (set below place kept') but = λ but is_alike.
+      let a = known_made.3 but is_alike in
+      let same : facts child' ≡ facts child = a.child_is child' kept there k.1 ∙ (ready_child.agrees.at [] child kept (refl, refl)).facts_are in
+      subst (StayBut made memo (set below place kept')) (sym a.on_the_way) (stay_but m node memo place child child' kept' h a.unmarked c.1 same) in
       let whole = marked_ready made memo (get_or known (length (place ∷ path)) (seen_anew (own_facts memo))) (set below place kept') h.plain
       (ap (λ (own : Renewal). own.facts) own_is ∙ known_made.2)
-      (λ x. alike (ap (λ (own : Renewal). own.alike) (sym own_is) ∙ x))
+      (λ but x. alike but (ap (λ (own : Renewal). own.alike_but) (sym own_is) ∙ x))
       (of_parts (head_of node) (set nodes place child') (set below place kept') (paired_set nodes below place child' kept' pairs ready)) in
       subst (λ (n : Node). IsReadyFor m n (changed_memo other known (place ∷ path) memo)) (sym node_is)
       (subst (IsReadyFor m made) (sym memo_is) whole)

@@ -10,6 +10,7 @@ pub mod Needing
 pub mod OnTheWay
 pub mod OnePath
 pub mod Origins
+mod Restyled
 pub mod Tidying
 pub mod ToldById
 pub mod Unlaid

@@ -1,7 +1,7 @@
 -- What the elements on the way to a changed one are.
 use Rattle.std.proofs.Common.{◌≡◌, ◌∙◌, refl, sym, ap, subst, ℕ, ◌+◌, ◌-◌, ◌<◌, arith, true, false, true≢false, List, [], ◌∷◌, ◌++◌, drop, get_or, length, length-append, length-drop, length-take, map, set, take, Option, Some, slice_get}
 use Rattle.std.proofs.lemmas.List.{map-set, take_all}
-use Rattle.std.proofs.lemmas.Option.{get_or_from_slice_get, same_Some, slice_get_within}
+use Rattle.std.proofs.lemmas.Option.{get_or_from_slice_get, none-some, same_Some, slice_get_within}
 use Rattle.std.specs.Option.{option_map_or}
 use Rattle.font_metrics.specs.Metrics.{MetricsValue}
 use Rattle.math_tree.specs.Trees.{node as node_of}
@@ -49,12 +49,12 @@ known_here node memo known before [] z b e =
 known_here node memo known before (place ∷ path) z b e = absurd (omega (arith, z))
 
 -- what an element on the way is, over what is known of the child there
-pub record IsOwn (node : Node) (memo : Memo) (place : ℕ) (path : List ℕ) (own : Renewal) : Type 0 where
+pub record IsOwn (node : Node) (memo : Memo) (place : ℕ) (own : Renewal) : Type 0 where
   pub facts_are : own.facts ≡ facts node
-  pub alike : own.alike ≡ true → IsSeenAsBefore place path node memo
+  pub alike : (but : ℕ) → own.alike_but ≡ Some but → IsSeenAsBefore but place node memo
 
 further_on : (node child : Node) (memo kept : Memo) (known before : List Renewal) (own : Renewal) (place : ℕ) (path : List ℕ) → slice_get (out-Node node).children place ≡ Some child
-    → slice_get (out-Memo memo).below place ≡ Some kept → IsKnownOn path child kept before → IsOwn node memo place path own → known ≡ before ++ own ∷ []
+    → slice_get (out-Memo memo).below place ≡ Some kept → IsKnownOn path child kept before → IsOwn node memo place own → known ≡ before ++ own ∷ []
     → IsKnownOn (place ∷ path) node memo known
 further_on node child memo kept known before own place path at memo_at h is e =
     let n : length before ≡ length (place ∷ path) = omega (arith, h.as_many) in
@@ -81,28 +81,26 @@ split (place ∷ path) h = ap (λ (l : List ℕ). place ∷ l) (sym (take_all (l
 
 pub known_further : (node child : Node) (memo kept : Memo) (known before : List Renewal) (own : Renewal) (path : List ℕ) → (length path ≡ 0 → ⊥)
     → slice_get (out-Node node).children (get_or path 0 0) ≡ Some child → slice_get (out-Memo memo).below (get_or path 0 0) ≡ Some kept
-    → IsKnownOn (take (length path - 1) (drop 1 path)) child kept before → IsOwn node memo (get_or path 0 0) (take (length path - 1) (drop 1 path)) own
+    → IsKnownOn (take (length path - 1) (drop 1 path)) child kept before → IsOwn node memo (get_or path 0 0) own
     → known ≡ before ++ own ∷ [] → IsKnownOn path node memo known
 known_further node child memo kept known before own path some at memo_at h is e =
     subst (λ (p : List ℕ). IsKnownOn p node memo known) (sym (split path some)) (further_on node child memo kept known before own (get_or path 0 0) (rest_of path) at memo_at h is e)
 
 -- that of an element of which layout may see something else
-pub own_anew : (node : Node) (memo : Memo) (place : ℕ) (path : List ℕ) → IsOwn node memo place path (seen_anew (facts node))
-own_anew node memo place path = record { facts_are = refl; alike = λ h. absurd (true≢false (sym h)) }
+pub own_anew : (node : Node) (memo : Memo) (place : ℕ) → IsOwn node memo place (seen_anew (facts node))
+own_anew node memo place = record { facts_are = refl; alike = λ but h. absurd (none-some but h) }
 
--- that of one of which it sees the same
-pub own_alike : (node child : Node) (memo kept : Memo) (path : List ℕ) (own : Renewal) → 1 < length path → is_marked (out-Memo memo) ≡ false
-    → slice_get (out-Node node).children (get_or path 0 0) ≡ Some child → slice_get (out-Memo memo).below (get_or path 0 0) ≡ Some kept
-    → facts child ≡ own_facts kept → (facts child ≡ own_facts kept → facts node ≡ own_facts memo) → own.facts ≡ own_facts memo
-    → IsOwn node memo (get_or path 0 0) (take (length path - 1) (drop 1 path)) own
-own_alike node child memo kept path own deep unmarked at memo_at same all is =
-    let one = length-take (length path - 1) (drop 1 path) in
-    let two = length-drop 1 path in
+-- that of one of which it sees the same, but for the child on the way
+pub own_alike : (node child : Node) (memo kept : Memo) (place : ℕ) (own : Renewal) → is_marked (out-Memo memo) ≡ false
+    → slice_get (out-Node node).children place ≡ Some child → slice_get (out-Memo memo).below place ≡ Some kept
+    → facts child ≡ own_facts kept → (facts child ≡ own_facts kept → facts node ≡ own_facts memo) → own.facts ≡ own_facts memo → own.alike_but ≡ Some place
+    → IsOwn node memo place own
+own_alike node child memo kept place own unmarked at memo_at same all is but_is =
     record {
       facts_are = is ∙ sym (all same);
-      alike = λ h. record {
+      alike = λ but h. record {
+        on_the_way = same_Some but place (sym h ∙ but_is);
         unmarked = unmarked;
-        deeper = omega (arith, one, two, deep);
         child_is = λ other beside there memo_there.
             ap facts (same_Some other child (sym there ∙ at)) ∙ same ∙ ap own_facts (same_Some kept beside (sym memo_at ∙ memo_there));
       };

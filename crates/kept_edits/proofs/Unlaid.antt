@@ -77,7 +77,7 @@ module _ (m : MetricsValue) where
         as_many = length-map nodes blank;
         sound = λ entry has. absurd (none-some entry has.at);
         apart = tt;
-        same = λ alike. absurd (true≢false (sym alike));
+        stays = λ child alike. absurd (none-some child alike);
       } in
       let agrees = agrees_made m node layer here (λ i child kept a b. each_agrees nodes i child kept h a b) in
       let plain : stripped (roll-Memo layer) ≡ roll-Memo layer =

@@ -1,5 +1,5 @@
 -- The memos beside a tree of which one element is changed.
-use Rattle.std.specs.Prelude.{◌≡◌, ⊤, ℕ, ◌<◌, ◌≤◌, false, List, [], ◌∷◌, length, Option, Some, None, slice_get, slice_index_or, slice_set}
+use Rattle.std.specs.Prelude.{◌≡◌, ⊤, ℕ, ◌<◌, ◌≤◌, List, [], ◌∷◌, length, Option, Some, None, slice_get, slice_index_or, slice_set}
 use Rattle.std.specs.List.{insert, remove}
 use Rattle.std.specs.Option.{option_and_then, option_map_or}
 use Rattle.embellished.specs.declared.facts.Facts.{Facts}
@@ -36,12 +36,12 @@ taken_below (SwapMemo index memo) below = slice_get below index
 
 -- an element that is this after a change, and of which layout may see something else than before
 abbrev pub seen_anew : Facts → Renewal
-seen_anew own = record { facts = own; alike = false }
+seen_anew own = record { facts = own; alike_but = None }
 
 -- marked, of an element that is this now
 abbrev pub renewed : Renewal → Memo → Memo
 renewed own memo = roll-Memo record {
-  former = Some record { facts = own_facts memo; alike = own.alike };
+  former = Some record { facts = own_facts memo; alike_but = own.alike_but };
   facts = own.facts;
   entries = (out-Memo memo).entries;
   below = (out-Memo memo).below;

@@ -1,5 +1,5 @@
 -- What changed memos are beside the changed tree.
-use Rattle.std.specs.Prelude.{◌≡◌, ⊤, ℕ, ◌<◌, true, false, List, [], ◌∷◌, length, Option, Some, None, slice_get}
+use Rattle.std.specs.Prelude.{◌≡◌, ⊤, ℕ, true, false, List, [], ◌∷◌, length, Option, Some, None, slice_get}
 use Rattle.font_metrics.specs.Metrics.{MetricsValue}
 use Rattle.math_tree.specs.declared.node.Node.{Node}
 use Rattle.math_tree.specs.declared.node.Node.TheViews.{out-Node}
@@ -35,19 +35,19 @@ IsSame m (TakeChild index) (TakeMemo place) = place ≡ index
 IsSame m (SwapChild index child) (SwapMemo place memo) = (place ≡ index) × IsReadyFor m child memo
 IsSame m change other = ⊥
 
--- what suffices for layout to see the same of an element on a way, and of its children, as before the change: no other
--- change is under way, the element at the end stands deeper than a child, and the child on the way is what its memo
--- knows of it from before
-pub record IsSeenAsBefore (place : ℕ) (path : List ℕ) (node : Node) (memo : Memo) : Type 0 where
+-- what suffices for layout to see the same of an element on a way, and of its children, as before the change, but for the
+-- head of the child at a place: no other change is under way, that child is the one on the way, and among operators it is
+-- what its memo knows of it from before
+pub record IsSeenAsBefore (but place : ℕ) (node : Node) (memo : Memo) : Type 0 where
+  pub on_the_way : but ≡ place
   pub unmarked : is_marked (out-Memo memo) ≡ false
-  pub deeper : 0 < length path
   pub child_is : (child : Node) (kept : Memo) → slice_get (out-Node node).children place ≡ Some child → slice_get (out-Memo memo).below place ≡ Some kept → facts child ≡ own_facts kept
 
 -- it is known what the elements on a way are after a change, that at the end first, beside memos from before
 abbrev pub KnownOn : List Renewal → List ℕ → Node → Memo → Type 0
 KnownOn known [] node memo = slice_get known 0 ≡ Some (seen_anew (facts node))
 KnownOn known (place ∷ path) node memo =
-    (own : Renewal) × (slice_get known (length (place ∷ path)) ≡ Some own) × (own.facts ≡ facts node) × (own.alike ≡ true → IsSeenAsBefore place path node memo)
+    (own : Renewal) × (slice_get known (length (place ∷ path)) ≡ Some own) × (own.facts ≡ facts node) × ((but : ℕ) → own.alike_but ≡ Some but → IsSeenAsBefore but place node memo)
     × ((child : Node) (kept : Memo) → slice_get (out-Node node).children place ≡ Some child → slice_get (out-Memo memo).below place ≡ Some kept → KnownOn known path child kept)
 
 -- where the same is changed in a tree and in memos that agree with it, they agree again

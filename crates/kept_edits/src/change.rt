@@ -25,8 +25,9 @@ pub enum MemoChange {
 pub struct Renewal {
     /// What it is among operators.
     pub facts: Facts,
-    /// Whether it is known that layout sees the same of it and of its children as before.
-    pub alike: bool,
+    /// The place of its child on the way to the edit, where it is known that layout sees the same of the
+    /// element and of its children as before, but for the head of that child.
+    pub alike_but: Option<usize>,
 }
 
 /// Changes the memo of an element at the end of a way, and marks all on the way. Of what the elements
@@ -71,7 +72,7 @@ fn renew(memo: &mut Memo, own: Renewal)
 {
     memo.former = Some(Former {
         facts: memo.facts,
-        alike: own.alike,
+        alike_but: own.alike_but,
     });
     memo.facts = own.facts;
 }

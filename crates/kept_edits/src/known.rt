@@ -37,9 +37,11 @@ pub fn known_on(
         let below = memo_at(memo, place);
         let mut known = known_on(alloc, child, below, &path[1..], change)?;
         let own = known.as_slice()[path.len() - 1].facts;
-        if 1 < path.len() && !is_marked(memo) && is_same(&own, &below.facts) {
-            let facts = memo.facts;
-            known.push(Renewal { facts, alike: true })?;
+        if !is_marked(memo) && is_same(&own, &below.facts) {
+            known.push(Renewal {
+                facts: memo.facts,
+                alike_but: Some(place),
+            })?;
             return Ok(known);
         }
         let kids = kids_with(alloc, &memo.below, place, own)?;
@@ -93,7 +95,7 @@ fn add_own(
     let facts = facts_of(alloc, &node.head, kids)?;
     known.push(Renewal {
         facts,
-        alike: false,
+        alike_but: None,
     })?;
     Ok(known)
 }

@@ -1,12 +1,12 @@
 -- How a memo goes on to agree with its tree.
-use Rattle.std.proofs.Common.{◌≡◌, ◌∙◌, inl, inr, refl, sym, ap, subst, ℕ, zero, suc, Bool, true, List, [], ◌∷◌, ◌++◌, length, length-set, set, Some, slice_get}
+use Rattle.std.proofs.Common.{◌≡◌, ◌∙◌, inl, inr, refl, sym, ap, subst, ℕ, zero, suc, Bool, true, true≢false, List, [], ◌∷◌, ◌++◌, length, length-set, set, Some, slice_get}
 use Rattle.std.proofs.lemmas.Option.{none-some, same_Some}
 use Rattle.font_metrics.specs.Metrics.{MetricsValue}
 use Rattle.math_tree.specs.declared.node.Node.{Node}
 use Rattle.math_tree.specs.declared.node.Node.TheViews.{out-Node}
 use Rattle.layout_model.specs.declared.context.Context.{Context}
 use Rattle.layout_model.specs.declared.context.Question.{Question}
-use Rattle.kept_results.specs.Kept.{Agrees, AreApart, AsksTheSame, HasEntry, Holds, HoldsIn, HoldsOne, IsKept, IsMemoOf, IsMissing, IsSound, Keeps, NamesKept, StandAt, is_live, is_marked}
+use Rattle.kept_results.specs.Kept.{Agrees, AreApart, HasEntry, Holds, HoldsIn, HoldsOne, IsKept, IsMemoOf, IsMissing, IsSound, Keeps, NamesKept, StandAt, is_live, is_marked}
 use Rattle.kept_results.specs.declared.memo.Entry.{Entry}
 use Rattle.kept_results.specs.declared.memo.Memo.{Memo}
 use Rattle.kept_results.specs.declared.memo.Memo.TheOpen.{Memo-F}
@@ -154,13 +154,26 @@ module _ (m : MetricsValue) where
               suits = s.suits;
               fits = s.fits;
               ones = s.ones;
+              one = s.one;
               twos = s.twos;
               styled = s.styled;
               ones_kept = move entry.ones s.ones_kept;
               twos_kept = move entry.twos s.twos_kept;
+              regular = s.regular;
             };
         apart = here.apart;
-        same = here.same;
+        stays = λ but alike i entry entry_at older regular.
+            let s = here.stays but alike i entry entry_at older regular in
+            record {
+              regular = s.regular;
+              sized = s.sized;
+              ones = s.ones;
+              styled = s.styled;
+              as_many = s.as_many;
+              others = λ index question answer x y other.
+                  let k = s.others index question answer x y other in
+                  (k.0, names_renewed memo place old new at keeps node question k.1);
+            };
       } in
       agrees_made node (renewed memo place new) own (λ j kid kept f g.
       elim (set_cases below place j new kept g) [
@@ -170,8 +183,8 @@ module _ (m : MetricsValue) where
 
   -- one sound entry more
   pub agrees_added : (node : Node) (memo : Memo) (more : Entry) → Agrees m node memo → IsSound m node (out-Memo memo).below more
-      → IsMissing (is_marked (out-Memo memo)) more.context (out-Memo memo).entries → Agrees m node (roll-Memo (added memo more))
-  agrees_added node memo more h sound missing =
+      → IsMissing (is_marked (out-Memo memo)) more.context (out-Memo memo).entries → more.fresh ≡ true → Agrees m node (roll-Memo (added memo more))
+  agrees_added node memo more h sound missing fresh =
       let here = h.at [] node memo (refl, refl) in
       let own : IsMemoOf m node (added memo more) = record {
         facts_are = here.facts_are;
@@ -182,10 +195,10 @@ module _ (m : MetricsValue) where
               | inr q ↦ here.sound entry record { place = has.place; at = q; live = has.live }
             ];
         apart = apart_added (is_marked (out-Memo memo)) (out-Memo memo).entries more here.apart missing;
-        same = λ alike i entry at.
+        stays = λ but alike i entry at older regular.
             elim (push_cases (out-Memo memo).entries more entry i at) [
-              | inl p ↦ subst (AsksTheSame m node) (sym p) record { ones = sound.ones; styled = sound.styled }
-              | inr q ↦ here.same alike i entry q
+              | inl p ↦ absurd (true≢false (sym fresh ∙ ap (λ (e : Entry). e.fresh) (sym p) ∙ older))
+              | inr q ↦ here.stays but alike i entry q older regular
             ];
       } in
       agrees_made node (added memo more) own (λ j kid kept f g. agrees_child node memo j kid kept h f g)

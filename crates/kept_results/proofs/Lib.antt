@@ -1,12 +1,15 @@
 pub mod Agreement
+pub mod Again
 pub mod Counts
 pub mod Dropping
+pub mod Flowing
 pub mod Law
 pub mod Lists
 pub mod Made
 pub mod Passing
 pub mod Renewing
 pub mod Sealing
+pub mod Shown
 pub mod Tidying
 pub mod Turns
 pub mod Whole

@@ -158,7 +158,7 @@ module _ (m : MetricsValue) where
   passes_added node needed memo more context from to h sound missing is fresh need step =
       let live = fresh_live (is_marked (out-Memo memo)) more fresh in
       record {
-        agrees = agrees_added m node memo more h sound (subst (λ (x : Context). IsMissing (is_marked (out-Memo memo)) x (out-Memo memo).entries) (sym is) missing);
+        agrees = agrees_added m node memo more h sound (subst (λ (x : Context). IsMissing (is_marked (out-Memo memo)) x (out-Memo memo).entries) (sym is) missing) fresh;
         same = stripped_added memo more fresh;
         keeps = keeps_added memo more;
         pairs = pair_at [] context ∷ [];

@@ -1,5 +1,5 @@
 -- What the seal leaves of a memo.
-use Rattle.std.proofs.Common.{◌≡◌, ◌∙◌, refl, sym, ap, subst, ℕ, zero, suc, Bool, true, false, true≢false, cond, ◌&&◌, List, [], ◌∷◌, filter, map, Some, slice_get, None}
+use Rattle.std.proofs.Common.{◌≡◌, ◌∙◌, refl, sym, ap, subst, ℕ, zero, suc, Bool, true, false, cond, ◌&&◌, List, [], ◌∷◌, filter, map, Some, slice_get, None}
 use Rattle.std.proofs.lemmas.List.{length-map}
 use Rattle.std.proofs.lemmas.Option.{none-some, same_Some, slice_get-map}
 use Rattle.std.specs.List.{list_all}
@@ -128,14 +128,16 @@ module _ (m : MetricsValue) where
           suits = s.suits;
           fits = s.fits;
           ones = s.ones;
+          one = s.one;
           twos = s.twos;
           styled = s.styled;
           ones_kept = names r.former.ones s.ones_kept;
           twos_kept = names r.former.twos s.twos_kept;
+          regular = s.regular;
         } in
         subst (IsSound m node (sealed_over layer).below) (sym r.is) is;
     apart = apart_sealed (is_marked layer) layer.entries h.apart;
-    same = λ alike. absurd (true≢false (sym alike));
+    stays = λ child alike. absurd (none-some child alike);
   }
 
   stood : (path : List ℕ) (node : Node) (memo : Memo) (element : Node) (kept : Memo) → StandAt path node (sealed memo) element kept

@@ -90,7 +90,9 @@ settled_same entry h = λ i. record {
   context = entry.context;
   outcome = entry.outcome;
   ones = entry.ones;
+  one = entry.one;
   twos = entry.twos;
+  regular = entry.regular;
   fresh = sym h i;
 }
 

@@ -29,6 +29,7 @@ use Rattle.kept_results.specs.Contexts.{IsProper, Suits}
 use Rattle.kept_results.specs.Kept.{Agrees, IsKept, IsMissing, IsSound, Keeps, NamesKept, Stores}
 use Rattle.kept_results.specs.Looking.{HasAnswer, IsKeptNow, own_facts}
 use Rattle.kept_results.specs.Passes.{AnswersNeed, Needs, Pair, Passes}
+use Rattle.kept_results.specs.Regular.{IsRegular}
 use Rattle.kept_results.specs.declared.memo.Entry.{Entry}
 use Rattle.kept_results.specs.declared.memo.Memo.{Memo}
 use Rattle.kept_results.specs.declared.memo.Memo.TheOpen.{Memo-F}
@@ -226,11 +227,12 @@ module _ {m : MetricsValue} {node shown : Node} {context : Context} {ones twos :
       (outcome_false (is_font_size (size_of m context.style)) (outcome_fits (lay m node context)) (ap outcome_fits (sym waves_lay) ∙ fit))
 
   -- the entry that is kept then is sound
-  pub sound_made : (before after : Memo) (outcome : Outcome) (kept : IsKeptNow before after context outcome ones twos) → outcome ≡ equation m (seen_of shown) context one two
+  pub sound_made : (before after : Memo) (outcome : Outcome) (regular : Bool) (kept : IsKeptNow before after context outcome record { ones = ones; one = one; twos = twos; regular = regular })
+      → outcome ≡ equation m (seen_of shown) context one two
       → Suits m node context → in_range m node context ≡ true → All HasStyle ones
       → AllByRecursion (NamesKept node (out-Memo before).below) ones → AllByRecursion (NamesKept node (out-Memo before).below) twos
-      → IsSound m node (out-Memo before).below kept.entry
-  sound_made before after outcome kept is suits fits styles h k =
+      → (regular ≡ true → IsRegular m node context ones) → IsSound m node (out-Memo before).below kept.entry
+  sound_made before after outcome regular kept is suits fits styles h k same =
       let here = kept.in_context in
       record {
         stores = subst (Stores kept.entry) (is ∙ waves_lay ∙ ap (lay m node) (sym here)) kept.stores;
@@ -240,8 +242,12 @@ module _ {m : MetricsValue} {node shown : Node} {context : Context} {ones twos :
         twos = kept.twos_are ∙ second_are m node shown context w.shown_is ones w.ones_are one w.one_is twos w.twos_are
             ∙ ap (λ (c : Context). second m (seen_of node) c (map (answer_of m node) (first m (seen_of node) c))) (sym here);
         styled = subst (All HasStyle) (sym kept.ones_are) styles;
+        one = kept.one_is ∙ w.one_is ∙ ap (map (answer_of m node)) (sym kept.ones_are);
         ones_kept = subst (AllByRecursion (NamesKept node (out-Memo before).below)) (sym kept.ones_are) h;
         twos_kept = subst (AllByRecursion (NamesKept node (out-Memo before).below)) (sym kept.twos_are) k;
+        regular = λ e.
+            subst (λ (c : Context). IsRegular m node c kept.entry.ones) (sym here)
+            (subst (IsRegular m node context) (sym kept.ones_are) (same (sym kept.regular_is ∙ e)));
       }
 
 -- ---- what is known of the children

@@ -33,7 +33,9 @@ settled entry = record {
   context = entry.context;
   outcome = entry.outcome;
   ones = entry.ones;
+  one = entry.one;
   twos = entry.twos;
+  regular = entry.regular;
   fresh = false;
 }
 

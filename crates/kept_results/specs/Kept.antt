@@ -1,20 +1,24 @@
 -- Kept layouts, and when they are those of a tree.
-use Rattle.std.specs.Prelude.{◌≡◌, ⊤, ℕ, Bool, true, false, not, ◌||◌, List, [], ◌∷◌, length, map, Some, slice_get, is_some}
+use Rattle.std.specs.Prelude.{◌≡◌, ⊤, ℕ, Bool, true, false, not, ◌||◌, List, [], ◌∷◌, length, map, Option, Some, slice_get, is_some}
 use Rattle.std.specs.List.{All, AllByRecursion}
-use Rattle.std.specs.Option.{option_map_or}
+use Rattle.std.specs.Option.{option_and_then}
 use Rattle.font_metrics.specs.Metrics.{MetricsValue}
 use Rattle.math_tree.specs.declared.node.Node.{Node}
 use Rattle.math_tree.specs.declared.node.Node.TheViews.{out-Node}
 use Rattle.embellished.specs.Facts.{facts}
 use Rattle.embellished.specs.Seen.{Child, flow_children, seen_of}
+use Rattle.style_scope.specs.Sizes.{size_of}
 use Rattle.layout_model.specs.Fits.{HasStyle}
 use Rattle.layout_model.specs.Laws.{answer_of}
 use Rattle.layout_model.specs.Layout.{in_range, lay}
 use Rattle.layout_model.specs.Questions.{first, second}
+use Rattle.layout_model.specs.Range.{is_font_size}
 use Rattle.layout_model.specs.declared.context.Context.{Context}
 use Rattle.layout_model.specs.declared.context.Question.{Question}
+use Rattle.layout_model.specs.declared.outcome.Answer.{Answer}
 use Rattle.layout_model.specs.declared.outcome.Outcome.{Outcome}
 use Rattle.kept_results.specs.Contexts.{Suits}
+use Rattle.kept_results.specs.Regular.{IsRegular, restyled_at}
 use Rattle.kept_results.specs.declared.memo.Entry.{Entry}
 use Rattle.kept_results.specs.declared.memo.Memo.{Memo}
 use Rattle.kept_results.specs.declared.memo.Memo.TheOpen.{Memo-F}
@@ -30,10 +34,10 @@ Stores entry outcome = entry.outcome ≡ outcome
 abbrev pub is_marked : {X : Type 0} → Memo-F X → Bool
 is_marked layer = is_some layer.former
 
--- the present edit changes the element, or one below it, and it is known that layout sees the same of it and of its
--- children as before
-abbrev pub sees_the_same : {X : Type 0} → Memo-F X → Bool
-sees_the_same layer = option_map_or (λ former. former.alike) layer.former false
+-- the place of the element's child on the way to the present edit, where it is known that layout sees the same of it and of
+-- its children as before, but for the head of that child
+abbrev pub alike_but : {X : Type 0} → Memo-F X → Option ℕ
+alike_but layer = option_and_then (λ former. former.alike_but) layer.former
 
 -- an entry of a marked element that the present pass didn't make is an older one
 abbrev pub is_live : Bool → Entry → Bool
@@ -71,31 +75,42 @@ pub record NamesKept (node : Node) (below : List Memo) (question : Question) : T
   pub at : slice_get below child.place ≡ Some memo
   pub kept : IsKept (out-Memo memo) question.context
 
--- an entry keeps the layout of its element as the tree is now; all that is made for it is in range; what it asks first
--- keeps the bounds of styles; and all that it asks is kept
+-- an entry keeps the layout of its element as the tree is now, with what was answered first; all that is made for it is in
+-- range; what it asks first keeps the bounds of styles; and all that it asks is kept
 pub record IsSound (m : MetricsValue) (node : Node) (below : List Memo) (entry : Entry) : Type 0 where
   pub stores : Stores entry (lay m node entry.context)
   pub suits : Suits m node entry.context
   pub fits : in_range m node entry.context ≡ true
   pub ones : entry.ones ≡ first m (seen_of node) entry.context
+  pub one : entry.one ≡ map (answer_of m node) entry.ones
   pub twos : entry.twos ≡ second m (seen_of node) entry.context (map (answer_of m node) (first m (seen_of node) entry.context))
   pub styled : All HasStyle entry.ones
   pub ones_kept : AllByRecursion (NamesKept node below) entry.ones
   pub twos_kept : AllByRecursion (NamesKept node below) entry.twos
+  pub regular : entry.regular ≡ true → IsRegular m node entry.context entry.ones
 
--- what an entry asked in the first wave, older or not, is what its element asks as the tree is now
-pub record AsksTheSame (m : MetricsValue) (node : Node) (entry : Entry) : Type 0 where
-  pub ones : entry.ones ≡ first m (seen_of node) entry.context
+-- a regular entry of before the edit, where only the child at a place may have another head and other answers since: what
+-- it asked is what its element asks as the tree is now, but for the style of that child; what the other children answered is
+-- what they answer now, and is kept
+pub record StaysBut (m : MetricsValue) (node : Node) (below : List Memo) (place : ℕ) (entry : Entry) : Type 0 where
+  pub regular : IsRegular m node entry.context entry.ones
+  pub sized : is_font_size (size_of m entry.context.style) ≡ true
+  pub ones : first m (seen_of node) entry.context ≡ map (restyled_at m (seen_of node) entry.context place) entry.ones
   pub styled : All HasStyle entry.ones
+  pub as_many : length entry.one ≡ length entry.ones
+  pub others : (index : ℕ) (question : Question) (answer : Answer) → slice_get entry.ones index ≡ Some question
+      → slice_get entry.one index ≡ Some answer → (index ≡ place → ⊥) → (answer ≡ answer_of m node question) × NamesKept node below question
 
 -- what is known of an element, one memo for each child, and entries that are sound, but for the
--- older ones, and of which no two are in one context. Older ones ask the same where layout sees the same
+-- older ones, and of which no two are in one context. Older ones that are regular stay, but for one child, where layout sees
+-- the same but for that child
 pub record IsMemoOf (m : MetricsValue) (node : Node) (layer : Memo-F Memo) : Type 0 where
   pub facts_are : layer.facts ≡ facts node
   pub as_many : length layer.below ≡ length (out-Node node).children
   pub sound : (entry : Entry) → HasEntry layer entry → IsSound m node layer.below entry
   pub apart : AreApart (is_marked layer) layer.entries
-  pub same : sees_the_same layer ≡ true → (place : ℕ) (entry : Entry) → slice_get layer.entries place ≡ Some entry → AsksTheSame m node entry
+  pub stays : (child : ℕ) → alike_but layer ≡ Some child → (place : ℕ) (entry : Entry) → slice_get layer.entries place ≡ Some entry
+      → entry.fresh ≡ false → entry.regular ≡ true → StaysBut m node layer.below child entry
 
 -- an element of a tree and its memo, by the places of children down to it
 abbrev pub StandAt : List ℕ → Node → Memo → Node → Memo → Type 0

@@ -6,3 +6,4 @@ pub mod Laws
 pub mod Looking
 pub mod Passes
 pub mod Tidy
+pub mod Regular

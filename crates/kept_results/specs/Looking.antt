@@ -1,11 +1,12 @@
 -- What is found among the entries of an element, and how one more is kept.
-use Rattle.std.specs.Prelude.{◌≡◌, ℕ, true, ◌++◌, ◌∷◌, [], List, Some, slice_get}
+use Rattle.std.specs.Prelude.{◌≡◌, ℕ, ◌<◌, true, false, ◌++◌, ◌∷◌, [], length, Some, slice_get}
 use Rattle.layout_model.specs.declared.context.Context.{Context}
-use Rattle.layout_model.specs.declared.context.Question.{Question}
 use Rattle.layout_model.specs.declared.outcome.Answer.{Answer}
 use Rattle.layout_model.specs.declared.outcome.Outcome.{Outcome}
 use Rattle.embellished.specs.declared.facts.Facts.{Facts}
-use Rattle.kept_results.specs.Kept.{HasEntry, Stores, sees_the_same}
+use Rattle.kept_results.specs.Kept.{HasEntry, Stores, alike_but}
+use Rattle.kept_results.specs.declared.earlier.Earlier.{Earlier}
+use Rattle.kept_results.specs.declared.entries.Asked.{Asked}
 use Rattle.kept_results.specs.declared.memo.Entry.{Entry}
 use Rattle.kept_results.specs.declared.memo.Memo.{Memo}
 use Rattle.kept_results.specs.declared.memo.Memo.TheOpen.{Memo-F}
@@ -20,23 +21,29 @@ pub record HasAnswer (layer : Memo-F Memo) (context : Context) (answer : Answer)
   pub stores : Stores entry outcome
   pub answers : outcome.answer ≡ answer
 
--- an entry in a context, older or not, asked this in the first wave, and layout sees the same of the element as before the
--- present edit
-pub record AskedBefore (layer : Memo-F Memo) (context : Context) (asks : List Question) : Type 0 where
-  pub entry : Entry
-  pub place : ℕ
-  pub at : slice_get layer.entries place ≡ Some entry
+-- an entry of before the present edit, in a context, of a regular element that asked the child at a place
+pub record CanServe (entry : Entry) (context : Context) (child : ℕ) : Type 0 where
+  pub older : entry.fresh ≡ false
+  pub regular : entry.regular ≡ true
+  pub within : child < length entry.ones
   pub in_context : entry.context ≡ context
-  pub asked : entry.ones ≡ asks
-  pub same : sees_the_same layer ≡ true
+
+-- this names such an entry, and the place of a child but for which layout sees the same of the element
+pub record IsEarlier (layer : Memo-F Memo) (context : Context) (before : Earlier) : Type 0 where
+  pub entry : Entry
+  pub at : slice_get layer.entries before.entry ≡ Some entry
+  pub serves : CanServe entry context before.child
+  pub alike : alike_but layer ≡ Some before.child
 
 -- one fresh entry was added, in a context, with an outcome and what was asked for it
-pub record IsKeptNow (before after : Memo) (context : Context) (outcome : Outcome) (ones twos : List Question) : Type 0 where
+pub record IsKeptNow (before after : Memo) (context : Context) (outcome : Outcome) (asked : Asked) : Type 0 where
   pub entry : Entry
   pub stores : Stores entry outcome
   pub in_context : entry.context ≡ context
-  pub ones_are : entry.ones ≡ ones
-  pub twos_are : entry.twos ≡ twos
+  pub ones_are : entry.ones ≡ asked.ones
+  pub one_is : entry.one ≡ asked.one
+  pub twos_are : entry.twos ≡ asked.twos
+  pub regular_is : entry.regular ≡ asked.regular
   pub fresh : entry.fresh ≡ true
   pub added : after ≡ roll-Memo record {
     former = (out-Memo before).former;

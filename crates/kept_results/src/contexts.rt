@@ -40,7 +40,8 @@ pub fn copy_of(alloc: Global, context: &Context) -> Result<Context, Memory>
     })
 }
 
-fn copy_of_stretch(alloc: Global, stretch: &Stretch) -> Result<Stretch, Memory>
+/// What stretches an element, the same again.
+pub fn copy_of_stretch(alloc: Global, stretch: &Stretch) -> Result<Stretch, Memory>
     ensures { IfOk result (λ copied. copied ≡ stretch.now) }
 {
     match stretch {

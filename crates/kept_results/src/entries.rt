@@ -1,6 +1,6 @@
 ghost use Rattle.std.specs.Prelude.{◌≡◌, ◌++◌, ◌∷◌, [], true, false, IfOk, IfSome, IfNone, OnErr, OnOk, map};
-ghost use Rattle.kept_results.specs.Kept.{IsMissing, is_live, is_marked, sees_the_same};
-ghost use Rattle.kept_results.specs.Looking.{AskedBefore, HasAnswer, IsKeptNow, own_facts};
+ghost use Rattle.kept_results.specs.Kept.{IsMissing, is_live, is_marked};
+ghost use Rattle.kept_results.specs.Looking.{HasAnswer, IsKeptNow, own_facts};
 ghost use Rattle.kept_results.specs.Tidy.{has_none_fresh, is_calm};
 ghost use Rattle.kept_results.specs.declared.memo.Memo.TheViews.{out-Memo};
 
@@ -16,17 +16,6 @@ pub fn is_marked(memo: &Memo) -> bool
     ensures { result ≡ is_marked (out-Memo memo.now) }
 {
     memo.former.is_some()
-}
-
-/// Whether the present edit changes the element, or one below it, and it is known that layout sees the
-/// same of it as before.
-fn sees_the_same(memo: &Memo) -> bool
-    ensures { result ≡ sees_the_same (out-Memo memo.now) }
-{
-    match memo.former {
-        Some(former) => former.alike,
-        None => false,
-    }
 }
 
 /// Whether the present edit and the present pass left the element alone. It says nothing of those
@@ -78,27 +67,6 @@ pub fn kept_answer(alloc: Global, memo: &Memo, context: &Context) -> Result<Opti
     Ok(None)
 }
 
-/// What an entry in a context, older or not, asked in the first wave, where it is known that layout sees
-/// the same of the element as before the present edit.
-pub fn asked_before(
-    alloc: Global,
-    memo: &Memo,
-    context: &Context,
-) -> Result<Option<List<Question>>, Memory>
-    ensures some { IfOk result (λ found. IfSome found (AskedBefore (out-Memo memo.now) context.now)) }
-    ensures none { IfOk result (λ found. IfNone found (sees_the_same (out-Memo memo.now) ≡ true → IsMissing false context.now (out-Memo memo.now).entries)) }
-{
-    if !sees_the_same(memo) {
-        return Ok(None);
-    }
-    for entry in memo.entries.as_slice() {
-        if is_same(&entry.context, context) {
-            return Ok(Some(copy_of_all(alloc, &entry.ones)?));
-        }
-    }
-    Ok(None)
-}
-
 /// What the elements of some memos are, in order: of those below an element, as a view of it takes them.
 pub fn facts_below(alloc: Global, below: &[Memo]) -> Result<List<Facts>, Memory>
     ensures { IfOk result (λ kids. kids ≡ map own_facts below.now) }
@@ -110,17 +78,26 @@ pub fn facts_below(alloc: Global, below: &[Memo]) -> Result<List<Facts>, Memory>
     Ok(kids)
 }
 
+/// What an element asked for an outcome, and what was answered in the first wave.
+#[derive(Debug, Drop)]
+pub struct Asked {
+    pub ones: List<Question>,
+    pub one: List<Answer>,
+    pub twos: List<Question>,
+    /// Whether the element is regular, as an `Entry` says it.
+    pub regular: bool,
+}
+
 /// Keeps one layout more, and gives its answer.
 pub fn keep(
     alloc: Global,
     memo: &mut Memo,
     context: &Context,
     outcome: Outcome,
-    ones: List<Question>,
-    twos: List<Question>,
+    asked: Asked,
 ) -> Result<Answer, Memory>
     ensures answer { IfOk result (λ answer. answer ≡ outcome.answer) }
-    ensures kept { OnOk result (IsKeptNow memo.old memo.new context.now outcome ones twos) }
+    ensures kept { OnOk result (IsKeptNow memo.old memo.new context.now outcome asked) }
     ensures unchanged { OnErr result (memo.new ≡ memo.old) }
 {
     let answer = copy_of(alloc, &outcome.answer)?;
@@ -128,30 +105,17 @@ pub fn keep(
     memo.entries.push(Entry {
         context,
         outcome,
-        ones,
-        twos,
+        ones: asked.ones,
+        one: asked.one,
+        twos: asked.twos,
+        regular: asked.regular,
         fresh: true,
     })?;
     Ok(answer)
 }
 
-/// The same questions again.
-fn copy_of_all(alloc: Global, asks: &List<Question>) -> Result<List<Question>, Memory>
-    ensures { IfOk result (λ copied. copied ≡ asks.now) }
-{
-    let mut copied = List::with_room(alloc, asks.len())?;
-    for asked in asks.as_slice() {
-        let context = copy_of_context(alloc, &asked.context)?;
-        copied.push(Question {
-            kid: asked.kid,
-            context,
-        })?;
-    }
-    Ok(copied)
-}
-
 /// The same answer again.
-fn copy_of(alloc: Global, answer: &Answer) -> Result<Answer, Memory>
+pub fn copy_of(alloc: Global, answer: &Answer) -> Result<Answer, Memory>
     ensures { IfOk result (λ copied. copied ≡ answer.now) }
 {
     Ok(Answer {

@@ -13,12 +13,14 @@
 //! - Change what a kept layout is: `specs/Kept.antt`.
 #![tactic(auto)]
 
+mod earlier; // what a pass takes over from before the edit
 mod contexts; // the same context, and once more
 mod ends; // undo_pass, seal
 mod entries; // one element's entries
 pub mod laws; // what holds of kept layouts
 mod memo; // Entry, Former, Memo
 mod relay; // a pass over an element
+mod whole_view; // a view of an element that has all its children in flow
 
 pub use contexts::is_same;
 pub use ends::{seal, undo_pass};

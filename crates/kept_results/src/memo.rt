@@ -1,6 +1,6 @@
 use embellished::Facts;
 use fixed_units::List;
-use layout_model::{Context, Outcome, Question};
+use layout_model::{Answer, Context, Outcome, Question};
 
 /// A layout of an element that is kept: the outcome in a context, and what was asked for it.
 #[derive(Debug, Drop)]
@@ -9,8 +9,13 @@ pub struct Entry {
     pub outcome: Outcome,
     /// What the element asked in the first wave.
     pub ones: List<Question>,
+    /// What was answered to that.
+    pub one: List<Answer>,
     /// What it asked in the second wave.
     pub twos: List<Question>,
+    /// Whether all children are in flow and each is asked once, in order, in the first wave, whatever
+    /// they answer.
+    pub regular: bool,
     /// Whether the present pass made it.
     pub fresh: bool,
 }
@@ -20,9 +25,9 @@ pub struct Entry {
 pub struct Former {
     /// What it was among operators.
     pub facts: Facts,
-    /// Whether it is known that layout sees the same of it and of its children as before the edit. What
-    /// the element asked in the first wave then is what it asks now.
-    pub alike: bool,
+    /// The place of its child on the way to the edit, where it is known that layout sees the same of the
+    /// element and of its children as before the edit, but for the head of that child.
+    pub alike_but: Option<usize>,
 }
 
 /// The kept layouts of an element and of all elements below it, in the shape of the tree.

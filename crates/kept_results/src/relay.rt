@@ -2,23 +2,21 @@ ghost use Rattle.std.specs.Prelude.{◌≡◌, ◌≤◌, ◌^◌, pos, ◌≤�
 ghost use Rattle.std.specs.List.{All, AllByRecursion, flat_map, list_all};
 ghost use Rattle.fixed_units.specs.declared.refusal.LayRefusal.TheVariants.{Range};
 ghost use Rattle.math_tree.specs.Trees.{element_count};
-ghost use Rattle.embellished.specs.Seen.{seen_of};
-ghost use Rattle.style_scope.specs.Sizes.{IsStyle, size_of};
-ghost use Rattle.layout_model.specs.Fits.{HasStyle};
 ghost use Rattle.layout_model.specs.Laws.{answer_of, visits_below};
 ghost use Rattle.layout_model.specs.Layout.{in_range, lay, visit_fits};
-ghost use Rattle.layout_model.specs.Questions.{first};
-ghost use Rattle.child_questions.specs.Surveys.{survey_of};
 ghost use Rattle.kept_results.specs.Contexts.{IsProper, Suits};
 ghost use Rattle.kept_results.specs.Kept.{Agrees, IsKept, IsMissing, NamesKept, is_marked};
+ghost use Rattle.kept_results.specs.Looking.{IsEarlier};
 ghost use Rattle.kept_results.specs.Passes.{AnswersNeed, Needs, Passes};
 ghost use Rattle.kept_results.specs.Tidy.{AreTidy, IsTidy};
 ghost use Rattle.kept_results.specs.declared.memo.Memo.TheViews.{out-Memo};
 
-use crate::entries::{asked_before, facts_below, keep, kept_answer};
+use crate::earlier::{Earlier, asked_again, copies_of, find_earlier, is_regular, outcome_of};
+use crate::entries::{Asked, facts_below, keep, kept_answer};
 use crate::memo::Memo;
-use embellished::{NodeView, View};
-use fixed_units::{LayRefusal, List, Memory, Steps};
+use crate::whole_view::WholeView;
+use embellished::NodeView;
+use fixed_units::{LayRefusal, List, Steps};
 use font_metrics::Metrics;
 use layout_core::{Survey, finish_asked, first_questions, second_questions};
 use layout_model::{Answer, Context, Question};
@@ -52,7 +50,10 @@ pub fn relay_element<L: Ledger>(
 {
     match kept_answer(alloc, memo, context)? {
         Some(answer) => Ok(answer),
-        None => relay_anew(alloc, node, memo, context, metrics, steps),
+        None => match find_earlier(memo, context) {
+            Some(before) => relay_again(alloc, node, memo, context, before, metrics, steps),
+            None => relay_anew(alloc, node, memo, context, metrics, steps),
+        },
     }
 }
 
@@ -83,37 +84,68 @@ fn relay_anew<L: Ledger>(
     let kids = facts_below(alloc, memo.below.as_slice())?;
     let view = NodeView::make(alloc, node, memo.facts, &kids)?;
     let survey = Survey::make(alloc, &view, context, metrics)?;
-    let ones = ask_first(alloc, memo, &view, &survey, context, metrics)?;
+    let ones = first_questions(alloc, &view, &survey, context, metrics)?;
     let one = relay_all(alloc, node, memo, &view, &ones, metrics, steps)?;
     let twos = second_questions(alloc, &view, &survey, context, metrics, &one)?;
     let two = relay_all(alloc, node, memo, &view, &twos, metrics, steps)?;
     let outcome = finish_asked(
         alloc, &view, context, metrics, &ones, &twos, &one, &two, steps,
     )?;
-    Ok(keep(alloc, memo, context, outcome, ones, twos)?)
+    let regular = is_regular(&view, &survey, context, metrics, &ones);
+    let asked = Asked {
+        ones,
+        one,
+        twos,
+        regular,
+    };
+    Ok(keep(alloc, memo, context, outcome, asked)?)
 }
 
-/// The questions of the first wave. Where it is known that layout sees the same of the element as before
-/// the present edit, they are those that it asked then.
-fn ask_first(
+/// The same, where an entry of before the edit tells what the element asks, and only its child on the way to
+/// the edit may answer something else: no other child is looked at.
+#[cycle(relay)]
+#[inline(never)]
+fn relay_again<L: Ledger>(
     alloc: Global,
-    memo: &Memo,
-    view: &NodeView,
-    survey: &Survey,
+    node: &Node,
+    memo: &mut Memo,
     context: &Context,
+    before: Earlier,
     metrics: &Metrics,
-) -> Result<List<Question>, Memory>
-    requires agrees { Agrees metrics.now view.now.node.now memo.now }
-    requires known { survey.now ≡ survey_of metrics.now (seen_of view.now.node.now) context.now }
-    requires style { IsStyle context.now.style }
-    requires size { size_of metrics.now context.now.style ≤ℤ pos (2 ^ 20) }
-    ensures ok { IfOk result (λ asks. asks ≡ first metrics.now (seen_of view.now.node.now) context.now) }
-    ensures styles { IfOk result (All HasStyle) }
+    steps: &mut Steps<L>,
+) -> Result<Answer, LayRefusal>
+    requires agrees { Agrees metrics.now node.now memo.old }
+    requires few { element_count node.now ≤ 65_536 }
+    requires context { Suits metrics.now node.now context.now }
+    requires missing { IsMissing (is_marked (out-Memo memo.old)) context.now (out-Memo memo.old).entries }
+    requires before { IsEarlier (out-Memo memo.old) context.now before }
+    ensures passes { Passes metrics.now node.now (Needs metrics.now node.now context.now) memo.old memo.new steps.old steps.new false }
+    ensures passed { OnOk result (Passes metrics.now node.now (Needs metrics.now node.now context.now) memo.old memo.new steps.old steps.new true) }
+    ensures kept { OnOk result (IsKept (out-Memo memo.new) context.now) }
+    ensures tidy { OnOk result (IsTidy memo.old → IsTidy memo.new) }
+    ensures ok { IfOk result (λ answer. answer ≡ (lay metrics.now node.now context.now).answer) }
+    ensures fit { OnOk result (in_range metrics.now node.now context.now ≡ true) }
+    ensures range { result ≡ Err Range → in_range metrics.now node.now context.now ≡ false }
 {
-    match asked_before(alloc, memo, context)? {
-        Some(asks) => Ok(asks),
-        None => first_questions(alloc, view, survey, context, metrics),
-    }
+    let place = before.child;
+    let entry = &memo.entries.as_slice()[before.entry];
+    let view = WholeView::of(node, memo);
+    let ones = asked_again(alloc, &view, &entry.ones, place, context, metrics)?;
+    let mut one = copies_of(alloc, &entry.one)?;
+    let child = &node.children.as_slice()[place];
+    let below = memo.below.at_mut(place);
+    let asked = &ones.as_slice()[place];
+    let answer = relay_element(alloc, child, below, &asked.context, metrics, steps)?;
+    *one.at_mut(place) = answer;
+    let view = WholeView::of(node, memo);
+    let outcome = outcome_of(alloc, &view, context, metrics, &ones, &one, steps)?;
+    let asked = Asked {
+        ones,
+        one,
+        twos: List::make(alloc),
+        regular: true,
+    };
+    Ok(keep(alloc, memo, context, outcome, asked)?)
 }
 
 /// The answers of the children that an element asks, in order.

@@ -24,7 +24,7 @@ use Rattle.kept_sweep.specs.Flagged.{StandsAt, all_marked, cleared, cleared_laye
 
 abbrev pub marked_over : Memo-F Memo → Memo-F Memo
 marked_over layer = record {
-  former = Some record { facts = layer.facts; alike = false };
+  former = Some record { facts = layer.facts; alike_but = None };
   facts = layer.facts;
   entries = layer.entries;
   below = map all_marked layer.below;
@@ -55,10 +55,10 @@ out_cleared memo = ap out-Memo (cleared_out memo) ∙ out-roll-Memo (cleared_ove
 
 -- when all below are marked
 pub marked_end : (before now : Memo) (at : ℕ) → Renewed all_marked before now at → length (out-Memo before).below ≡ at
-    → roll-Memo record { former = Some record { facts = (out-Memo now).facts; alike = false }; facts = (out-Memo now).facts; entries = (out-Memo now).entries; below = (out-Memo now).below } ≡ all_marked before
+    → roll-Memo record { former = Some record { facts = (out-Memo now).facts; alike_but = None }; facts = (out-Memo now).facts; entries = (out-Memo now).entries; below = (out-Memo now).below } ≡ all_marked before
 marked_end before now at h l =
     (λ i. roll-Memo record {
-      former = Some record { facts = h.facts i; alike = false };
+      former = Some record { facts = h.facts i; alike_but = None };
       facts = h.facts i;
       entries = h.entries i;
       below = below_all all_marked before now at h l i;

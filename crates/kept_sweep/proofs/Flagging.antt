@@ -1,5 +1,5 @@
 -- How flags come to stand for what is needed.
-use Rattle.std.proofs.Common.{◌≡◌, ◌∙◌, ◌⊎◌, inl, inr, refl, sym, ap, subst, ℕ, ◌<◌, Bool, true, false, List, [], ◌∷◌, ◌++◌, get_or, length, map, set, Contains, None, Some, slice_get}
+use Rattle.std.proofs.Common.{◌≡◌, ◌∙◌, ◌⊎◌, inl, inr, refl, sym, ap, subst, ℕ, ◌<◌, Bool, true, false, true≢false, List, [], ◌∷◌, ◌++◌, get_or, length, map, set, Contains, None, Some, slice_get}
 use Rattle.std.proofs.lemmas.Option.{get_or_from_slice_get, same_Some, slice_get-map, slice_get_within}
 use Rattle.std.specs.List.{AllByRecursion}
 use Rattle.std.specs.Option.{option_map}
@@ -17,7 +17,7 @@ use Rattle.layout_model.specs.declared.context.Context.{Context}
 use Rattle.layout_model.specs.declared.context.Question.{Question}
 use Rattle.layout_core.proofs.Children.{smaller}
 use Rattle.kept_results.specs.Ends.{settled}
-use Rattle.kept_results.specs.Kept.{Agrees, AreApart, AsksTheSame, HasEntry, HoldsIn, HoldsOne, IsKept, IsMemoOf, IsMissing, IsSound, NamesKept, is_live, is_marked}
+use Rattle.kept_results.specs.Kept.{Agrees, AreApart, HasEntry, HoldsIn, HoldsOne, IsKept, IsMemoOf, IsMissing, IsSound, NamesKept, is_live, is_marked}
 use Rattle.kept_results.specs.Looking.{own_facts}
 use Rattle.kept_results.specs.Passes.{AnswersNeed, Needs, Pair}
 use Rattle.kept_results.specs.declared.memo.Entry.{Entry}
@@ -164,7 +164,9 @@ fresh entry = record {
   context = entry.context;
   outcome = entry.outcome;
   ones = entry.ones;
+  one = entry.one;
   twos = entry.twos;
+  regular = entry.regular;
   fresh = true;
 }
 
@@ -268,10 +270,12 @@ module _ (m : MetricsValue) (node : Node) (memo : Memo) (context : Context) (pla
         suits = sound_now.suits;
         fits = sound_now.fits;
         ones = sound_now.ones;
+        one = sound_now.one;
         twos = sound_now.twos;
         styled = sound_now.styled;
         ones_kept = ones;
         twos_kept = twos;
+        regular = sound_now.regular;
       } in
       let right : IsMemoOf m node layer = record {
         facts_are = own.facts_are;
@@ -285,16 +289,29 @@ module _ (m : MetricsValue) (node : Node) (memo : Memo) (context : Context) (pla
                 suits = r.suits;
                 fits = r.fits;
                 ones = r.ones;
+                one = r.one;
                 twos = r.twos;
                 styled = r.styled;
                 ones_kept = move e.ones r.ones_kept;
                 twos_kept = move e.twos r.twos_kept;
+                regular = r.regular;
               }
         ];
         apart = apart_any mark (set entries place (fresh entry)) (subst (AreApart false) (sym same_entries) (apart_settled m node memo whole));
-        same = λ alike i e at_e. elim (set_cases entries place i (fresh entry) e at_e) [
-          | inl s ↦ subst (AsksTheSame m node) (sym s.1) record { ones = sound_now.ones; styled = sound_now.styled }
-          | inr s ↦ own.same alike i e s
+        stays = λ child alike i e at_e older regular. elim (set_cases entries place i (fresh entry) e at_e) [
+          | inl s ↦ absurd (true≢false (ap (λ (x : Entry). x.fresh) (sym s.1) ∙ older))
+          | inr s ↦
+              let r = own.stays child alike i e s older regular in
+              record {
+                regular = r.regular;
+                sized = r.sized;
+                ones = r.ones;
+                styled = r.styled;
+                as_many = r.as_many;
+                others = λ index question answer x y other.
+                    let k = r.others index question answer x y other in
+                    (k.0, named_still need question k.1);
+              }
         ];
       } in
       record {

@@ -111,7 +111,7 @@ module _ (m : MetricsValue) where
     as_many = length-map (out-Memo memo).below all_marked ∙ k.as_many;
     sound = λ entry has. absurd (none_live (out-Memo memo).entries has.place entry (all_old memo h) has.at has.live);
     apart = none_apart (out-Memo memo).entries (all_old memo h);
-    same = λ alike. absurd (true≢false (sym alike));
+    stays = λ child alike. absurd (none-some child alike);
   }
 
   stood_marked : (path : List ℕ) (node : Node) (memo : Memo) (element : Node) (kept : Memo) → stripped memo ≡ memo → StandAt path node (all_marked memo) element kept
@@ -151,7 +151,7 @@ settled_same : (entries : List Entry) → AreOld entries → map settled entries
 unfolding AreOld
 settled_same [] h = refl
 settled_same (e ∷ entries) h =
-    (λ i. record { context = e.context; outcome = e.outcome; ones = e.ones; twos = e.twos; fresh = sym (h 0 e refl) i } ∷ settled_same entries (λ place. h (suc place)) i)
+    (λ i. record { context = e.context; outcome = e.outcome; ones = e.ones; one = e.one; twos = e.twos; regular = e.regular; fresh = sym (h 0 e refl) i } ∷ settled_same entries (λ place. h (suc place)) i)
 
 abbrev IsCleared : Memo → Type 0
 IsCleared memo = stripped memo ≡ memo → is_unmarked memo ≡ true → cleared memo ≡ memo

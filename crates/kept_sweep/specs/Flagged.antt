@@ -19,7 +19,7 @@ use Rattle.kept_results.specs.declared.memo.Memo.TheViews.{out-Memo, roll-Memo}
 
 abbrev pub marked_layer : Memo-F Memo → Memo
 marked_layer layer = roll-Memo record {
-  former = Some record { facts = layer.facts; alike = false };
+  former = Some record { facts = layer.facts; alike_but = None };
   facts = layer.facts;
   entries = layer.entries;
   below = layer.below;

@@ -24,7 +24,7 @@ pub fn mark_all(memo: &mut Memo)
     }
     memo.former = Some(Former {
         facts: memo.facts,
-        alike: false,
+        alike_but: None,
     });
 }
 

@@ -15,7 +15,9 @@
 mod fresh; // lay_fresh
 mod slots; // the children as asked last
 
-pub use child_questions::{Survey, first_questions, second_questions, wave_one, wave_two};
+pub use child_questions::{
+    Survey, first_questions, second_questions, style_of_kid, wave_one, wave_two,
+};
 pub use element_outcomes::{finish, finish_asked};
 pub use fresh::lay_fresh;
 pub use layout_model::{Answer, Context, Laid, Offset, Outcome, Question, Stretch};

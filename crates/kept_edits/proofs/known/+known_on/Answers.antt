@@ -67,7 +67,7 @@ returns-in_ok-kids-2 t c =
     let memo = c.args.memo.now in
     ok_then c.add_own-else-path-eq0.result _ (IsKnownOn c.args.path.now node memo)
     (λ known e. known_further node c.child_at-child.result.now memo c.memo_at-below.result.now known c.in_ok-known.known (seen_anew (facts node)) c.args.path.now c.if-path-eq0.false
-    c.child_at-child.ensures c.memo_at-below.ensures (c.in_ok-known.ensures {u = tt}) (own_anew node memo _ _) e) c.add_own-else-path-eq0.ensures
+    c.child_at-child.ensures c.memo_at-below.ensures (c.in_ok-known.ensures {u = tt}) (own_anew node memo _) e) c.add_own-else-path-eq0.ensures
 
 pub returns-then-is_same : goal.returns-then-is_same
 returns-then-is_same t c =
@@ -82,5 +82,5 @@ returns-then-is_same t c =
     let same : facts f.child ≡ own_facts kept = sym read ∙ c.is_same.ensures c.if-is_same.true in
     known_further node f.child memo kept c.push.new.self c.in_ok-known.known _ path c.if-path-eq0.false f.at c.memo_at-below.ensures
     (subst (λ (n : Node). IsKnownOn (take (length path - 1) (drop 1 path)) n kept c.in_ok-known.known) (sym child) (c.in_ok-known.ensures {u = tt}))
-    (own_alike node f.child memo kept path _ c.if-path-gt1.true (sym c.if-not-is_marked.ensures) f.at c.memo_at-below.ensures same (λ e. f.same (e ∙ ap own_facts (sym kept_is))) refl)
+    (own_alike node f.child memo kept _ _ (sym c.if-not-is_marked.ensures) f.at c.memo_at-below.ensures same (λ e. f.same (e ∙ ap own_facts (sym kept_is))) refl refl)
     (c.in_ok-push.ensures {u = tt}).ok

@@ -1,0 +1,304 @@
+-- A regular element again, of which layout sees the same but for one child.
+use Rattle.std.proofs.Common.{◌≡◌, ◌∙◌, ◌⊎◌, inl, inr, refl, sym, ap, subst, ℕ, zero, suc, ◌<◌, ◌≤◌, arith, Bool, true, false, cond, ◌&&◌, List, [], ◌∷◌, get_or, length, map, length-set, set, All, Option, Some, is_some, slice_get, nat_eq}
+use Rattle.std.proofs.lemmas.Bool.{ne_eqb}
+use Rattle.std.proofs.lemmas.Bool.Decides.{eqb_tells}
+use Rattle.std.proofs.lemmas.List.{length-map}
+use Rattle.std.proofs.lemmas.List.Elements.{All-nil}
+use Rattle.std.proofs.lemmas.List.Folds.{list_all-append}
+use Rattle.std.proofs.lemmas.Option.{get_or_from_slice_get, none-some, same_Some, slice_get-map, slice_get_within}
+use Rattle.std.specs.List.{AllByRecursion, flat_map, list_all}
+use Rattle.std.specs.Option.{option_map}
+use Rattle.font_metrics.specs.Metrics.{MetricsValue}
+use Rattle.math_tree.specs.Trees.{element_count}
+use Rattle.math_tree.specs.declared.node.Node.{Node}
+use Rattle.math_tree.specs.declared.node.Node.TheViews.{out-Node}
+use Rattle.embellished.specs.Seen.{Child, HasChild, Seen, flow_children, flow_nodes, seen_of}
+use Rattle.style_scope.specs.Sizes.{size_of}
+use Rattle.embellished.proofs.InFlow.{among, shown}
+use Rattle.layout_model.specs.Laws.{answer_of, visits_below}
+use Rattle.layout_model.specs.Fits.{AreAnswers, HasStyle}
+use Rattle.layout_model.specs.Layout.{in_range, lay, visit_fits}
+use Rattle.layout_model.specs.Questions.{IsBelow, first}
+use Rattle.layout_model.specs.Range.{is_font_size}
+use Rattle.layout_model.specs.declared.context.Context.{Context}
+use Rattle.layout_model.specs.declared.context.Question.{Question}
+use Rattle.layout_model.specs.declared.outcome.Answer.{Answer}
+use Rattle.layout_model.proofs.Made.{answer_of_child}
+use Rattle.layout_model.proofs.Places.{first_below}
+use Rattle.layout_core.proofs.Children.{few_children}
+use Rattle.layout_core.proofs.Fits.{answers_are as answers_are_stored}
+use Rattle.layout_core.proofs.Waves.{all_fit, fits_below}
+use Rattle.child_questions.proofs.Unstretched.{one_wave}
+use Rattle.kept_results.specs.Contexts.{IsProper, Suits}
+use Rattle.kept_results.specs.Kept.{Agrees, IsKept, IsMemoOf, IsMissing, Keeps, NamesKept, StaysBut, is_marked}
+use Rattle.kept_results.specs.Looking.{IsEarlier}
+use Rattle.kept_results.specs.Passes.{AnswersNeed, Needs, Pair, Passes}
+use Rattle.kept_results.specs.Regular.{IsRegular, IsShownBy, restyled, restyled_at}
+use Rattle.kept_results.specs.declared.earlier.Earlier.{Earlier}
+use Rattle.kept_results.specs.declared.memo.Memo.{Memo}
+use Rattle.kept_results.specs.declared.memo.Entry.{Entry}
+use Rattle.kept_results.specs.declared.memo.Former.{Former}
+use Rattle.kept_results.specs.declared.memo.Memo.TheOpen.{Memo-F}
+use Rattle.kept_results.specs.declared.memo.Memo.TheViews.{out-Memo, out-roll-Memo, roll-Memo}
+use Rattle.kept_results.proofs.Agreement.{agrees_child, names_renewed, renewed}
+use Rattle.kept_results.proofs.Lists.{set_here}
+use Rattle.kept_results.proofs.Passing.{passes_under, under}
+use Rattle.kept_results.proofs.Shown.{as_many_kids, flow_at, there_is}
+use Rattle.kept_results.proofs.Turns.{Waves, facts_known, missing_same, needed_below, ones_proper, own_entries, own_mark, pass_ones}
+
+-- ---- lists by their places
+
+map_was : {A B : Type 0} (f : A → B) (xs : List A) (i : ℕ) (y : B) → slice_get (map f xs) i ≡ Some y → (x : A) × (slice_get xs i ≡ Some x) × (y ≡ f x)
+map_was f [] i y h = absurd (none-some y h)
+map_was f (x ∷ xs) zero y h = (x, refl, sym (same_Some (f x) y h))
+map_was f (x ∷ xs) (suc i) y h = map_was f xs i y h
+
+-- what is at a place was set there, or stands at another one
+set_other : {A : Type 0} (xs : List A) (i j : ℕ) (x y : A) → slice_get (set xs i x) j ≡ Some y → ((j ≡ i) × (y ≡ x)) ⊎ ((j ≡ i → ⊥) × (slice_get xs j ≡ Some y))
+set_other [] i j x y h = absurd (none-some y h)
+set_other (z ∷ xs) zero zero x y h = inl (refl, sym (same_Some x y h))
+set_other (z ∷ xs) zero (suc j) x y h = inr (λ e. omega (arith, e), h)
+set_other (z ∷ xs) (suc i) zero x y h = inr (λ e. omega (arith, e), h)
+set_other (z ∷ xs) (suc i) (suc j) x y h = elim (set_other xs i j x y h) [ inl p ↦ inl (ap suc p.0, p.1) | inr q ↦ inr (λ e. q.0 (omega (arith, e)), q.1) ]
+
+mapped_at : {A B : Type 0} (f : A → B) (ys : List B) (xs : List A) → length ys ≡ length xs
+    → ((i : ℕ) (y : B) (x : A) → slice_get ys i ≡ Some y → slice_get xs i ≡ Some x → y ≡ f x) → ys ≡ map f xs
+mapped_at f [] [] l h = refl
+mapped_at f [] (x ∷ xs) l h = absurd (omega (arith, l))
+mapped_at f (y ∷ ys) [] l h = absurd (omega (arith, l))
+mapped_at {A} {B} f (y ∷ ys) (x ∷ xs) l h =
+    ap (λ (z : B). z ∷ ys) (h 0 y x refl refl) ∙ ap (λ (rest : List B). f x ∷ rest) (mapped_at f ys xs (omega (arith, l)) (λ i. h (suc i)))
+
+all_at : {A : Type 0} (P : A → Type 0) (xs : List A) → ((i : ℕ) (x : A) → slice_get xs i ≡ Some x → P x) → AllByRecursion P xs
+all_at P [] h = tt
+all_at P (x ∷ xs) h = (h 0 x refl, all_at P xs (λ i. h (suc i)))
+
+pub no_answers : (answers : List Answer) → answers ≡ [] → AreAnswers answers
+no_answers answers e =
+    let none : AreAnswers [] = record { fit = All-nil _; few = All-nil _ } in
+    subst AreAnswers (sym e) none
+
+-- ---- what is kept is in range
+
+module _ (m : MetricsValue) (node : Node) where
+  named_fits : (memo : Memo) (question : Question) → Agrees m node memo → NamesKept node (out-Memo memo).below question
+      → list_all (visit_fits m) (visits_below m node question) ≡ true
+  named_fits memo question h n =
+      let child : Child = n.child in
+      let node_at : slice_get (flow_nodes node) question.kid ≡ Some child.node =
+      slice_get-map (λ (c : Child). c.node) (flow_children node) question.kid ∙ ap (option_map (λ (c : Child). c.node)) n.to in
+      let below = agrees_child m node memo child.place child.node n.memo h (among node question.kid child n.to) n.at in
+      let sound = (below.at [] child.node n.memo (refl, refl)).sound n.kept.entry n.kept.has in
+      fits_below m node question child.node node_at ∙ ap (in_range m child.node) (sym n.kept.in_context) ∙ sound.fits
+
+  pub all_named_fit : (memo : Memo) (asks : List Question) → Agrees m node memo → AllByRecursion (NamesKept node (out-Memo memo).below) asks → all_fit m node asks ≡ true
+  all_named_fit memo [] h k = refl
+  all_named_fit memo (question ∷ asks) h k =
+      list_all-append (visit_fits m) (visits_below m node question) (flat_map (visits_below m node) asks)
+      ∙ ap (λ (b : Bool). b && all_fit m node asks) (named_fits memo question h k.0) ∙ all_named_fit memo asks h k.1
+
+-- ---- what the element asks
+
+kid_stays : (m : MetricsValue) (seen : Seen) (context : Context) (place : ℕ) (question : Question) → (restyled_at m seen context place question).kid ≡ question.kid
+kid_stays m seen context place question = by (nat_eq question.kid place)
+  where
+    by : (b : Bool) → (cond b (restyled m seen context question) question).kid ≡ question.kid
+    by true = refl
+    by false = refl
+
+other_stays : (m : MetricsValue) (seen : Seen) (context : Context) (place : ℕ) (question : Question) → (question.kid ≡ place → ⊥) → restyled_at m seen context place question ≡ question
+other_stays m seen context place question other = ap (λ (b : Bool). cond b (restyled m seen context question) question) (ne_eqb question.kid place other)
+
+module _ (m : MetricsValue) (node : Node) (memo : Memo) (context : Context) (before : Earlier) (h : Agrees m node memo) (b : IsEarlier (out-Memo memo) context before) where
+  abbrev restyle : Question → Question
+  restyle question = restyled_at m (seen_of node) context before.child question
+
+  own : IsMemoOf m node (out-Memo memo)
+  own = h.at [] node memo (refl, refl)
+
+  pub stays : StaysBut m node (out-Memo memo).below before.child b.entry
+  stays = own.stays before.child b.alike before.entry b.entry b.at b.serves.older b.serves.regular
+
+  pub still_regular : IsRegular m node context b.entry.ones
+  still_regular = subst (λ (c : Context). IsRegular m node c b.entry.ones) b.serves.in_context stays.regular
+
+  pub shown_by : (other : Memo) → Agrees m node other → element_count node ≤ 65_536 → IsShownBy other node
+  shown_by other agrees few = record {
+    own = (agrees.at [] node other (refl, refl)).facts_are;
+    kids = facts_known m node other agrees;
+    few = omega (arith, few_children node, few);
+    all = still_regular.all;
+    behind = still_regular.behind;
+  }
+
+  pub still_sized : is_font_size (size_of m context.style) ≡ true
+  still_sized = ap (λ (c : Context). is_font_size (size_of m c.style)) (sym b.serves.in_context) ∙ stays.sized
+
+  pub asks_are : map restyle b.entry.ones ≡ first m (seen_of node) context
+  asks_are =
+      ap (λ (c : Context). map (restyled_at m (seen_of node) c before.child) b.entry.ones) (sym b.serves.in_context)
+      ∙ sym stays.ones ∙ ap (first m (seen_of node)) b.serves.in_context
+
+  module _ (asks : List Question) (o : asks ≡ map restyle b.entry.ones) where
+    pub as_many_asks : length asks ≡ length b.entry.ones
+    as_many_asks = ap length o ∙ length-map b.entry.ones restyle
+
+    pub first_is : asks ≡ first m (seen_of node) context
+    first_is = o ∙ asks_are
+
+    -- a question was asked before
+    asked_at : (i : ℕ) (question : Question) → slice_get asks i ≡ Some question → (q : Question) × (slice_get b.entry.ones i ≡ Some q) × (question ≡ restyle q)
+    asked_at i question at = map_was restyle b.entry.ones i question (ap (λ (l : List Question). slice_get l i) (sym o) ∙ at)
+
+    pub kid_is : (i : ℕ) (question : Question) → slice_get asks i ≡ Some question → question.kid ≡ i
+    kid_is i question at =
+        let q = asked_at i question at in
+        ap (λ (x : Question). x.kid) q.2 ∙ kid_stays m (seen_of node) context before.child q.0 ∙ still_regular.in_order i q.0 q.1
+
+    -- the child to which it goes
+    pub near : (i : ℕ) (question : Question) → slice_get asks i ≡ Some question → i < length (out-Node node).children
+    near i question at =
+        let all = first_below m (seen_of node) context i question (slice_get_within (first m (seen_of node) context) i question (ap (λ (l : List Question). slice_get l i) (sym first_is) ∙ at)) in
+        let below : question.kid < length (seen_of node).kids = subst (IsBelow (length (seen_of node).kids)) (get_or_from_slice_get (first m (seen_of node) context) i question question (ap (λ (l : List Question). slice_get l i) (sym first_is) ∙ at)) all in
+        omega (arith, below, kid_is i question at, as_many_kids node still_regular.all)
+
+    pub within_asks : before.child < length asks
+    within_asks = let w = b.serves.within in omega (arith, w, as_many_asks)
+
+    pub near_child : before.child < length (out-Node node).children
+    near_child = let q = there_is asks before.child within_asks in near before.child q.0 q.1
+
+    pub near_below : before.child < length (out-Memo memo).below
+    near_below = let l = own.as_many in omega (arith, near_child, l)
+
+    pub near_kids : before.child < length (seen_of node).kids
+    near_kids = omega (arith, near_child, as_many_kids node still_regular.all)
+
+    pub goes_to : (i : ℕ) (question : Question) (child : Node) → slice_get asks i ≡ Some question → slice_get (out-Node node).children i ≡ Some child
+        → slice_get (flow_children node) question.kid ≡ Some record { place = i; node = child }
+    goes_to i question child at there = ap (slice_get (flow_children node)) (kid_is i question at) ∙ flow_at node i child still_regular.all there
+
+    -- ---- with the answer of one child
+    module _ (question : Question) (asked : slice_get asks before.child ≡ Some question) (child : Node) (there : slice_get (out-Node node).children before.child ≡ Some child)
+        (old new : Memo) (at : slice_get (out-Memo memo).below before.child ≡ Some old) (keeps : Keeps old new) where
+      pub answers_are : (answer : Answer) → answer ≡ (lay m child question.context).answer → set b.entry.one before.child answer ≡ map (answer_of m node) asks
+      answers_are answer e =
+          let long : length (set b.entry.one before.child answer) ≡ length asks = length-set b.entry.one before.child answer ∙ stays.as_many ∙ sym as_many_asks in
+          mapped_at (answer_of m node) (set b.entry.one before.child answer) asks long
+          (λ i y q y_at q_at.
+          elim (set_other b.entry.one before.child i answer y y_at) [
+            | inl p ↦ (
+                let same : question ≡ q = same_Some question q (sym asked ∙ ap (slice_get asks) (sym p.0) ∙ q_at) in
+                p.1 ∙ e ∙ sym (answer_of_child m node question record { place = before.child; node = child } (goes_to before.child question child asked there))
+                ∙ ap (answer_of m node) same
+                )
+            | inr k ↦ (
+                let was = asked_at i q q_at in
+                let other : was.0.kid ≡ before.child → ⊥ = λ z. k.0 (sym (still_regular.in_order i was.0 was.1) ∙ z) in
+                let same : q ≡ was.0 = was.2 ∙ other_stays m (seen_of node) context before.child was.0 other in
+                (stays.others i was.0 y was.1 k.1 k.0).0 ∙ ap (answer_of m node) (sym same)
+                )
+          ])
+
+      name_at : IsKept (out-Memo new) question.context → (i : ℕ) (q : Question) → slice_get asks i ≡ Some q → (i ≡ before.child) ⊎ (i ≡ before.child → ⊥)
+          → NamesKept node (set (out-Memo memo).below before.child new) q
+      name_at kept i q q_at (inl e) =
+          let same : question ≡ q = same_Some question q (sym asked ∙ ap (slice_get asks) (sym e) ∙ q_at) in
+          subst (NamesKept node (set (out-Memo memo).below before.child new)) same
+          record {
+            child = record { place = before.child; node = child };
+            to = goes_to before.child question child asked there;
+            memo = new;
+            at = set_here (out-Memo memo).below before.child new old at;
+            kept = kept;
+          }
+      name_at kept i q q_at (inr other) =
+          let was = asked_at i q q_at in
+          let l = stays.as_many in
+          let a = there_is b.entry.one i (omega (arith, l, slice_get_within b.entry.ones i was.0 was.1)) in
+          let apart : was.0.kid ≡ before.child → ⊥ = λ z. other (sym (still_regular.in_order i was.0 was.1) ∙ z) in
+          let same : q ≡ was.0 = was.2 ∙ other_stays m (seen_of node) context before.child was.0 apart in
+          names_renewed memo before.child old new at keeps node q
+          (subst (NamesKept node (out-Memo memo).below) (sym same) (stays.others i was.0 a.0 was.1 a.1 other).1)
+
+      same_place : (i : ℕ) → (i ≡ before.child) ⊎ (i ≡ before.child → ⊥)
+      same_place i = elim (eqb_tells i before.child) [ inl p ↦ inl p.1 | inr q ↦ inr q.1 ]
+
+      pub names_are : IsKept (out-Memo new) question.context → AllByRecursion (NamesKept node (set (out-Memo memo).below before.child new)) asks
+      names_are kept = all_at (NamesKept node (set (out-Memo memo).below before.child new)) asks (λ i q q_at. name_at kept i q q_at (same_place i))
+
+      -- ---- a pass over that child
+      module _ (from to : ℕ) (done : Bool) (made : Passes m child (Needs m child question.context) old new from to done) where
+        need : (pair : Pair) → Needs m child question.context pair → AnswersNeed m node asks (under before.child pair)
+        need pair k =
+            needed_below m node child before.child asks before.child question (slice_get_within asks before.child question asked)
+            (sym (get_or_from_slice_get asks before.child question question asked)) (goes_to before.child question child asked there) pair k
+
+        pub pass_again : Passes m node (Needs m node context) memo (roll-Memo (renewed memo before.child new)) from to done
+        pass_again =
+            pass_ones m node node context refl asks first_is
+            (passes_under m node memo before.child (AnswersNeed m node asks) h there at need made)
+
+      -- both waves, where it is done
+      module _ (answer : Answer) (e : answer ≡ (lay m child question.context).answer) (one : List Answer) (one_is : one ≡ set b.entry.one before.child answer)
+          (now : Agrees m node (roll-Memo (renewed memo before.child new))) (kept : IsKept (out-Memo new) question.context) where
+        pub named_again : AllByRecursion (NamesKept node (out-Memo (roll-Memo (renewed memo before.child new))).below) asks
+        named_again =
+            subst (λ (l : Memo-F Memo). AllByRecursion (NamesKept node l.below) asks) (sym (out-roll-Memo (renewed memo before.child new))) (names_are kept)
+
+        pub fits_again : all_fit m node asks ≡ true
+        fits_again = all_named_fit m node (roll-Memo (renewed memo before.child new)) asks now named_again
+
+        pub told_again : one ≡ map (answer_of m node) asks
+        told_again = one_is ∙ answers_are answer e
+
+        pub waves_again : Waves m node node context asks [] one []
+        waves_again = record {
+          shown_is = refl;
+          ones_are = first_is;
+          one_is = told_again;
+          twos_are = sym (one_wave m (seen_of node) context one still_regular.one_wave);
+          two_is = refl;
+        }
+
+        pub stored_again : element_count node ≤ 65_536 → AreAnswers one
+        stored_again few = subst AreAnswers (sym told_again) (answers_are_stored m node few asks fits_again)
+
+    pub regular_again : IsRegular m node context asks
+    regular_again = record {
+      all = still_regular.all;
+      behind = still_regular.behind;
+      one_wave = still_regular.one_wave;
+      in_order = kid_is;
+    }
+
+    pub missing_again : (place : ℕ) (new : Memo) → IsMissing (is_marked (out-Memo memo)) context (out-Memo memo).entries
+        → IsMissing (is_marked (out-Memo (roll-Memo (renewed memo place new)))) context (out-Memo (roll-Memo (renewed memo place new))).entries
+    missing_again place new none =
+        missing_same _ _ context _ _ none (ap (λ (former : Option Former). is_some former) (own_mark memo place new)) (own_entries memo place new)
+
+    pub proper_again : Suits m node context → All HasStyle asks → (i : ℕ) (question : Question) → slice_get asks i ≡ Some question → IsProper m node question
+    proper_again suits styles i question at =
+        let all = ones_proper m node node context refl asks first_is suits styles in
+        subst (IsProper m node) (get_or_from_slice_get asks i question question at) (all i question (slice_get_within asks i question at))
+
+    -- the child to which a question goes
+    pub has_child : (i : ℕ) (question : Question) (child : Node) → slice_get asks i ≡ Some question → slice_get (out-Node node).children i ≡ Some child
+        → (P : Child → Type 0) → P record { place = i; node = child } → HasChild node question.kid P
+    has_child i question child at there P holds = record {
+      child = record { place = i; node = child };
+      in_flow = goes_to i question child at there;
+      among = there;
+      shown = shown node question.kid record { place = i; node = child } (goes_to i question child at there);
+      holds = holds;
+    }
+
+  -- what the code reads
+  pub read_entry : (list : List Entry) (entry : Entry) → list ≡ (out-Memo memo).entries → entry ≡ get_or list before.entry entry → entry ≡ b.entry
+  read_entry list entry e is =
+      is ∙ ap (λ (l : List Entry). get_or l before.entry entry) e ∙ get_or_from_slice_get (out-Memo memo).entries before.entry b.entry entry b.at
+
+  pub asks_made : (shown_node : Node) (entry : Entry) (asks : List Question) → shown_node ≡ node → entry ≡ b.entry
+      → asks ≡ map (restyled_at m (seen_of shown_node) context before.child) entry.ones → asks ≡ map restyle b.entry.ones
+  asks_made shown_node entry asks e f o =
+      o ∙ ap (λ (n : Node). map (restyled_at m (seen_of n) context before.child) entry.ones) e ∙ ap (λ (x : Entry). map restyle x.ones) f

@@ -1,0 +1,163 @@
+ghost use Rattle.std.specs.Prelude.{◌≡◌, ◌≤◌, ◌<◌, ◌+◌, ◌^◌, pos, ◌≤ℤ◌, true, false, [], length, map, slice_get, Some, Err, IfOk, IfSome, OnOk};
+ghost use Rattle.std.specs.List.{All};
+ghost use Rattle.fixed_units.specs.declared.refusal.LayRefusal.TheVariants.{Range};
+ghost use Rattle.embellished.specs.Seen.{seen_of};
+ghost use Rattle.style_scope.specs.Sizes.{IsStyle, size_of};
+ghost use Rattle.layout_model.specs.Fits.{AreAnswers, HasStyle, IsContext};
+ghost use Rattle.layout_model.specs.Layout.{equation};
+ghost use Rattle.layout_model.specs.Questions.{first};
+ghost use Rattle.layout_model.specs.Range.{outcome_fits};
+ghost use Rattle.child_questions.specs.Surveys.{has_one_wave, survey_of};
+ghost use Rattle.kept_results.specs.Kept.{Agrees};
+ghost use Rattle.kept_results.specs.Looking.{CanServe, IsEarlier};
+ghost use Rattle.kept_results.specs.Regular.{AreInOrder, IsRegular, IsShownBy, restyled, restyled_at};
+ghost use Rattle.kept_results.specs.declared.memo.Memo.TheViews.{out-Memo};
+
+use crate::contexts::{copy_of as copy_of_context, copy_of_stretch, is_same};
+use crate::entries::copy_of;
+use crate::memo::{Entry, Memo};
+use crate::whole_view::WholeView;
+use embellished::{NodeView, View};
+use fixed_units::{LayRefusal, List, Memory, Steps};
+use font_metrics::Metrics;
+use layout_core::{Survey, finish_asked, style_of_kid};
+use layout_model::{Answer, Context, Outcome, Question};
+use math_tree::Node;
+use std::alloc::Global;
+use std::sync::ledger::Ledger;
+
+/// An entry of before the present edit from which a pass takes over what an element asks.
+#[derive(Clone, Copy, Debug)]
+pub struct Earlier {
+    /// Where it stands among the entries of the element.
+    pub entry: usize,
+    /// The place of the element's child on the way to the edit.
+    pub child: usize,
+}
+
+/// The entry of an element in a context from which a pass may take over what it asks, where there is one:
+/// it is of before the present edit, the element was regular, and it is known that layout sees the same of
+/// it as then, but for a child.
+pub fn find_earlier(memo: &Memo, context: &Context) -> Option<Earlier>
+    ensures { IfSome result (IsEarlier (out-Memo memo.now) context.now) }
+{
+    let child = memo.former?.alike_but?;
+    for entry in 0..memo.entries.len() {
+        if can_serve(&memo.entries.as_slice()[entry], context, child) {
+            return Some(Earlier { entry, child });
+        }
+    }
+    None
+}
+
+/// Is this an entry of before the edit, in a context, of a regular element that asked the child at a place?
+fn can_serve(entry: &Entry, context: &Context, child: usize) -> bool
+    ensures { result ≡ true → CanServe entry.now context.now child }
+{
+    !entry.fresh && entry.regular && child < entry.ones.len() && is_same(&entry.context, context)
+}
+
+/// What an element asks in the first wave: what it asked before the edit, but for the style of its child on
+/// the way there.
+pub fn asked_again(
+    alloc: Global,
+    view: &WholeView,
+    asks: &List<Question>,
+    child: usize,
+    context: &Context,
+    metrics: &Metrics,
+) -> Result<List<Question>, Memory>
+    requires within { child < length (seen_of view.now.node.now).kids }
+    requires styled { All HasStyle asks.now }
+    requires style { IsStyle context.now.style }
+    requires size { size_of metrics.now context.now.style ≤ℤ pos (2 ^ 20) }
+    ensures ok { IfOk result (λ all. all ≡ map (restyled_at metrics.now (seen_of view.now.node.now) context.now child) asks.now) }
+    ensures styles { IfOk result (All HasStyle) }
+{
+    let mut all = List::with_room(alloc, asks.len())?;
+    for asked in asks.as_slice() {
+        let style = if asked.kid as usize == child {
+            style_of_kid(view, context, metrics, child)
+        } else {
+            asked.context.style
+        };
+        all.push(Question {
+            kid: asked.kid,
+            context: Context {
+                style,
+                form: asked.context.form,
+                stretch: copy_of_stretch(alloc, &asked.context.stretch)?,
+            },
+        })?;
+    }
+    Ok(all)
+}
+
+/// The same answers again.
+pub fn copies_of(alloc: Global, answers: &List<Answer>) -> Result<List<Answer>, Memory>
+    ensures { IfOk result (λ all. all ≡ answers.now) }
+{
+    let mut all = List::with_room(alloc, answers.len())?;
+    for answer in answers.as_slice() {
+        all.push(copy_of(alloc, answer)?)?;
+    }
+    Ok(all)
+}
+
+/// The outcome of a regular element over what it asks and the answers to that. It takes one step.
+pub fn outcome_of<L: Ledger>(
+    alloc: Global,
+    view: &WholeView,
+    context: &Context,
+    metrics: &Metrics,
+    ones: &List<Question>,
+    one: &List<Answer>,
+    steps: &mut Steps<L>,
+) -> Result<Outcome, LayRefusal>
+    requires fits { IsContext context.now }
+    requires size { size_of metrics.now context.now.style ≤ℤ pos (2 ^ 20) }
+    requires one_wave { has_one_wave (survey_of metrics.now (seen_of view.now.node.now) context.now) ≡ true }
+    requires ones { ones.now ≡ first metrics.now (seen_of view.now.node.now) context.now }
+    requires as_many { length one.now ≡ length ones.now }
+    requires stored { AreAnswers one.now }
+    ensures ok { IfOk result (λ outcome. outcome ≡ equation metrics.now (seen_of view.now.node.now) context.now one.now []) }
+    ensures fit { OnOk result (outcome_fits (equation metrics.now (seen_of view.now.node.now) context.now one.now []) ≡ true) }
+    ensures range { result ≡ Err Range →
+        outcome_fits (equation metrics.now (seen_of view.now.node.now) context.now one.now []) ≡ false }
+    ensures step { steps.new ≡ steps.old + 1 }
+{
+    let twos = List::make(alloc);
+    let two = List::make(alloc);
+    finish_asked(alloc, view, context, metrics, ones, &twos, one, &two, steps)
+}
+
+/// Whether an element has all its children in flow, and no prescripts, and asks each child once, in order,
+/// in the first wave, whatever is answered.
+pub fn is_regular(
+    view: &NodeView,
+    survey: &Survey,
+    context: &Context,
+    metrics: &Metrics,
+    ones: &List<Question>,
+) -> bool
+    requires { survey.now ≡ survey_of metrics.now (seen_of view.now.node.now) context.now }
+    ensures { result ≡ true → IsRegular metrics.now view.now.node.now context.now ones.now }
+{
+    let all = view.node().children.len();
+    if (view.kids() != all) | (view.prescripts() != all) | !survey.has_one_wave() {
+        return false;
+    }
+    are_in_order(ones.as_slice())
+}
+
+/// Does each question go to the child in flow of its own place?
+fn are_in_order(asks: &[Question]) -> bool
+    ensures { result ≡ true → AreInOrder asks.now }
+{
+    for index in 0..asks.len() {
+        if asks[index].kid as usize != index {
+            return false;
+        }
+    }
+    true
+}
