@@ -1,13 +1,12 @@
 -- An element of which layout sees the same after a change below it, but for the head of one child.
-use Rattle.std.proofs.Common.{◌≡◌, ◌∙◌, refl, sym, ap, subst, ℕ, zero, suc, ◌+◌, ◌<◌, arith, Bool, true, false, ◌&&◌, List, [], ◌∷◌, length, length-set, map, set, Option, Some, None, slice_get}
+use Rattle.std.proofs.Common.{◌≡◌, ◌∙◌, refl, sym, ap, subst, ℕ, zero, suc, ◌+◌, arith, Bool, true, false, ◌&&◌, List, [], ◌∷◌, length, length-set, map, set, Some, slice_get}
 use Rattle.std.proofs.lemmas.List.{length-map, map-set}
-use Rattle.std.proofs.lemmas.Option.{none-some, same_Some, slice_get-map, slice_get_within}
+use Rattle.std.proofs.lemmas.Option.{none-some, same_Some, slice_get-map}
 use Rattle.std.specs.List.{AllByRecursion}
 use Rattle.std.specs.Option.{option_map}
 use Rattle.font_metrics.specs.Metrics.{MetricsValue}
 use Rattle.math_tree.specs.Trees.{node as node_of}
 use Rattle.math_tree.specs.declared.kind.Kind.{Kind}
-use Rattle.math_tree.specs.declared.node.Head.{Head}
 use Rattle.math_tree.specs.declared.node.Node.{Node}
 use Rattle.math_tree.specs.declared.node.Node.TheOpen.{Node-F}
 use Rattle.math_tree.specs.declared.node.Node.TheViews.{out-Node, out-roll-Node}
@@ -18,10 +17,7 @@ use Rattle.embellished.specs.Flow.{flow_by}
 use Rattle.embellished.specs.Seen.{Child, Kid, Seen, children_from, flow_children, kid_of, laid_child, laid_kid, prescripts_in, seen_of}
 use Rattle.embellished.specs.declared.facts.Facts.{Facts}
 use Rattle.embellished.proofs.Nodes.{facts_out, kinds_mapped}
-use Rattle.style_scope.specs.Sizes.{size_of}
 use Rattle.layout_model.specs.Laws.{answer_of}
-use Rattle.layout_model.specs.Layout.{in_range, lay}
-use Rattle.layout_model.specs.Range.{is_font_size}
 use Rattle.layout_model.specs.declared.context.Context.{Context}
 use Rattle.layout_model.specs.declared.context.Question.{Question}
 use Rattle.layout_model.specs.declared.outcome.Answer.{Answer}
@@ -35,7 +31,7 @@ use Rattle.kept_results.specs.declared.memo.Memo.TheViews.{out-Memo}
 use Rattle.kept_results.proofs.Flowing.{flow_same}
 use Rattle.kept_results.proofs.Shown.{flow_at, kids_all}
 use Rattle.kept_edits.specs.Laws.{IsReadyFor}
-use Rattle.kept_edits.proofs.Restyled.{as_many, first_again, kinds_of, same_wave}
+use Rattle.kept_edits.proofs.Restyled.{first_again, kinds_of, same_wave}
 
 module _ {A : Type 0} where
   -- what stands there is put there again

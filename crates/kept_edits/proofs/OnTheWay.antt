@@ -1,5 +1,5 @@
 -- What the elements on the way to a changed one are.
-use Rattle.std.proofs.Common.{◌≡◌, ◌∙◌, refl, sym, ap, subst, ℕ, ◌+◌, ◌-◌, ◌<◌, arith, true, false, true≢false, List, [], ◌∷◌, ◌++◌, drop, get_or, length, length-append, length-drop, length-take, map, set, take, Option, Some, slice_get}
+use Rattle.std.proofs.Common.{◌≡◌, ◌∙◌, refl, sym, ap, subst, ℕ, ◌+◌, ◌-◌, arith, false, List, [], ◌∷◌, ◌++◌, drop, get_or, length, length-append, map, set, take, Option, Some, slice_get}
 use Rattle.std.proofs.lemmas.List.{map-set, take_all}
 use Rattle.std.proofs.lemmas.Option.{get_or_from_slice_get, none-some, same_Some, slice_get_within}
 use Rattle.std.specs.Option.{option_map_or}

@@ -1,5 +1,5 @@
 -- What an element asks, where its children are what they were but for the head of one.
-use Rattle.std.proofs.Common.{◌≡◌, ◌∙◌, ◌⊎◌, inl, inr, refl, sym, ap, subst, ℕ, ◌+◌, Bool, true, false, cond, not, ◌&&◌, List, [], ◌∷◌, drop, length, map, take, Option, Some, None, is_some, slice_get, nat_eq, nat_lt, unwrap_or}
+use Rattle.std.proofs.Common.{◌≡◌, ◌∙◌, ◌⊎◌, inl, inr, refl, sym, ap, ℕ, ◌+◌, Bool, false, cond, not, ◌&&◌, List, [], ◌∷◌, drop, length, map, take, Option, Some, None, is_some, slice_get, nat_lt, unwrap_or}
 use Rattle.std.proofs.lemmas.Bool.{ne_eqb, eq-eqb}
 use Rattle.std.proofs.lemmas.Bool.Decides.{eqb_tells}
 use Rattle.std.proofs.lemmas.List.{drop-map, length-map, take-map}
@@ -8,14 +8,13 @@ use Rattle.std.proofs.lemmas.Option.{slice_get-map}
 use Rattle.std.specs.List.{list_all}
 use Rattle.std.specs.Option.{option_and_then, option_map, option_map_or}
 use Rattle.fixed_units.specs.Sums.{list_to}
-use Rattle.fixed_units.specs.declared.pull.Pull.{Pull}
 use Rattle.font_metrics.specs.Metrics.{MetricsValue}
 use Rattle.math_tree.specs.declared.kind.Kind.{Kind}
 use Rattle.math_tree.specs.declared.node.Head.{Head}
-use Rattle.op_dictionary.specs.declared.operator.Axis.{Axis}
 use Rattle.op_dictionary.specs.declared.operator.Form.{Form}
 use Rattle.op_dictionary.specs.declared.operator.Form.TheVariants.{Prefix, Infix, Postfix}
 use Rattle.op_dictionary.specs.declared.operator.Properties.{Properties}
+use Rattle.embellished.specs.Fences.{fences_in}
 use Rattle.embellished.specs.Forms.{fence_form, form_at, form_by_place, leads, properties_at, stretch_axis}
 use Rattle.embellished.specs.Kinds.{has_fences, is_scripted}
 use Rattle.embellished.specs.Seen.{Kid, Seen}
@@ -23,14 +22,14 @@ use Rattle.embellished.specs.declared.facts.Core.{Core}
 use Rattle.embellished.specs.declared.facts.Facts.{Facts}
 use Rattle.row_stretch.specs.declared.parts.Ask.{Ask}
 use Rattle.row_stretch.specs.declared.parts.KidPull.{KidPull}
-use Rattle.layout_model.specs.Contexts.{kid_axis, kid_context, kid_pull, kid_style, place_of, pull_of, stretch_of}
+use Rattle.layout_model.specs.Contexts.{kid_axis, kid_pull, kid_style, place_of, pull_of, stretch_of}
 use Rattle.layout_model.specs.Questions.{asked, asked_all, asked_as, asking, asking_of, base_properties, first, first_asks, kid_pulls}
 use Rattle.layout_model.specs.declared.asking.Asking.{Asking}
 use Rattle.layout_model.specs.declared.context.Context.{Context}
 use Rattle.layout_model.specs.declared.context.Question.{Question}
 use Rattle.style_scope.specs.Styles.{child_style_of}
 use Rattle.style_scope.specs.declared.style.Style.{Style}
-use Rattle.child_questions.specs.Surveys.{has_one_wave, is_as_table, survey_of}
+use Rattle.child_questions.specs.Surveys.{has_one_wave, survey_of}
 use Rattle.kept_results.specs.Regular.{restyled, restyled_at}
 
 -- ---- by facts alone
@@ -146,8 +145,13 @@ module _ (m : MetricsValue) (seen other : Seen) (own : other.facts ≡ seen.fact
 
   pub same_wave : (context : Context) → has_one_wave (survey_of m other context) ≡ has_one_wave (survey_of m seen context)
   same_wave context =
-      ap (λ (a : Asking). not (is_as_table a) && list_all (λ pull. _) (kid_pulls m other context)) (same_asking context)
-      ∙ ap (λ (pulls : List KidPull). not (is_as_table (asking m seen context)) && list_all (λ pull. _) pulls) (same_pulls context)
+      λ i. has_one_wave record {
+        asking = same_asking context i;
+        fences = fences_in seen.kids;
+        pulls = same_pulls context i;
+        accent = false;
+        accentunder = false;
+      }
 
   -- ---- and the same heads but for one
   module _ (place : ℕ) (head : other.head ≡ seen.head) (others : (index : ℕ) → (index ≡ place → ⊥) → slice_get other.kids index ≡ slice_get seen.kids index) where

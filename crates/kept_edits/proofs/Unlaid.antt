@@ -1,5 +1,5 @@
 -- Memos of which nothing is kept.
-use Rattle.std.proofs.Common.{◌≡◌, ◌∙◌, refl, sym, ap, subst, ℕ, zero, suc, Bool, true, ◌&&◌, Some, None, List, [], ◌∷◌, length, map, slice_get, take, arith, true≢false}
+use Rattle.std.proofs.Common.{◌≡◌, ◌∙◌, refl, sym, ap, subst, ℕ, zero, suc, Bool, true, ◌&&◌, Some, None, List, [], ◌∷◌, length, map, slice_get, take, arith}
 use Rattle.std.proofs.lemmas.List.{length-map, take_all}
 use Rattle.std.proofs.lemmas.Option.{none-some, same_Some}
 use Rattle.std.specs.List.{AllByRecursion, list_all}
