@@ -37,9 +37,9 @@ pub struct Session {
 
 /// What an accepted edit weighs, beside one for each layout that it made. So only so many edits come
 /// between two sweeps: all layouts that are kept of an element are looked through for one.
-const EDIT_WEIGHT: usize = 64;
+const EDIT_WEIGHT: usize = 4;
 
-/// So much, and one more for each element of the tree, edits may weigh before layouts that aren't needed
+/// So much, and two more for each element of the tree, edits may weigh before layouts that aren't needed
 /// any more are dropped: that goes over the whole tree, and is to cost little beside them at any size.
 const MOST_UNSWEPT: usize = 4_096;
 
@@ -127,7 +127,7 @@ impl Session {
             .saturating_add(EDIT_WEIGHT)
             .saturating_add(made);
         let elements = self.layouts.tree().elements() as usize;
-        if weight <= MOST_UNSWEPT + elements {
+        if weight <= MOST_UNSWEPT + 2 * elements {
             self.unswept = weight;
         } else {
             self.drop_needless();

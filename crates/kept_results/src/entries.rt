@@ -122,6 +122,17 @@ pub fn copy_of(alloc: Global, answer: &Answer) -> Result<Answer, Memory>
         frame: answer.frame,
         before: answer.before,
         after: answer.after,
-        cells: answer.cells.copy(alloc)?,
+        cells: copy_of_cells(alloc, &answer.cells)?,
     })
+}
+
+/// The same widths of cells again. Only rows of tables have any.
+fn copy_of_cells(alloc: Global, cells: &List<i64>) -> Result<List<i64>, Memory>
+    ensures { IfOk result (λ copied. copied ≡ cells.now) }
+{
+    if cells.is_empty() {
+        Ok(List::make(alloc))
+    } else {
+        cells.copy(alloc)
+    }
 }
