@@ -14,8 +14,8 @@ ALL_SAME = ("fresh same", "session same", "copy same")
 START_SAME = "start same"
 
 # A session drops what its tree doesn't need at a show, and at an edit where those since it last did weigh more than so
-# much and one for each element of the tree. An edit weighs so much and one for each layout that it made.
-MOST_UNSWEPT, EDIT_WEIGHT = 4_096, 64
+# much and two for each element of the tree. An edit weighs so much and one for each layout that it made.
+MOST_UNSWEPT, EDIT_WEIGHT = 4_096, 4
 
 
 def steps(reference, known, value):
@@ -102,7 +102,7 @@ class Held:
         self.compare(count, new, path)
         self.tree, self.kept = new, stay | needed
         self.unswept += EDIT_WEIGHT + count
-        if self.unswept > MOST_UNSWEPT + len(list(new.root.all())):
+        if self.unswept > MOST_UNSWEPT + 2 * len(list(new.root.all())):
             self.drop()
         return made(count, self.kept)
 
