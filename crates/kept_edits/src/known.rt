@@ -16,7 +16,7 @@ use std::alloc::Global;
 
 /// What the elements on the way to a changed one are, that one first: of the changed tree, and the
 /// memos that are not changed yet. Of other elements only what is known of the children of those on the
-/// way is read. An element whose child on the way is what it was, and isn't the changed one, is what it was.
+/// way is read. An element whose child on the way is what it was is what it was.
 pub fn known_on(
     alloc: Global,
     node: &Node,

@@ -76,7 +76,8 @@ pub record NamesKept (node : Node) (below : List Memo) (question : Question) : T
   pub kept : IsKept (out-Memo memo) question.context
 
 -- an entry keeps the layout of its element as the tree is now, with what was answered first; all that is made for it is in
--- range; what it asks first keeps the bounds of styles; and all that it asks is kept
+-- range; what it asks first keeps the bounds of styles; all that it asks is kept; and where it is noted as regular, its
+-- element is
 pub record IsSound (m : MetricsValue) (node : Node) (below : List Memo) (entry : Entry) : Type 0 where
   pub stores : Stores entry (lay m node entry.context)
   pub suits : Suits m node entry.context
@@ -89,9 +90,10 @@ pub record IsSound (m : MetricsValue) (node : Node) (below : List Memo) (entry :
   pub twos_kept : AllByRecursion (NamesKept node below) entry.twos
   pub regular : entry.regular ≡ true → IsRegular m node entry.context entry.ones
 
--- a regular entry of before the edit, where only the child at a place may have another head and other answers since: what
--- it asked is what its element asks as the tree is now, but for the style of that child; what the other children answered is
--- what they answer now, and is kept
+-- a regular entry of before the edit, where only the child at a place may have another head and other answers since: its
+-- element is regular as the tree is now, in a size that a style may have; what it asked is what the element asks now, but for
+-- the style of that child, and keeps the bounds of styles; what the other children answered is what they answer now, and is
+-- kept
 pub record StaysBut (m : MetricsValue) (node : Node) (below : List Memo) (place : ℕ) (entry : Entry) : Type 0 where
   pub regular : IsRegular m node entry.context entry.ones
   pub sized : is_font_size (size_of m entry.context.style) ≡ true

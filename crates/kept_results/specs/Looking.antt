@@ -35,6 +35,11 @@ pub record IsEarlier (layer : Memo-F Memo) (context : Context) (before : Earlier
   pub serves : CanServe entry context before.child
   pub alike : alike_but layer ≡ Some before.child
 
+-- no entry can serve
+abbrev pub HasNoEarlier : Memo-F Memo → Context → Type 0
+HasNoEarlier layer context = (child : ℕ) → alike_but layer ≡ Some child → (place : ℕ) (entry : Entry)
+    → slice_get layer.entries place ≡ Some entry → CanServe entry context child → ⊥
+
 -- one fresh entry was added, in a context, with an outcome and what was asked for it
 pub record IsKeptNow (before after : Memo) (context : Context) (outcome : Outcome) (asked : Asked) : Type 0 where
   pub entry : Entry

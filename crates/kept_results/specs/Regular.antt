@@ -21,14 +21,15 @@ abbrev pub AreInOrder : List Question → Type 0
 AreInOrder asks = (index : ℕ) (question : Question) → slice_get asks index ≡ Some question → question.kid ≡ index
 
 -- an element in a context that has all its children in flow, and no prescripts, and of which these are all questions,
--- whatever is answered, to one child after the other
+-- whatever is answered, to one child after the other. That every child is asked by its first wave is a law of those
 pub record IsRegular (m : MetricsValue) (node : Node) (context : Context) (asks : List Question) : Type 0 where
   pub all : AllInFlow node
   pub behind : (seen_of node).prescripts ≡ length (out-Node node).children
   pub one_wave : has_one_wave (survey_of m (seen_of node) context) ≡ true
   pub in_order : AreInOrder asks
 
--- a memo is that of such an element, whose children aren't too many: it says what they are
+-- a memo is that of an element with all its children in flow, no prescripts and not too many children: it says what they
+-- are
 pub record IsShownBy (memo : Memo) (node : Node) : Type 0 where
   pub own : (out-Memo memo).facts ≡ facts node
   pub kids : map (λ below. (out-Memo below).facts) (out-Memo memo).below ≡ map facts (out-Node node).children

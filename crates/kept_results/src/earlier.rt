@@ -1,4 +1,4 @@
-ghost use Rattle.std.specs.Prelude.{◌≡◌, ◌≤◌, ◌<◌, ◌+◌, ◌^◌, pos, ◌≤ℤ◌, true, false, [], length, map, slice_get, Some, Err, IfOk, IfSome, OnOk};
+ghost use Rattle.std.specs.Prelude.{◌≡◌, ◌≤◌, ◌<◌, ◌+◌, ◌^◌, pos, ◌≤ℤ◌, true, false, [], length, map, Err, IfOk, IfNone, IfSome, OnOk};
 ghost use Rattle.std.specs.List.{All};
 ghost use Rattle.fixed_units.specs.declared.refusal.LayRefusal.TheVariants.{Range};
 ghost use Rattle.embellished.specs.Seen.{seen_of};
@@ -8,12 +8,11 @@ ghost use Rattle.layout_model.specs.Layout.{equation};
 ghost use Rattle.layout_model.specs.Questions.{first};
 ghost use Rattle.layout_model.specs.Range.{outcome_fits};
 ghost use Rattle.child_questions.specs.Surveys.{has_one_wave, survey_of};
-ghost use Rattle.kept_results.specs.Kept.{Agrees};
-ghost use Rattle.kept_results.specs.Looking.{CanServe, IsEarlier};
-ghost use Rattle.kept_results.specs.Regular.{AreInOrder, IsRegular, IsShownBy, restyled, restyled_at};
+ghost use Rattle.kept_results.specs.Looking.{CanServe, HasNoEarlier, IsEarlier};
+ghost use Rattle.kept_results.specs.Regular.{AreInOrder, IsRegular, restyled_at};
 ghost use Rattle.kept_results.specs.declared.memo.Memo.TheViews.{out-Memo};
 
-use crate::contexts::{copy_of as copy_of_context, copy_of_stretch, is_same};
+use crate::contexts::{copy_of_stretch, is_same};
 use crate::entries::copy_of;
 use crate::memo::{Entry, Memo};
 use crate::whole_view::WholeView;
@@ -22,7 +21,6 @@ use fixed_units::{LayRefusal, List, Memory, Steps};
 use font_metrics::Metrics;
 use layout_core::{Survey, finish_asked, style_of_kid};
 use layout_model::{Answer, Context, Outcome, Question};
-use math_tree::Node;
 use std::alloc::Global;
 use std::sync::ledger::Ledger;
 
@@ -39,7 +37,8 @@ pub struct Earlier {
 /// it is of before the present edit, the element was regular, and it is known that layout sees the same of
 /// it as then, but for a child.
 pub fn find_earlier(memo: &Memo, context: &Context) -> Option<Earlier>
-    ensures { IfSome result (IsEarlier (out-Memo memo.now) context.now) }
+    ensures some { IfSome result (IsEarlier (out-Memo memo.now) context.now) }
+    ensures none { IfNone result (HasNoEarlier (out-Memo memo.now) context.now) }
 {
     let child = memo.former?.alike_but?;
     for entry in 0..memo.entries.len() {
@@ -52,7 +51,8 @@ pub fn find_earlier(memo: &Memo, context: &Context) -> Option<Earlier>
 
 /// Is this an entry of before the edit, in a context, of a regular element that asked the child at a place?
 fn can_serve(entry: &Entry, context: &Context, child: usize) -> bool
-    ensures { result ≡ true → CanServe entry.now context.now child }
+    ensures yes { result ≡ true → CanServe entry.now context.now child }
+    ensures no { result ≡ false → CanServe entry.now context.now child → ⊥ }
 {
     !entry.fresh && entry.regular && child < entry.ones.len() && is_same(&entry.context, context)
 }

@@ -2,8 +2,9 @@
 //!
 //! A `Memo` has the shape of a tree. At each element it keeps the outcomes in the contexts in which
 //! that element was laid out, so that a later layout computes only what an edit changed. An edit
-//! marks the elements on the way to it; what a marked element keeps from before doesn't count, but for
-//! what it asked in the first wave, where layout sees the same of it as then.
+//! marks the elements on the way to it; what a marked element keeps from before doesn't count. But where
+//! layout sees the same of it as then, except for one child, and all its children are asked alike, its
+//! questions and what the other children answered are taken over.
 //!
 //! - Models: this project's own; MathML Core says nothing of it.
 //! - Proved: a pass gives the layout exactly, computes nothing that is kept, and nothing twice, and can
@@ -13,8 +14,8 @@
 //! - Change what a kept layout is: `specs/Kept.antt`.
 #![tactic(auto)]
 
-mod earlier; // what a pass takes over from before the edit
 mod contexts; // the same context, and once more
+mod earlier; // what a pass takes over from before the edit
 mod ends; // undo_pass, seal
 mod entries; // one element's entries
 pub mod laws; // what holds of kept layouts

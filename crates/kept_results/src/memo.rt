@@ -13,8 +13,8 @@ pub struct Entry {
     pub one: List<Answer>,
     /// What it asked in the second wave.
     pub twos: List<Question>,
-    /// Whether all children are in flow and each is asked once, in order, in the first wave, whatever
-    /// they answer.
+    /// Whether it is known that all children are in flow, none of them a prescript, and that each is asked
+    /// once, in order, in the first wave, whatever they answer.
     pub regular: bool,
     /// Whether the present pass made it.
     pub fresh: bool,

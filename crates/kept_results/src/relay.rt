@@ -1,4 +1,4 @@
-ghost use Rattle.std.specs.Prelude.{◌≡◌, ◌≤◌, ◌^◌, pos, ◌≤ℤ◌, length, map, true, false, IfOk, OnOk, Err};
+ghost use Rattle.std.specs.Prelude.{◌≡◌, ◌≤◌, map, true, false, IfOk, OnOk, Err};
 ghost use Rattle.std.specs.List.{All, AllByRecursion, flat_map, list_all};
 ghost use Rattle.fixed_units.specs.declared.refusal.LayRefusal.TheVariants.{Range};
 ghost use Rattle.math_tree.specs.Trees.{element_count};
@@ -102,7 +102,7 @@ fn relay_anew<L: Ledger>(
 }
 
 /// The same, where an entry of before the edit tells what the element asks, and only its child on the way to
-/// the edit may answer something else: no other child is looked at.
+/// the edit may answer something else: no other child is asked, and no entry of one is looked for.
 #[cycle(relay)]
 #[inline(never)]
 fn relay_again<L: Ledger>(
