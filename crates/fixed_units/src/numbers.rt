@@ -1,4 +1,4 @@
-ghost use Rattle.std.specs.Prelude.{◌≡◌, ◌^◌, pos, ◌+ℤ◌, ◌*ℤ◌, ◌≤ℤ◌, ◌<ℤ◌};
+ghost use Rattle.std.specs.Prelude.{◌≡◌, true, ◌^◌, pos, ◌+ℤ◌, ◌*ℤ◌, ◌≤ℤ◌, ◌<ℤ◌};
 ghost use Rattle.fixed_units.specs.Numbers.{IsWithin, IsRound, rounded, halved};
 
 /// A rational number before it is rounded: `num / den`, with `den` above 0.
@@ -15,6 +15,42 @@ pub fn round(value: Ratio) -> i64
     requires result_in { IsWithin (2 ^ 62) (rounded value.num value.den) }
     ensures value { result ≡ rounded value.num value.den }
     ensures nearest { IsRound value.num value.den result }
+{
+    if is_short(value.num) && is_short(value.den) {
+        round_short(value.num as i64, value.den as i64)
+    } else {
+        round_long(value)
+    }
+}
+
+/// The largest number that is short: such numbers are divided in one instruction.
+const SHORT: i128 = 1 << 62;
+
+/// Is a number at most that far from 0?
+fn is_short(n: i128) -> bool
+    ensures { result ≡ true → IsWithin (2 ^ 62) n }
+{
+    -SHORT <= n && n <= SHORT
+}
+
+/// The same of two short numbers.
+fn round_short(num: i64, den: i64) -> i64
+    requires positive { pos 0 <ℤ den }
+    requires den_in { den ≤ℤ pos (2 ^ 62) }
+    requires result_in { IsWithin (2 ^ 62) (rounded num den) }
+    ensures { result ≡ rounded num den }
+{
+    let down = num.div_euclid(den);
+    let rest = num.rem_euclid(den);
+    if rest < den - rest { down } else { down + 1 }
+}
+
+/// The same of any two numbers.
+fn round_long(value: Ratio) -> i64
+    requires positive { pos 0 <ℤ value.den }
+    requires num_in { IsWithin (2 ^ 126) value.num }
+    requires result_in { IsWithin (2 ^ 62) (rounded value.num value.den) }
+    ensures { result ≡ rounded value.num value.den }
 {
     let down = value.num.div_euclid(value.den);
     let rest = value.num.rem_euclid(value.den);

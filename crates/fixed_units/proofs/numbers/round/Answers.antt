@@ -1,45 +1,27 @@
-use Rattle.std.proofs.Common.{rules, ◌≡◌, pos, ◌+ℤ◌, ◌-ℤ◌, FitsSigned, arith, sym, subst}
+use Rattle.std.proofs.Common.{rules, ◌≡◌, ◌∙◌, sym, subst, FitsSigned, w64, to_z, of_z, arith}
 use Rattle.std.specs.Int.{w128}
-use Rattle.std.proofs.lemmas.Int.{to_z-of_z}
-use Rattle.fixed_units.specs.Numbers.{rounded, IsRound}
+use Rattle.fixed_units.specs.Numbers.{IsRound, rounded}
+use Rattle.fixed_units.proofs.Rounding.{rounded_is_round}
 use Rattle.fixed_units.proofs.Signed.{signed}
-use Rattle.fixed_units.proofs.Rounding.{rounded_down, rounded_up, rounded_is_round}
 use Rattle.fixed_units.proofs.numbers.round.Goals as goal
 
-below : (c : goal.Then-rest-value) → c.div_euclid-down.result ≡ rounded c.args.value.num c.args.value.den
-below c =
-    let f : FitsSigned w128 c.args.value.num = search rules in
-    let g : FitsSigned w128 c.args.value.den = search rules in
-    let s : FitsSigned w128 (c.args.value.den -ℤ c.rem_euclid-rest.result) = omega (arith, signed, c.rem_euclid-rest.ensures.lower_bound) in
-    let q = simp to_z-of_z at c.div_euclid-down.ensures in
-    let r = simp to_z-of_z at c.rem_euclid-rest.ensures.value in
-    rounded_down _ _ _ _ c.requires.positive q r (omega (arith, signed))
+pub returns-then-is_short-2-clause-value : goal.returns-then-is_short-2-clause-value
+returns-then-is_short-2-clause-value c =
+    let n = c.is_short.ensures c.if-is_short.true in
+    let d = c.is_short-then-is_short.ensures c.if-is_short-2.true in
+    let den_fits : FitsSigned w128 c.args.value.den = search rules in
+    let num : to_z w64 (of_z w64 (to_z w128 (of_z w128 c.args.value.num))) ≡ c.args.value.num = omega (arith, signed, n, c.requires.num_in) in
+    let den : to_z w64 (of_z w64 (to_z w128 (of_z w128 c.args.value.den))) ≡ c.args.value.den = omega (arith, signed, d, den_fits) in
+    let value = c.round_short.ensures ∙ (λ i. rounded (num i) (den i)) in
+    omega (arith, signed, value, c.round_short.type_inv)
 
-above : (c : goal.Else-rest-value) → c.div_euclid-down.result +ℤ pos 1 ≡ rounded c.args.value.num c.args.value.den
-above c =
-    let f : FitsSigned w128 c.args.value.num = search rules in
-    let g : FitsSigned w128 c.args.value.den = search rules in
-    let s : FitsSigned w128 (c.args.value.den -ℤ c.rem_euclid-rest.result) = omega (arith, signed, c.rem_euclid-rest.ensures.lower_bound) in
-    let q = simp to_z-of_z at c.div_euclid-down.ensures in
-    let r = simp to_z-of_z at c.rem_euclid-rest.ensures.value in
-    rounded_up _ _ _ _ c.requires.positive q r (omega (arith, signed))
+pub returns-else-is_short-clause-value : goal.returns-else-is_short-clause-value
+returns-else-is_short-clause-value c = omega (arith, signed, c.round_long.ensures, c.round_long.type_inv)
 
-pub overflow_cast-result : goal.overflow_cast-result
-overflow_cast-result c = let e = below c in omega (arith, signed)
+pub returns-then-is_short-2-clause-nearest : goal.returns-then-is_short-2-clause-nearest
+returns-then-is_short-2-clause-nearest c =
+    subst (IsRound c.args.value.num c.args.value.den) (sym (returns-then-is_short-2-clause-value c)) (rounded_is_round _ _ c.requires.positive)
 
-pub overflow_cast-result-else-rest-value : goal.overflow_cast-result-else-rest-value
-overflow_cast-result-else-rest-value c = let e = above c in omega (arith, signed)
-
-pub returns-then-rest-value-clause-value : goal.returns-then-rest-value-clause-value
-returns-then-rest-value-clause-value c = let e = below c in omega (arith, signed)
-
-pub returns-then-rest-value-clause-nearest : goal.returns-then-rest-value-clause-nearest
-returns-then-rest-value-clause-nearest c =
-    subst (IsRound c.args.value.num c.args.value.den) (sym (returns-then-rest-value-clause-value c)) (rounded_is_round _ _ c.requires.positive)
-
-pub returns-else-rest-value-clause-value : goal.returns-else-rest-value-clause-value
-returns-else-rest-value-clause-value c = let e = above c in omega (arith, signed)
-
-pub returns-else-rest-value-clause-nearest : goal.returns-else-rest-value-clause-nearest
-returns-else-rest-value-clause-nearest c =
-    subst (IsRound c.args.value.num c.args.value.den) (sym (returns-else-rest-value-clause-value c)) (rounded_is_round _ _ c.requires.positive)
+pub returns-else-is_short-clause-nearest : goal.returns-else-is_short-clause-nearest
+returns-else-is_short-clause-nearest c =
+    subst (IsRound c.args.value.num c.args.value.den) (sym (returns-else-is_short-clause-value c)) (rounded_is_round _ _ c.requires.positive)
