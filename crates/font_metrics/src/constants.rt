@@ -5,7 +5,7 @@ ghost use Rattle.font_metrics.specs.Print.{constant_text};
 use crate::texts::is_text;
 
 /// A constant of a font for mathematics, in the order of OpenType MATH, "MathConstants".
-#[derive(Clone, Copy, Debug, PartialEq, Eq)]
+#[derive(Clone, Copy, PartialEq, Eq)]
 pub enum ConstName {
     ScriptPercentScaleDown,
     ScriptScriptPercentScaleDown,

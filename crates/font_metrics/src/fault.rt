@@ -3,7 +3,7 @@ ghost use Rattle.font_metrics.specs.Faults.{number_of_fault, fault_if, both};
 
 /// What is wrong with a line of a metrics file, in the order in which a line's faults are looked
 /// for; its fields come from left to right.
-#[derive(Clone, Copy, Debug, PartialEq, Eq)]
+#[derive(Clone, Copy, PartialEq, Eq)]
 pub enum LineFault {
     /// A byte other than a tab and those from space to tilde, in a line that is no comment.
     ForeignByte,

@@ -1,6 +1,7 @@
 ghost use Rattle.std.specs.Prelude.{◌≡◌};
 ghost use Rattle.font_metrics.specs.Lines.{table_of};
 ghost use Rattle.font_metrics.specs.Tables.{slot, no_tables};
+ghost use Rattle.font_metrics.specs.Texts.{variant_keyword, part_keyword};
 
 use crate::by_axis::ByAxis;
 use crate::growth::{Part, Variant};
@@ -31,11 +32,27 @@ impl Table {
         ensures { result.now ≡ (slot self).keyword }
     {
         match self {
-            Table::Variants(Axis::Block) => "vvariant",
-            Table::Variants(Axis::Inline) => "hvariant",
-            Table::Parts(Axis::Block) => "vassembly",
-            Table::Parts(Axis::Inline) => "hassembly",
+            Table::Variants(axis) => variant_keyword(axis),
+            Table::Parts(axis) => part_keyword(axis),
         }
+    }
+}
+
+fn variant_keyword(axis: Axis) -> &'static str
+    ensures { result.now ≡ variant_keyword axis }
+{
+    match axis {
+        Axis::Block => "vvariant",
+        Axis::Inline => "hvariant",
+    }
+}
+
+fn part_keyword(axis: Axis) -> &'static str
+    ensures { result.now ≡ part_keyword axis }
+{
+    match axis {
+        Axis::Block => "vassembly",
+        Axis::Inline => "hassembly",
     }
 }
 

@@ -1,0 +1,7 @@
+use Rattle.font_metrics.proofs.table.Table.keyword.Goals as goal
+
+pub returns-in-Variants : goal.returns-in-Variants
+returns-in-Variants c = rw c.in-Variants.is c.variant_keyword.ensures
+
+pub returns-in-Parts : goal.returns-in-Parts
+returns-in-Parts c = rw c.in-Parts.is c.part_keyword.ensures
