@@ -1,3 +1,4 @@
+use crate::files::is_line_feed;
 use doc_io::MemorySink;
 use std::io::{self, Write};
 
@@ -43,7 +44,7 @@ impl Ended {
 
 /// Each line behind a `|`, and a last piece without line feed behind a `+`.
 fn write_lines<W: Write>(bytes: &[u8], output: &mut W) -> io::Result<()> {
-    for line in bytes.split_inclusive(|byte| *byte == b'\n') {
+    for line in bytes.split_inclusive(is_line_feed) {
         if line.ends_with(b"\n") {
             output.write_all(b"|")?;
             output.write_all(line)?;
@@ -66,9 +67,14 @@ fn write_sum<W: Write>(bytes: &[u8], output: &mut W) -> io::Result<()> {
 
 /// The 64-bit FNV-1a hash.
 fn fnv_1a(bytes: &[u8]) -> u64 {
-    let mut hash: u64 = 0xcbf2_9ce4_8422_2325;
+    let mut hash = 0xcbf2_9ce4_8422_2325;
     for byte in bytes {
-        hash = (hash ^ u64::from(*byte)).wrapping_mul(0x0100_0000_01b3);
+        hash = with_byte(hash, *byte);
     }
     hash
+}
+
+/// The hash with one byte more.
+fn with_byte(hash: u64, byte: u8) -> u64 {
+    (hash ^ u64::from(byte)).wrapping_mul(0x0100_0000_01b3)
 }

@@ -19,22 +19,33 @@ pub fn box_of(value: &Value) -> Option<MathBox> {
         return None;
     };
     Some(MathBox {
-        width: width.as_i64()?,
-        ascent: ascent.as_i64()?,
-        descent: descent.as_i64()?,
-        ink_ascent: ink_ascent.as_i64()?,
-        ink_descent: ink_descent.as_i64()?,
-        italic: italic.as_i64()?,
-        accent: accent.as_i64()?,
+        width: number_of(width)?,
+        ascent: number_of(ascent)?,
+        descent: number_of(descent)?,
+        ink_ascent: number_of(ink_ascent)?,
+        ink_descent: number_of(ink_descent)?,
+        italic: number_of(italic)?,
+        accent: number_of(accent)?,
     })
+}
+
+/// The whole number that a value is.
+pub fn number_of(value: &Value) -> Option<i64> {
+    value.as_i64()
 }
 
 /// Adds the seven numbers of a box in the same order, one space apart.
 pub fn add_box(frame: &MathBox, words: &mut String) -> Result<(), AllocError> {
-    let (width, ascent, descent) = (frame.width, frame.ascent, frame.descent);
-    write!(words, "{width} {ascent} {descent}")?;
-    let (ink_ascent, ink_descent) = (frame.ink_ascent, frame.ink_descent);
-    write!(words, " {ink_ascent} {ink_descent}")?;
-    let (italic, accent) = (frame.italic, frame.accent);
-    write!(words, " {italic} {accent}")
+    write!(words, "{}", frame.width)?;
+    add_number(frame.ascent, words)?;
+    add_number(frame.descent, words)?;
+    add_number(frame.ink_ascent, words)?;
+    add_number(frame.ink_descent, words)?;
+    add_number(frame.italic, words)?;
+    add_number(frame.accent, words)
+}
+
+/// Adds a number behind a space.
+fn add_number(number: i64, words: &mut String) -> Result<(), AllocError> {
+    write!(words, " {number}")
 }

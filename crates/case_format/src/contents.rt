@@ -1,3 +1,5 @@
+ghost use Rattle.std.specs.Prelude.{◌<◌, IfOk};
+
 use crate::fault::Fault;
 use crate::files::KnownFiles;
 use crate::lines::as_name;
@@ -74,9 +76,20 @@ fn add_by_rule(
 ) -> Result<(), Fault> {
     let template = Template::of_text(alloc, text)?;
     let mut line = String::new(alloc);
+    add_numbered(files, span, &template, end, &mut line)
+}
+
+/// Adds the text of a template for each number, one after the other in the same line.
+fn add_numbered(
+    files: &mut KnownFiles,
+    span: Span,
+    template: &Template,
+    end: &str,
+    line: &mut String,
+) -> Result<(), Fault> {
     for number in span.numbers() {
         line.clear();
-        template.put(number, end, &mut line)?;
+        template.put(number, end, line)?;
         files.add(line.as_bytes())?;
     }
     Ok(())
@@ -85,7 +98,12 @@ fn add_by_rule(
 /// Adds bytes that are written as pairs of hexadecimal digits.
 fn add_bytes(alloc: Global, files: &mut KnownFiles, pairs: &str) -> Result<(), Fault> {
     let mut bytes = List::make(alloc);
-    read_pairs(pairs, &mut bytes)?;
+    add_pairs(files, pairs, &mut bytes)
+}
+
+/// Adds them by a list that takes them up.
+fn add_pairs(files: &mut KnownFiles, pairs: &str, bytes: &mut List<u8>) -> Result<(), Fault> {
+    read_pairs(pairs, bytes)?;
     files.add(bytes.as_slice())
 }
 
@@ -98,10 +116,20 @@ fn read_pairs(pairs: &str, bytes: &mut List<u8>) -> Result<(), Fault> {
 
 /// Reads two hexadecimal digits.
 fn byte_of(pair: &str) -> Result<u8, Fault> {
-    let digits = pair.as_bytes();
-    if digits.len() == 2 && digits.iter().all(|digit| digit.is_ascii_hexdigit()) {
-        u8::from_str_radix(pair, 16).map_err(|_| Fault::NotBytes)
-    } else {
-        Err(Fault::NotBytes)
+    match pair.as_bytes() {
+        [high, low] => Ok(16 * digit_of(*high)? + digit_of(*low)?),
+        _ => Err(Fault::NotBytes),
+    }
+}
+
+/// Reads a hexadecimal digit.
+fn digit_of(letter: u8) -> Result<u8, Fault>
+    ensures { IfOk result (λ digit. digit < 16) }
+{
+    match letter {
+        b'0'..=b'9' => Ok(letter - b'0'),
+        b'a'..=b'f' => Ok(letter - b'a' + 10),
+        b'A'..=b'F' => Ok(letter - b'A' + 10),
+        _ => Err(Fault::NotBytes),
     }
 }

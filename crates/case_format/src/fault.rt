@@ -1,51 +1,76 @@
 use doc_io::ReadRefusal;
 use font_metrics::MetricsRefusal;
 use std::alloc::{AllocError, AllocFailed};
-use thiserror::Error;
+use std::fmt::{self, Display, Formatter};
 
 /// Why a line can't be read, or a case can't be carried out.
-#[derive(Clone, Copy, Debug, Error)]
+#[derive(Clone, Copy)]
 pub enum Fault {
-    #[error("it isn't UTF-8")]
     NotText,
-    #[error("it has no form of a line")]
     NoForm,
-    #[error("a name has letters, digits, '_', '-' and '.'")]
     NotAName,
-    #[error("no file stands above to which it belongs")]
     NoFileAbove,
-    #[error("numbers are FROM..TO, and FROM isn't above TO")]
     NotARange,
-    #[error("the file doesn't have these lines")]
     NoSuchLines,
-    #[error("bytes are pairs of hexadecimal digits with a space between")]
     NotBytes,
-    #[error("the file is too long")]
     FileTooLong,
-    #[error("no file has this name")]
     UnknownFile,
-    #[error("the file isn't in data/ or can't be read")]
     NotLoaded,
-    #[error("no kind of case has this name")]
     UnknownKind,
-    #[error("no JSON value follows its first word")]
     NotJson,
-    #[error("its value isn't of the right type")]
     WrongValue,
-    #[error("the key '{0}' is missing")]
     MissingKey(&'static str),
-    #[error("the key '{0}' has a value of another type")]
     WrongType(&'static str),
-    #[error("the key '{0}' has a value out of its range")]
     OutOfRange(&'static str),
-    #[error("a key is none of this kind's")]
     UnknownKey,
-    #[error("the file isn't sound metrics")]
     NotMetrics,
-    #[error("the value isn't a sound element")]
     NotAnElement,
-    #[error("memory was refused")]
     Memory,
+}
+
+impl Fault {
+    /// The key of whose value it is told.
+    fn key(self) -> Option<&'static str> {
+        match self {
+            Fault::MissingKey(key) | Fault::WrongType(key) | Fault::OutOfRange(key) => Some(key),
+            _ => None,
+        }
+    }
+
+    /// What is told, behind its key where it has one.
+    fn words(self) -> &'static str {
+        match self {
+            Fault::NotText => "it isn't UTF-8",
+            Fault::NoForm => "it has no form of a line",
+            Fault::NotAName => "a name has letters, digits, '_', '-' and '.'",
+            Fault::NoFileAbove => "no file stands above to which it belongs",
+            Fault::NotARange => "numbers are FROM..TO, and FROM isn't above TO",
+            Fault::NoSuchLines => "the file doesn't have these lines",
+            Fault::NotBytes => "bytes are pairs of hexadecimal digits with a space between",
+            Fault::FileTooLong => "the file is too long",
+            Fault::UnknownFile => "no file has this name",
+            Fault::NotLoaded => "the file isn't in data/ or can't be read",
+            Fault::UnknownKind => "no kind of case has this name",
+            Fault::NotJson => "no JSON value follows its first word",
+            Fault::WrongValue => "its value isn't of the right type",
+            Fault::MissingKey(_) => "is missing",
+            Fault::WrongType(_) => "has a value of another type",
+            Fault::OutOfRange(_) => "has a value out of its range",
+            Fault::UnknownKey => "a key is none of this kind's",
+            Fault::NotMetrics => "the file isn't sound metrics",
+            Fault::NotAnElement => "the value isn't a sound element",
+            Fault::Memory => "memory was refused",
+        }
+    }
+}
+
+impl Display for Fault {
+    fn fmt<W: fmt::Write>(&self, f: &mut Formatter<W>) -> fmt::Result {
+        if let Some(key) = self.key() {
+            write!(f, "the key '{key}' ")?;
+        }
+        f.write_str(self.words())
+    }
 }
 
 impl From<AllocError> for Fault {

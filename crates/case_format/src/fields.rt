@@ -1,7 +1,7 @@
 ghost use Rattle.std.specs.Prelude.{◌≤ℤ◌, IfOk};
 ghost use Rattle.fixed_units.specs.Boxes.{IsStored};
 
-use crate::boxes::box_of;
+use crate::boxes::{box_of, number_of};
 use crate::fault::Fault;
 use fixed_units::{MathBox, fits};
 use serde_json::{Map, Value};
@@ -46,7 +46,7 @@ impl<'a> Fields<'a> {
 
     /// The whole number of a key.
     pub fn number(self, key: &'static str) -> Result<i64, Fault> {
-        self.value(key)?.as_i64().ok_or(Fault::WrongType(key))
+        number_of(self.value(key)?).ok_or(Fault::WrongType(key))
     }
 
     /// The whole number of a key, which has to lie from one to another.

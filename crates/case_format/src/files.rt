@@ -1,28 +1,35 @@
 use crate::fault::Fault;
+use crate::lines::is_same;
 use crate::numbered::Span;
 use doc_io::{Inputs, read_all};
 use fixed_units::List;
 use font_metrics::{MOST_FILE_BYTES, Metrics, read_metrics};
-use indexmap::IndexMap;
 use std::alloc::Global;
 
 /// The most bytes that a file may have: more than any limit of the program that is tried, so that
 /// a rule with too large numbers ends.
 const MOST_BYTES: usize = 67_108_864;
 
-/// The files that are known, by their names.
+/// The files that are known, each name once.
 #[derive(Drop)]
 pub struct KnownFiles {
-    files: IndexMap<String, List<u8>>,
+    files: Vec<KnownFile>,
     /// Where the file stands to which lines add.
     open: Option<usize>,
+}
+
+/// A file that is known.
+#[derive(Drop)]
+struct KnownFile {
+    name: String,
+    bytes: List<u8>,
 }
 
 impl KnownFiles {
     /// No file.
     pub fn new(alloc: Global) -> KnownFiles {
         KnownFiles {
-            files: IndexMap::new(alloc),
+            files: Vec::new(alloc),
             open: None,
         }
     }
@@ -55,12 +62,9 @@ impl KnownFiles {
     /// Adds to the file that was begun.
     pub fn add(&mut self, bytes: &[u8]) -> Result<(), Fault> {
         let place = self.open.ok_or(Fault::NoFileAbove)?;
-        let file = self.files.get_index_mut(place).ok_or(Fault::NoFileAbove)?;
-        if bytes.len() <= MOST_BYTES.saturating_sub(file.len()) {
-            file.push_all(bytes)?;
-            Ok(())
-        } else {
-            Err(Fault::FileTooLong)
+        match self.files.get_mut(place) {
+            Some(file) => file.add(bytes),
+            None => Err(Fault::NoFileAbove),
         }
     }
 
@@ -81,9 +85,10 @@ impl KnownFiles {
         if !span.is_within(count) {
             return Err(Fault::NoSuchLines);
         }
-        let lines = bytes.split_inclusive(is_line_feed);
-        for line in lines.skip(span.skipped()).take(span.count()) {
-            self.add(line)?;
+        for (index, line) in bytes.split_inclusive(is_line_feed).enumerate() {
+            if span.has(index.saturating_add(1)) {
+                self.add(line)?;
+            }
         }
         Ok(())
     }
@@ -104,14 +109,47 @@ impl KnownFiles {
     }
 
     fn list(&self, name: &str) -> Result<&List<u8>, Fault> {
-        self.files.get(name).ok_or(Fault::UnknownFile)
+        for file in self.files.as_slice() {
+            if is_same(file.name.as_str(), name) {
+                return Ok(&file.bytes);
+            }
+        }
+        Err(Fault::UnknownFile)
     }
 
     /// Puts a file in place of the one of that name, and says where it stands.
     fn put(&mut self, alloc: Global, name: &str, bytes: List<u8>) -> Result<usize, Fault> {
-        let name = String::from_str(alloc, name)?;
-        let (place, _) = self.files.insert_full(name, bytes)?;
+        let place = self.place_of(name);
+        match self.files.get_mut(place) {
+            Some(file) => file.bytes = bytes,
+            None => {
+                let name = String::from_str(alloc, name)?;
+                self.files.push(KnownFile { name, bytes })?;
+            }
+        }
         Ok(place)
+    }
+
+    /// Where the file of a name stands, or would be put.
+    fn place_of(&self, name: &str) -> usize {
+        for (place, file) in self.files.as_slice().iter().enumerate() {
+            if is_same(file.name.as_str(), name) {
+                return place;
+            }
+        }
+        self.files.len()
+    }
+}
+
+impl KnownFile {
+    /// Adds to its end.
+    fn add(&mut self, bytes: &[u8]) -> Result<(), Fault> {
+        if bytes.len() <= MOST_BYTES.saturating_sub(self.bytes.len()) {
+            self.bytes.push_all(bytes)?;
+            Ok(())
+        } else {
+            Err(Fault::FileTooLong)
+        }
     }
 }
 

@@ -37,24 +37,35 @@ impl<'a> Line<'a> {
 
     /// Reads a line that begins with a word.
     fn of_words(text: &'a str) -> Result<Line<'a>, Fault> {
-        match text.split_once(' ') {
-            None => Err(Fault::NoForm),
-            Some(("load", name)) => Ok(Line::Load(as_name(name)?)),
-            Some(("file", name)) => Ok(Line::Begin(as_name(name)?)),
-            Some((kind, value)) => Ok(Line::Case { kind, value }),
+        let (kind, value) = text.split_once(' ').ok_or(Fault::NoForm)?;
+        if is_same(kind, "load") {
+            Ok(Line::Load(as_name(value)?))
+        } else if is_same(kind, "file") {
+            Ok(Line::Begin(as_name(value)?))
+        } else {
+            Ok(Line::Case { kind, value })
         }
     }
 }
 
+pub fn is_same(word: &str, other: &str) -> bool {
+    word == other
+}
+
 /// The text, where it has the form of a file's name.
 pub fn as_name(text: &str) -> Result<&str, Fault> {
-    if !text.is_empty() && text.as_bytes().iter().all(|byte| is_name_byte(*byte)) {
-        Ok(text)
-    } else {
+    for byte in text.as_bytes() {
+        if !is_name_byte(*byte) {
+            return Err(Fault::NotAName);
+        }
+    }
+    if text.is_empty() {
         Err(Fault::NotAName)
+    } else {
+        Ok(text)
     }
 }
 
 fn is_name_byte(byte: u8) -> bool {
-    byte.is_ascii_alphanumeric() || matches!(byte, b'_' | b'-' | b'.')
+    matches!(byte, b'a'..=b'z' | b'A'..=b'Z' | b'0'..=b'9' | b'_' | b'-' | b'.')
 }

@@ -3,6 +3,9 @@ use std::alloc::{AllocError, Global};
 use std::fmt::Write;
 use std::ops::Range;
 
+/// The greatest number that a line may have.
+const GREATEST: u64 = 0xFFFF_FFFF;
+
 /// The numbers from one up to, not including, another.
 #[derive(Clone, Copy)]
 pub struct Span {
@@ -13,7 +16,8 @@ pub struct Span {
 impl Span {
     /// Reads `FROM..TO`, two numbers in decimal digits, of which the first isn't above the second.
     pub fn of_text(text: &str) -> Result<Span, Fault> {
-        let (from, to) = text.split_once("..").ok_or(Fault::NotARange)?;
+        let (from, rest) = text.split_once('.').ok_or(Fault::NotARange)?;
+        let to = rest.strip_prefix('.').ok_or(Fault::NotARange)?;
         let span = Span {
             from: number_of(from)?,
             to: number_of(to)?,
@@ -30,26 +34,44 @@ impl Span {
         self.from..self.to
     }
 
-    /// How many numbers there are.
-    pub fn count(self) -> usize {
-        self.to.saturating_sub(self.from) as usize
-    }
-
-    /// How many numbers from 1 on stand before the first.
-    pub fn skipped(self) -> usize {
-        self.from.saturating_sub(1) as usize
+    /// Whether it has a number.
+    pub fn has(self, number: usize) -> bool {
+        self.from as usize <= number && number < self.to as usize
     }
 
     /// Whether its numbers are among those from 1 to the last.
     pub fn is_within(self, last: usize) -> bool {
-        1 <= self.from && self.to as usize <= last.saturating_add(1)
+        1 <= self.from && (self.to as usize).saturating_sub(1) <= last
     }
 }
 
 /// Reads a number, which is written in decimal digits alone.
 fn number_of(text: &str) -> Result<u32, Fault> {
-    match text.parse::<u32>() {
-        Ok(number) if !text.starts_with('+') => Ok(number),
+    let mut number = 0;
+    for letter in text.as_bytes() {
+        number = with_digit(number, digit_of(*letter)?)?;
+    }
+    if text.is_empty() {
+        Err(Fault::NotARange)
+    } else {
+        Ok(number)
+    }
+}
+
+/// The number with one digit more behind it, where it is still below 2^32.
+fn with_digit(number: u32, digit: u8) -> Result<u32, Fault> {
+    let longer = 10 * u64::from(number) + u64::from(digit);
+    if longer <= GREATEST {
+        Ok(longer as u32)
+    } else {
+        Err(Fault::NotARange)
+    }
+}
+
+/// Reads a decimal digit.
+fn digit_of(letter: u8) -> Result<u8, Fault> {
+    match letter {
+        b'0'..=b'9' => Ok(letter - b'0'),
         _ => Err(Fault::NotARange),
     }
 }
@@ -103,13 +125,24 @@ fn add_parts<'a>(text: &'a str, pieces: &mut Vec<Piece<'a>>) -> Result<(), Alloc
 
 /// Adds the piece that a brace begins, and gives what stands behind it.
 fn behind_place<'a>(part: &'a str, pieces: &mut Vec<Piece<'a>>) -> Result<&'a str, AllocError> {
-    let (piece, rest) = if let Some(rest) = part.strip_prefix("d}") {
-        (Piece::Decimal, rest)
-    } else if let Some(rest) = part.strip_prefix("x}") {
-        (Piece::Hexadecimal, rest)
-    } else {
-        (Piece::Text("{"), part)
-    };
-    pieces.push(piece)?;
-    Ok(rest)
+    match place_of(part) {
+        Some((place, rest)) => {
+            pieces.push(place)?;
+            Ok(rest)
+        }
+        None => {
+            pieces.push(Piece::Text("{"))?;
+            Ok(part)
+        }
+    }
+}
+
+/// The place of a number whose letter and closing brace a part begins with, and what stands behind.
+fn place_of(part: &str) -> Option<(Piece<'_>, &str)> {
+    let (letter, rest) = part.split_once('}')?;
+    match letter.as_bytes() {
+        [b'd'] => Some((Piece::Decimal, rest)),
+        [b'x'] => Some((Piece::Hexadecimal, rest)),
+        _ => None,
+    }
 }

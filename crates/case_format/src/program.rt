@@ -13,7 +13,16 @@ pub fn carry_out<K: Kinds>(
     kinds: &K,
 ) -> io::Result<ExitCode> {
     let mut output = BufWriter::new(rt.alloc(), io::writer(rt))?;
-    let all_read = carry_out_to(rt, kinds, &mut output)?;
+    carry_out_whole(rt, kinds, &mut output)
+}
+
+/// Carries them out, and has all that is written leave.
+fn carry_out_whole<K: Kinds, W: Write>(
+    rt: &(impl Input + Files + AllocGlobal),
+    kinds: &K,
+    output: &mut W,
+) -> io::Result<ExitCode> {
+    let all_read = carry_out_to(rt, kinds, output)?;
     output.flush()?;
     if all_read {
         Ok(ExitCode::SUCCESS)
@@ -28,7 +37,7 @@ fn carry_out_to<K: Kinds, W: Write>(
     kinds: &K,
     output: &mut W,
 ) -> io::Result<bool> {
+    let lines = BufReader::new(rt.alloc(), rt.reader())?;
     let mut session = Session::new(rt.alloc(), FileInputs::make(rt), kinds);
-    session.carry_out(BufReader::new(rt.alloc(), rt.reader())?, output)?;
-    Ok(session.has_read_all())
+    session.carry_out(lines, output)
 }

@@ -31,34 +31,37 @@ impl<'a, I: Inputs + Drop, K: Kinds> Session<'a, I, K> {
         }
     }
 
-    /// Whether each line could be read.
-    pub fn has_read_all(&self) -> bool {
-        self.all_read
-    }
-
-    /// Carries out line after line and writes what came of each. A line that can't be read is told
-    /// with its number, counted from 1.
+    /// Carries out line after line and writes what came of each, and says whether every line could
+    /// be read. One that can't be read is told with its number, counted from 1.
     pub fn carry_out<R: BufRead + Drop, W: Write>(
         &mut self,
         lines: R,
         output: &mut W,
-    ) -> io::Result<()> {
+    ) -> io::Result<bool> {
         for (index, line) in lines.split(self.alloc, b'\n').enumerate() {
-            let line = line?;
-            self.take(index.saturating_add(1), line.as_slice(), output)?;
+            self.take_read(index.saturating_add(1), line, output)?;
         }
-        Ok(())
+        Ok(self.all_read)
+    }
+
+    /// Carries out a line, where it could be read from the input.
+    fn take_read<W: Write>(
+        &mut self,
+        number: usize,
+        line: io::Result<Vec<u8>>,
+        output: &mut W,
+    ) -> io::Result<()> {
+        match line {
+            Ok(line) => self.take(number, line.as_slice(), output),
+            Err(error) => Err(error),
+        }
     }
 
     /// Carries out a line, and writes what came of it.
     fn take<W: Write>(&mut self, number: usize, line: &[u8], output: &mut W) -> io::Result<()> {
         match self.answer(line) {
             Ok(None) => Ok(()),
-            Ok(Some(answer)) => {
-                output.write_all(line)?;
-                output.write_all(b"\n")?;
-                answer.write(output)
-            }
+            Ok(Some(answer)) => write_case(line, &answer, output),
             Err(fault) => {
                 self.all_read = false;
                 writeln!(output, "line {number}: {fault}")
@@ -68,39 +71,50 @@ impl<'a, I: Inputs + Drop, K: Kinds> Session<'a, I, K> {
 
     /// What comes of a line, where it is a case.
     fn answer(&mut self, line: &[u8]) -> Result<Option<Answer>, Fault> {
-        let text = str::from_utf8(line).map_err(|_| Fault::NotText)?;
-        let line = Line::of_text(text)?;
-        match line {
-            Line::Passed => Ok(None),
-            Line::Load(name) => {
-                self.files.load(self.alloc, name, &mut self.inputs)?;
-                Ok(None)
-            }
-            Line::Begin(name) => {
-                self.files.begin(self.alloc, name)?;
-                Ok(None)
-            }
-            Line::Content(content) => {
-                content.add_to(self.alloc, &mut self.files)?;
-                Ok(None)
-            }
+        match read_line(line)? {
             Line::Case { kind, value } => self.answer_case(kind, value),
+            line => {
+                self.take_in(line)?;
+                Ok(None)
+            }
+        }
+    }
+
+    /// Has the files know what a line says of them, which a case doesn't.
+    fn take_in(&mut self, line: Line) -> Result<(), Fault> {
+        match line {
+            Line::Load(name) => self.files.load(self.alloc, name, &mut self.inputs),
+            Line::Begin(name) => self.files.begin(self.alloc, name),
+            Line::Content(content) => content.add_to(self.alloc, &mut self.files),
+            Line::Passed | Line::Case { .. } => Ok(()),
         }
     }
 
     fn answer_case(&mut self, kind: &str, text: &str) -> Result<Option<Answer>, Fault> {
         self.files.end();
         let value = Value::from_str(self.alloc, text)?;
-        let answer = self.answer_value(kind, &value)?;
-        Ok(Some(answer))
+        self.answer_value(kind, &value)
     }
 
-    fn answer_value(&self, kind: &str, value: &Value) -> Result<Answer, Fault> {
+    fn answer_value(&self, kind: &str, value: &Value) -> Result<Option<Answer>, Fault> {
         let case = Case {
             alloc: self.alloc,
             value,
             files: &self.files,
         };
-        self.kinds.answer(kind, case)
+        let answer = self.kinds.answer(kind, case)?;
+        Ok(Some(answer))
     }
+}
+
+fn read_line(line: &[u8]) -> Result<Line<'_>, Fault> {
+    let text = str::from_utf8(line).map_err(|_| Fault::NotText)?;
+    Line::of_text(text)
+}
+
+/// Writes a case as it stands, and what came of it.
+fn write_case<W: Write>(case: &[u8], answer: &Answer, output: &mut W) -> io::Result<()> {
+    output.write_all(case)?;
+    output.write_all(b"\n")?;
+    answer.write(output)
 }
