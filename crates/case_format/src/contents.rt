@@ -1,5 +1,6 @@
 ghost use Rattle.std.specs.Prelude.{◌<◌, IfOk};
 
+use crate::cuts::cut;
 use crate::fault::Fault;
 use crate::files::KnownFiles;
 use crate::lines::as_name;
@@ -29,19 +30,19 @@ pub enum Content<'a> {
 impl<'a> Content<'a> {
     /// Reads what stands behind a `*`.
     pub fn lines_by_rule(rule: &'a str) -> Result<Content<'a>, Fault> {
-        let (span, text) = rule.split_once(' ').ok_or(Fault::NotARange)?;
+        let (span, text) = cut(rule, b' ').ok_or(Fault::NotARange)?;
         Ok(Content::LinesByRule(Span::of_text(span)?, text))
     }
 
     /// Reads what stands behind a `&`.
     pub fn text_by_rule(rule: &'a str) -> Result<Content<'a>, Fault> {
-        let (span, text) = rule.split_once(' ').ok_or(Fault::NotARange)?;
+        let (span, text) = cut(rule, b' ').ok_or(Fault::NotARange)?;
         Ok(Content::TextByRule(Span::of_text(span)?, text))
     }
 
     /// Reads what stands behind a `<`.
     pub fn of_file(file: &'a str) -> Result<Content<'a>, Fault> {
-        match file.split_once(' ') {
+        match cut(file, b' ') {
             None => Ok(Content::File(as_name(file)?)),
             Some((name, span)) => Ok(Content::FileLines(as_name(name)?, Span::of_text(span)?)),
         }

@@ -17,6 +17,7 @@
 mod answer; // what came of a case
 mod boxes; // the seven numbers of a box
 mod contents; // what a line adds to a file
+mod cuts; // a text cut in two
 mod fault; // why a line can't be read
 mod fields; // the members of a case's value
 mod files; // the files that are known

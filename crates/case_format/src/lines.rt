@@ -1,4 +1,5 @@
 use crate::contents::Content;
+use crate::cuts::cut;
 use crate::fault::Fault;
 
 /// A line of the input.
@@ -37,7 +38,7 @@ impl<'a> Line<'a> {
 
     /// Reads a line that begins with a word.
     fn of_words(text: &'a str) -> Result<Line<'a>, Fault> {
-        let (kind, value) = text.split_once(' ').ok_or(Fault::NoForm)?;
+        let (kind, value) = cut(text, b' ').ok_or(Fault::NoForm)?;
         if is_same(kind, "load") {
             Ok(Line::Load(as_name(value)?))
         } else if is_same(kind, "file") {

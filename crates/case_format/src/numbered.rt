@@ -1,3 +1,4 @@
+use crate::cuts::cut;
 use crate::fault::Fault;
 use std::alloc::{AllocError, Global};
 use std::fmt::Write;
@@ -16,8 +17,8 @@ pub struct Span {
 impl Span {
     /// Reads `FROM..TO`, two numbers in decimal digits, of which the first isn't above the second.
     pub fn of_text(text: &str) -> Result<Span, Fault> {
-        let (from, rest) = text.split_once('.').ok_or(Fault::NotARange)?;
-        let to = rest.strip_prefix('.').ok_or(Fault::NotARange)?;
+        let (from, rest) = cut(text, b'.').ok_or(Fault::NotARange)?;
+        let to = behind_point(rest)?;
         let span = Span {
             from: number_of(from)?,
             to: number_of(to)?,
@@ -42,6 +43,16 @@ impl Span {
     /// Whether its numbers are among those from 1 to the last.
     pub fn is_within(self, last: usize) -> bool {
         1 <= self.from && (self.to as usize).saturating_sub(1) <= last
+    }
+}
+
+/// What stands behind a point.
+fn behind_point(text: &str) -> Result<&str, Fault> {
+    let (between, behind) = cut(text, b'.').ok_or(Fault::NotARange)?;
+    if between.is_empty() {
+        Ok(behind)
+    } else {
+        Err(Fault::NotARange)
     }
 }
 
@@ -110,16 +121,17 @@ impl<'a> Template<'a> {
     }
 }
 
-/// Adds the pieces of a text: its first part stands before every brace, each other behind a brace.
+/// Adds the pieces of a text, which has no more braces than bytes.
 fn add_parts<'a>(text: &'a str, pieces: &mut Vec<Piece<'a>>) -> Result<(), AllocError> {
-    for (index, part) in text.split('{').enumerate() {
-        let rest = if index == 0 {
-            part
-        } else {
-            behind_place(part, pieces)?
+    let mut rest = text;
+    for _ in text.as_bytes() {
+        let Some((part, behind)) = cut(rest, b'{') else {
+            break;
         };
-        pieces.push(Piece::Text(rest))?;
+        pieces.push(Piece::Text(part))?;
+        rest = behind_place(behind, pieces)?;
     }
+    pieces.push(Piece::Text(rest))?;
     Ok(())
 }
 
@@ -139,7 +151,7 @@ fn behind_place<'a>(part: &'a str, pieces: &mut Vec<Piece<'a>>) -> Result<&'a st
 
 /// The place of a number whose letter and closing brace a part begins with, and what stands behind.
 fn place_of(part: &str) -> Option<(Piece<'_>, &str)> {
-    let (letter, rest) = part.split_once('}')?;
+    let (letter, rest) = cut(part, b'}')?;
     match letter.as_bytes() {
         [b'd'] => Some((Piece::Decimal, rest)),
         [b'x'] => Some((Piece::Hexadecimal, rest)),
