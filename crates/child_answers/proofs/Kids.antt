@@ -5,14 +5,17 @@ use Rattle.std.specs.Borrow.{Bor}
 use Rattle.std.specs.List.{AllPass}
 use Rattle.std.proofs.lemmas.List.{get_or-map, length-map}
 use Rattle.std.proofs.lemmas.List.Elements.{All-append, All-get_or}
+use Rattle.std.proofs.lemmas.Option.{get_or_from_slice_get}
 use Rattle.fixed_units.specs.Boxes.{is_stored}
 use Rattle.fixed_units.specs.Sums.{list_to}
-use Rattle.fixed_units.proofs.Sums.{length-list_to}
+use Rattle.fixed_units.proofs.Sums.{length-list_to, slice_get-list_to}
 use Rattle.font_metrics.specs.Metrics.{MetricsValue}
 use Rattle.embellished.specs.Seen.{Seen}
+use Rattle.row_stretch.specs.Equation.{IsKidStored, kid_at, no_kid}
 use Rattle.style_scope.specs.Sizes.{IsSize, font_size_of, in_range_of, size_of}
 use Rattle.style_scope.specs.declared.style.Style.{Style}
 use Rattle.layout_model.specs.Answers.{last_answer, no_answer}
+use Rattle.layout_model.specs.Elements.{Element, row_kid, row_kids}
 use Rattle.layout_model.specs.Fits.{AnswersAll, IsContext}
 use Rattle.layout_model.specs.Layout.{last_answers}
 use Rattle.layout_model.specs.Questions.{first, second}
@@ -36,6 +39,20 @@ pub lent_answer_in : (kids : List (Bor Answer)) (index : ℕ) (other : Bor Answe
 lent_answer_in kids index other fit l =
     subst IsAnswerStored (get_or-map now_of kids index other other.now l)
     (answer_in (map now_of kids) index other.now fit (omega (arith, l, length-map kids now_of)))
+
+-- ---- a row of the children
+
+stored_at : (e : Element) (size : ℤ) (index : ℕ) → IsWhole e size → index < length e.seen.kids → IsKidStored (row_kid e index)
+stored_at e size index whole l =
+    let stored = answer_in e.kids index no_answer whole.stored (omega (arith, l, whole.each)) in
+    record { frame = stored.frame; before = stored.before; after = stored.after }
+
+pub kids_stored : (e : Element) (size : ℤ) → IsWhole e size → All IsKidStored (row_kids e)
+kids_stored e size whole = All-list_to IsKidStored (length e.seen.kids) (row_kid e) (λ index l. stored_at e size index whole l)
+
+pub row_kid_is : (e : Element) (index : ℕ) → index < length e.seen.kids → kid_at (row_kids e) index ≡ row_kid e index
+row_kid_is e index l =
+    get_or_from_slice_get (row_kids e) index (row_kid e index) no_kid (slice_get-list_to (length e.seen.kids) index (row_kid e) l)
 
 -- ---- the answers that count
 

@@ -1,4 +1,5 @@
 ghost use Rattle.std.specs.Prelude.{◌≡◌, ◌<◌, ◌≤◌, ◌^◌, pos, ◌≤ℤ◌, length, false, IfOk, Err};
+ghost use Rattle.std.specs.List.{All};
 ghost use Rattle.fixed_units.specs.Boxes.{IsStored};
 ghost use Rattle.fixed_units.specs.declared.refusal.LayRefusal.TheVariants.{Range};
 ghost use Rattle.embellished.specs.Kinds as kinds;
@@ -6,7 +7,7 @@ ghost use Rattle.embellished.specs.Seen.{seen_of};
 ghost use Rattle.row_stretch.specs.Equation.{IsKidStored};
 ghost use Rattle.style_scope.specs.Sizes.{size_of};
 ghost use Rattle.layout_model.specs.Answers.{no_answer};
-ghost use Rattle.layout_model.specs.Elements.{font, frame_at, lead_place, outcome, outcome_with, row_kid, spaces_of};
+ghost use Rattle.layout_model.specs.Elements.{font, frame_at, lead_place, outcome, outcome_with, row_kid, row_kids, spaces_of};
 ghost use Rattle.layout_model.specs.Fits.{AnswersAll, IsContext};
 ghost use Rattle.layout_model.specs.Questions.{columns_over};
 ghost use Rattle.layout_model.specs.Questions as spec;
@@ -20,7 +21,7 @@ use font_metrics::{Mark, Metrics};
 use layout_model::{Answer, Context, Offset, Outcome, Question};
 use math_tables::columns;
 use math_tree::{Attributes, Kind};
-use row_stretch::RowKid;
+use row_stretch::{RowKid, RowKids};
 use std::alloc::Global;
 use std::marker::Model;
 use style_scope::font_size;
@@ -170,6 +171,15 @@ impl<'a, V: View> Element<'a, V> {
         columns(alloc, &cells)
     }
 
+    /// Of its children in flow boxes and spaces can be stored, and there are not too many. It does
+    /// nothing; a caller gets the fact by a call.
+    pub fn has_row_kids(&self)
+        ensures few { length (row_kids self.now) ≤ 65_535 }
+        ensures stored { All IsKidStored (row_kids self.now) }
+    {
+        let _ = &self.kids;
+    }
+
     /// The child in flow at a place, as one of a row.
     pub fn row_kid(&self, index: usize) -> RowKid
         requires { index < length self.now.seen.kids }
@@ -183,6 +193,21 @@ impl<'a, V: View> Element<'a, V> {
             after: answer.after,
             embellished: self.view.kid_facts(index).core.is_some(),
         }
+    }
+}
+
+/// Its children in flow, as those of a row.
+impl<'a, V: View> RowKids for Element<'a, V> {
+    ghost use Rattle.layout_model.specs.Elements.{row_kids};
+
+    ghost kids = { row_kids };
+
+    fn kid_count(&self) -> usize {
+        self.kids.len()
+    }
+
+    fn kid_at(&self, place: usize) -> RowKid {
+        self.row_kid(place)
     }
 }
 

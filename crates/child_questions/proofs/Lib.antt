@@ -1,1 +1,2 @@
 pub mod Unstretched
+mod Worked

@@ -74,8 +74,8 @@ impl Survey {
         })
     }
 
-    /// Whether the first wave is all that the element asks, whatever is answered: it is no table, and no
-    /// child stretches.
+    /// Whether it can be told beforehand that the first wave is all that the element asks, whatever is
+    /// answered: it is no table, and no child stretches.
     pub fn has_one_wave(&self) -> bool
         ensures { result ≡ has_one_wave self.now }
     {

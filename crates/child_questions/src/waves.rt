@@ -1,5 +1,5 @@
-ghost use Rattle.std.specs.Prelude.{◌≡◌, ◌≤◌, ◌^◌, ◌<◌, pos, ◌≤ℤ◌, length, map, true, false, is_none, IfOk, OnOk, Err};
-ghost use Rattle.std.specs.List.{All, list_all};
+ghost use Rattle.std.specs.Prelude.{◌≡◌, ◌≤◌, ◌^◌, ◌<◌, pos, ◌≤ℤ◌, length, map, true, false, IfOk, OnOk, Err};
+ghost use Rattle.std.specs.List.{All};
 ghost use Rattle.fixed_units.specs.declared.refusal.LayRefusal.TheVariants.{Range};
 ghost use Rattle.embellished.specs.Seen.{seen_of};
 ghost use Rattle.style_scope.specs.Sizes.{IsStyle, size_of};
@@ -16,7 +16,7 @@ use embellished::View;
 use fixed_units::{LayRefusal, List, MathBox, Memory};
 use font_metrics::Metrics;
 use layout_model::{Answer, Asking, Context, Question};
-use row_stretch::{Ask, KidPull};
+use row_stretch::Ask;
 use std::alloc::Global;
 
 /// The questions of an element in the first wave. It is refused with `Range` exactly where the font

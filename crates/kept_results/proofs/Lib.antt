@@ -13,3 +13,4 @@ pub mod Shown
 pub mod Tidying
 pub mod Turns
 pub mod Whole
+mod Worked

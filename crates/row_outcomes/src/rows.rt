@@ -1,10 +1,9 @@
-ghost use Rattle.std.specs.Prelude.{◌≡◌, ◌<◌, ◌≤◌, ◌^◌, pos, length, slice_index_or, IfOk};
+ghost use Rattle.std.specs.Prelude.{◌≡◌, ◌^◌, pos, slice_index_or, IfOk};
 ghost use Rattle.std.specs.List.{All};
 ghost use Rattle.fixed_units.specs.Boxes.{IsBoxWithin};
 ghost use Rattle.fixed_units.specs.Numbers.{IsWithin};
 ghost use Rattle.embellished.specs.Seen.{seen_of};
-ghost use Rattle.row_stretch.specs.Equation.{IsKidStored};
-ghost use Rattle.layout_model.specs.Elements.{along, row_in, row_kids, shows_spaces};
+ghost use Rattle.layout_model.specs.Elements.{along, row_in, shows_spaces};
 ghost use Rattle.layout_model.specs.Equations.{cell_outcome, error_outcome, row_outcome, square_root_outcome};
 ghost use Rattle.layout_model.specs.Rows.{error_of};
 ghost use Rattle.row_outcomes.specs.Rows.{IsRowWithin};
@@ -15,7 +14,7 @@ use fixed_units::{List, MathBox, Memory, half};
 use layout_model::{Offset, Outcome};
 use math_tables::{cell, cell_start};
 use radicals::square_root;
-use row_stretch::{Row, RowKid, row_finish};
+use row_stretch::{Row, row_finish};
 use std::alloc::Global;
 
 /// A row (MathML Core 3.3.1.2).
@@ -87,21 +86,8 @@ pub fn row_in<V: View>(alloc: Global, e: &Element<V>) -> Result<Row, Memory>
     ensures value { IfOk result (λ row. row ≡ row_in e.now) }
     ensures within { IfOk result IsRowWithin }
 {
-    let kids = row_kids(alloc, e)?;
-    row_finish(alloc, &kids, shows_spaces(e.view()))
-}
-
-/// The children in flow, as those of a row.
-fn row_kids<V: View>(alloc: Global, e: &Element<V>) -> Result<List<RowKid>, Memory>
-    ensures value { IfOk result (λ kids. kids ≡ row_kids e.now) }
-    ensures stored { IfOk result (λ kids. All IsKidStored kids) }
-    ensures few { IfOk result (λ kids. length kids ≤ 65_535) }
-{
-    let mut kids = List::with_room(alloc, e.count())?;
-    for index in 0..e.count() {
-        kids.push(e.row_kid(index))?;
-    }
-    Ok(kids)
+    e.has_row_kids();
+    row_finish(alloc, e, shows_spaces(e.view()))
 }
 
 /// Whether a row shows the spaces of its operators: it isn't embellished itself, or it is the root.

@@ -1,15 +1,16 @@
 -- What the first children of a row take, one child more, and how far that reaches.
-use Rattle.std.proofs.Common.{◌≡◌, ◌≢◌, refl, ap, ℕ, zero, suc, add-one, ◌+◌, ◌*◌, ◌^◌, ◌<◌, ◌≤◌, arith, lit≤, Bool, ◌&&◌, List, length, get_or, ℤ, pos, ◌+ℤ◌}
+use Rattle.std.proofs.Common.{◌≡◌, ◌≢◌, refl, ap, ℕ, zero, suc, add-one, ◌+◌, ◌*◌, ◌^◌, ◌<◌, ◌≤◌, arith, lit≤, Bool, ◌&&◌, List, [], ◌∷◌, length, map, take, fold, get_or, ℤ, pos, ◌+ℤ◌}
 use Rattle.std.specs.List.{All}
 use Rattle.std.proofs.lemmas.Bool.Decides.{nat_tests}
 use Rattle.std.proofs.lemmas.List.Elements.{All-get_or}
-use Rattle.fixed_units.specs.Boxes.{farthest}
+use Rattle.fixed_units.specs.Boxes.{all_joined, farthest, joined}
 use Rattle.fixed_units.specs.Numbers.{IsWithin, halved}
+use Rattle.fixed_units.specs.declared.boxes.MathBox.{MathBox}
 use Rattle.fixed_units.proofs.Signed.{signed}
 use Rattle.fixed_units.proofs.Sums.{sum_to-zero, sum_to-add_one, sum_to_in}
 use Rattle.fixed_units.proofs.Within.{natural_in, widened, sum_in, choice_in}
 use Rattle.row_stretch.specs.declared.parts.RowKid.{RowKid}
-use Rattle.row_stretch.specs.Equation.{IsKidStored, no_kid, ahead_of, advance_of, italic_before, ahead_at, advance_at, room_of, offset_of, accent_of}
+use Rattle.row_stretch.specs.Equation.{IsKidStored, no_kid, ahead_of, advance_of, italic_before, ahead_at, advance_at, room_of, offset_of, accent_of, frame_of_kid, with_kid}
 
 -- ---- one child more
 pub room_of-zero : (s : Bool) (kids : List RowKid) → room_of s kids 0 ≡ pos 0
@@ -53,6 +54,20 @@ pub room_of_in : (s : Bool) (kids : List RowKid) (n : ℕ) → n ≤ length kids
 unfolding room_of
 room_of_in s kids n l all = sum_to_in n _ (λ i h.
     widened (2 ^ 32) (sum_in (ahead_at_in s kids i (omega arith) all) (advance_at_in s kids i (omega arith) all)) (lit≤ tt))
+
+-- ---- the box
+more_joined : (frame : MathBox) (kids : List RowKid) (i : ℕ) → i < length kids
+    → fold joined frame (map frame_of_kid (take (suc i) kids)) ≡ joined (fold joined frame (map frame_of_kid (take i kids))) (get_or kids i no_kid).frame
+more_joined frame [] i l = absurd (omega arith)
+more_joined frame (kid ∷ kids) zero l = refl
+more_joined frame (kid ∷ kids) (suc i) l = more_joined (joined frame kid.frame) kids i (omega arith)
+
+-- the first children, joined with one more
+pub joined-suc : (kids : List RowKid) (i : ℕ) → i < length kids
+    → all_joined (map frame_of_kid (take (suc i) kids)) ≡ with_kid (all_joined (map frame_of_kid (take i kids))) i (get_or kids i no_kid)
+joined-suc [] i l = absurd (omega arith)
+joined-suc (kid ∷ kids) zero l = refl
+joined-suc (kid ∷ kids) (suc i) l = more_joined kid.frame kids i (omega arith)
 
 -- ---- the accent
 pub accent_of-one : (s : Bool) (kids : List RowKid) → length kids ≡ 1 → accent_of s kids ≡ ahead_at s kids 0 +ℤ (get_or kids 0 no_kid).frame.accent

@@ -1,6 +1,6 @@
 -- A row: each child stands behind all widths, spaces and italic corrections before it.
 use Rattle.std.specs.Prelude.{ℕ, zero, suc, ◌==◌, Bool, false, ◌&&◌, if◌then◌else◌, List, length, map, slice_index_or, ℤ, pos, ◌+ℤ◌}
-use Rattle.fixed_units.specs.Boxes.{IsStored, farthest, empty_box, all_joined}
+use Rattle.fixed_units.specs.Boxes.{IsStored, farthest, empty_box, joined, all_joined}
 use Rattle.fixed_units.specs.Numbers.{IsWithin, halved}
 use Rattle.fixed_units.specs.Sums.{sum_to, list_to}
 use Rattle.fixed_units.specs.declared.boxes.MathBox.{MathBox}
@@ -54,6 +54,11 @@ unfoldable pub offset_of : Bool → List RowKid → ℕ → ℤ
 offset_of spaces kids place = room_of spaces kids place +ℤ ahead_at spaces kids place
 
 -- ---- the box
+
+-- the box of the children before a place, with the child there
+abbrev pub with_kid : MathBox → ℕ → RowKid → MathBox
+with_kid all zero kid = kid.frame
+with_kid all (suc place) kid = joined all kid.frame
 
 -- an accent is attached as to an only child, and else in the middle
 unfoldable pub accent_of : Bool → List RowKid → ℤ

@@ -1,8 +1,8 @@
-ghost use Rattle.std.specs.Prelude.{◌≡◌, ◌^◌, map, length};
+ghost use Rattle.std.specs.Prelude.{◌≡◌, ◌^◌, length};
 ghost use Rattle.std.specs.List.{All};
-ghost use Rattle.fixed_units.specs.Boxes.{all_joined};
-ghost use Rattle.row_stretch.specs.Equation.{ahead_of, advance_of, room_of, accent_of, frame_of_kid, IsKidStored};
+ghost use Rattle.row_stretch.specs.Equation.{ahead_of, advance_of, room_of, accent_of, with_kid, IsKidStored};
 
+use crate::kids::RowKids;
 use crate::parts::RowKid;
 use fixed_units::{MathBox, half, join};
 
@@ -35,22 +35,19 @@ pub fn advance(kid: &RowKid, spaces: bool) -> i64
     }
 }
 
-/// The boxes of all children on one baseline.
-pub fn union(kids: &[RowKid]) -> MathBox
-    ensures { result ≡ all_joined (map frame_of_kid kids.now) }
+/// The box of the children before a place on one baseline, with the child there.
+pub fn with_kid(all: &MathBox, place: usize, kid: &RowKid) -> MathBox
+    ensures { result ≡ with_kid all.now place kid.now }
 {
-    let Some((first, others)) = kids.split_first() else {
-        return EMPTY;
-    };
-    let mut all = first.frame;
-    for kid in others {
-        all = join(&all, &kid.frame);
+    if place == 0 {
+        kid.frame
+    } else {
+        join(all, &kid.frame)
     }
-    all
 }
 
 /// A box without size.
-const EMPTY: MathBox = MathBox {
+pub const EMPTY: MathBox = MathBox {
     width: 0,
     ascent: 0,
     descent: 0,
@@ -61,13 +58,14 @@ const EMPTY: MathBox = MathBox {
 };
 
 /// Where an accent is attached to a row of this width: as to its only child, else in the middle.
-pub fn accent(kids: &[RowKid], spaces: bool, width: i64) -> i64
-    requires fit { All IsKidStored kids.now }
-    requires width_is { width ≡ room_of spaces kids.now (length kids.now) }
-    ensures { result ≡ accent_of spaces kids.now }
+pub fn accent<K: RowKids>(kids: &K, spaces: bool, width: i64) -> i64
+    requires fit { All IsKidStored (K.kids kids.now) }
+    requires width_is { width ≡ room_of spaces (K.kids kids.now) (length (K.kids kids.now)) }
+    ensures { result ≡ accent_of spaces (K.kids kids.now) }
 {
-    if kids.len() == 1 {
-        ahead(&kids[0], 0, spaces) + kids[0].frame.accent
+    if kids.kid_count() == 1 {
+        let kid = kids.kid_at(0);
+        ahead(&kid, 0, spaces) + kid.frame.accent
     } else {
         half(width)
     }

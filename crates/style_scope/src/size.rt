@@ -28,6 +28,10 @@ fn scaled(base: i64, scale: Ratio) -> Option<i64>
     ensures value { result ≡ in_range_of (rounded (base *ℤ scale.num) scale.den) }
     ensures within { IfSome result IsSize }
 {
+    // Where both are the same, it is the base size, without a division.
+    if scale.num == scale.den {
+        return in_range(base);
+    }
     // A product past 128 bits is a size far past the largest.
     let Some(num) = i128::from(base).checked_mul(scale.num) else {
         return None;
@@ -41,6 +45,20 @@ fn scaled(base: i64, scale: Ratio) -> Option<i64>
         num,
         den: scale.den,
     }))
+}
+
+/// A size, where it is at most 2^20.
+#[tactic(auto, unfolding(crate::specs::Sizes::in_range_of))]
+fn in_range(size: i64) -> Option<i64>
+    requires { pos 0 ≤ℤ size }
+    ensures value { result ≡ in_range_of size }
+    ensures within { IfSome result IsSize }
+{
+    if i128::from(size) <= LARGEST {
+        Some(size)
+    } else {
+        None
+    }
 }
 
 /// How large a font is at a style's depth, where it is 1 at the base depth.

@@ -1,69 +1,96 @@
-use Rattle.std.proofs.Common.{◌≡◌, ◌∙◌, refl, sym, subst, ap, ◌≤◌, length, slice_index_or, arith, w64, to_z, of_z, ℤ, ◌+ℤ◌}
-use Rattle.std.specs.List.{All}
+use Rattle.std.proofs.Common.{rules, ◌≡◌, List, ◌∙◌, refl, sym, subst, ap, ◌<◌, add-one, length, map, take, arith, w64, to_z, of_z, ℕ, ℤ, ◌+ℤ◌}
+use Rattle.std.proofs.Math.Seq.{take-length}
 use Rattle.std.proofs.lemmas.Int.{to_z-of_z}
+use Rattle.fixed_units.specs.Boxes.{all_joined}
+use Rattle.fixed_units.specs.Sums.{list_to}
 use Rattle.fixed_units.proofs.Signed.{signed}
 use Rattle.fixed_units.proofs.Sums.{list_to-zero, list_to-add_one}
-use Rattle.row_stretch.specs.Equation.{IsKidStored, no_kid, ahead_of, ahead_at, offset_of}
-use Rattle.row_stretch.proofs.Rows.{room_of-zero, room_of-add_one, offset_of-is, italic_before-add_one, kid_stored, ahead_at_in, advance_at_in, room_of_in}
+use Rattle.row_stretch.specs.declared.parts.RowKid.{RowKid}
+use Rattle.row_stretch.specs.Equation.{IsKidStored, ahead_of, ahead_at, advance_at, advance_of, frame_of_kid, italic_before, offset_of, room_of, with_kid}
+use Rattle.row_stretch.proofs.Rows.{room_of-zero, room_of-add_one, offset_of-is, italic_before-add_one, joined-suc, kid_stored, ahead_at_in, advance_at_in, room_of_in}
 use Rattle.row_stretch.proofs.placing.row_finish.Goals as goal
-use Rattle.row_stretch.proofs.placing.row_finish.Goals.{After-ahead-at, After-as_slice-items}
+use Rattle.row_stretch.proofs.placing.row_finish.Goals.{After-advance-at, After-ahead-at, After-kid_at-kid}
 
--- the items are the children
-all_stored : (c : After-as_slice-items) → All IsKidStored c.as_slice-items.result.now
-all_stored c = subst (All IsKidStored) (sym c.as_slice-items.ensures) c.requires.fit
-
-few : (c : After-as_slice-items) → length c.as_slice-items.result.now ≤ 65536
-few c = omega (arith, ap length c.as_slice-items.ensures)
+-- the place is one of a child
+within : (g : _) (c : After-kid_at-kid g) → c.loop-place.place < length (g.K.RowKids.kids c.args.kids.now)
+within g c = omega (arith, c.loop-place-test.true, c.kid_count-count.ensures)
 
 -- what the code puts ahead of a child
-ahead_is : (c : After-ahead-at) → c.ahead-at.result ≡ ahead_at c.args.spaces c.as_slice-items.result.now c.loop-kid.kid-index
-ahead_is c =
+ahead_is : (g : _) (c : After-ahead-at g) → c.ahead-at.result ≡ ahead_at c.args.spaces (g.K.RowKids.kids c.args.kids.now) c.loop-place.place
+ahead_is g c =
     c.ahead-at.ensures
-    ∙ ap (λ (z : ℤ). ahead_of c.args.spaces z (slice_index_or c.as_slice-items.result.now c.loop-kid.kid-index no_kid)) c.loop-kid.invariant.italic
+    ∙ (λ i. ahead_of c.args.spaces (c.loop-place.invariant.italic i) (c.kid_at-kid.ensures i))
 
-pub loop-kid-init : goal.loop-kid-init
-loop-kid-init c = record { offsets = (c.in_ok-offsets.ensures {u = tt}) ∙ sym (list_to-zero _); at = sym (room_of-zero _ _); italic = refl }
+-- and from its start to where it ends
+advance_is : (g : _) (c : After-advance-at g) → c.advance-at.result ≡ advance_at c.args.spaces (g.K.RowKids.kids c.args.kids.now) c.loop-place.place
+advance_is g c = c.advance-at.ensures ∙ ap (advance_of c.args.spaces) c.kid_at-kid.ensures
+
+pub loop-place-init : goal.loop-place-init
+loop-place-init g c = record { offsets = (c.in_ok-offsets.ensures {u = tt}) ∙ sym (list_to-zero _); at = sym (room_of-zero _ _); italic = refl; all = refl }
 
 pub overflow_add-at : goal.overflow_add-at
-overflow_add-at c =
-    let e = ahead_is c in
-    let items = (goal.at.overflow_add-at c).After-as_slice-items in
-    let count = few items in
-    let ahead = ahead_at_in c.args.spaces _ _ c.loop-kid-test.true (all_stored items) in
-    let room = room_of_in c.args.spaces c.as_slice-items.result.now c.loop-kid.kid-index (omega arith) (all_stored items) in
+overflow_add-at g c =
+    let kids = g.K.RowKids.kids c.args.kids.now in
+    let e = ahead_is g (goal.at.overflow_add-at g c).After-ahead-at in
+    let l = within g (goal.at.overflow_add-at g c).After-kid_at-kid in
+    let ahead = ahead_at_in c.args.spaces kids _ l c.requires.fit in
+    let room = room_of_in c.args.spaces kids c.loop-place.place (omega (arith, l)) c.requires.fit in
     omega (arith, signed)
 
 pub advance-at-requires : goal.advance-at-requires
-advance-at-requires c = kid_stored _ _ c.loop-kid-test.true (all_stored (goal.at.advance-at-requires c).After-as_slice-items)
+advance-at-requires g c =
+    subst IsKidStored (sym c.kid_at-kid.ensures) (kid_stored _ _ (within g (goal.at.advance-at-requires g c).After-kid_at-kid) c.requires.fit)
 
-pub overflow_add-at-in-loop-kid : goal.overflow_add-at-in-loop-kid
-overflow_add-at-in-loop-kid c =
-    let e = ahead_is (goal.at.overflow_add-at-in-loop-kid c).After-ahead-at in
-    let items = (goal.at.overflow_add-at-in-loop-kid c).After-as_slice-items in
-    let count = few items in
-    let ahead = ahead_at_in c.args.spaces _ _ c.loop-kid-test.true (all_stored items) in
-    let advance = advance_at_in c.args.spaces _ _ c.loop-kid-test.true (all_stored items) in
-    let room = room_of_in c.args.spaces c.as_slice-items.result.now c.loop-kid.kid-index (omega arith) (all_stored items) in
+pub overflow_add-at-in-loop-place : goal.overflow_add-at-in-loop-place
+overflow_add-at-in-loop-place g c =
+    let kids = g.K.RowKids.kids c.args.kids.now in
+    let at = goal.at.overflow_add-at-in-loop-place g c in
+    let e = ahead_is g at.After-ahead-at in
+    let f = advance_is g at.After-advance-at in
+    let l = within g at.After-kid_at-kid in
+    let ahead = ahead_at_in c.args.spaces kids _ l c.requires.fit in
+    let advance = advance_at_in c.args.spaces kids _ l c.requires.fit in
+    let room = room_of_in c.args.spaces kids c.loop-place.place (omega (arith, l)) c.requires.fit in
     omega (arith, signed)
 
-pub loop-kid-preserved : goal.loop-kid-preserved
-loop-kid-preserved c =
-    let kids = c.as_slice-items.result.now in
+pub loop-place-preserved : goal.loop-place-preserved
+loop-place-preserved g c =
+    let kids = g.K.RowKids.kids c.args.kids.now in
     let s = c.args.spaces in
-    let i = c.loop-kid.kid-index in
-    let e = ahead_is (goal.at.loop-kid-preserved c).After-ahead-at in
-    let items = (goal.at.loop-kid-preserved c).After-as_slice-items in
-    let count = few items in
-    let ahead = ahead_at_in s kids i c.loop-kid-test.true (all_stored items) in
-    let advance = advance_at_in s kids i c.loop-kid-test.true (all_stored items) in
-    let room = room_of_in s kids i (omega arith) (all_stored items) in
-    let at : to_z w64 (of_z w64 (to_z w64 c.loop-kid.at-bits +ℤ to_z w64 (of_z w64 c.ahead-at.result))) ≡ offset_of s kids i =
+    let i = c.loop-place.place in
+    let steps = goal.at.loop-place-preserved g c in
+    let e = ahead_is g steps.After-ahead-at in
+    let f = advance_is g steps.After-advance-at in
+    let l = within g steps.After-kid_at-kid in
+    let ahead = ahead_at_in s kids i l c.requires.fit in
+    let advance = advance_at_in s kids i l c.requires.fit in
+    let room = room_of_in s kids i (omega (arith, l)) c.requires.fit in
+    let at : to_z w64 (of_z w64 (to_z w64 c.loop-place.at-bits +ℤ to_z w64 (of_z w64 c.ahead-at.result))) ≡ offset_of s kids i =
     omega (arith, signed, offset_of-is s kids i) in
+    let italic = (kid_stored kids i l c.requires.fit).frame.italic in
     record {
       offsets = let pushed = (c.in_ok-push.ensures {u = tt}).ok in let more = list_to-add_one i (offset_of s kids) in cc;
       at = omega (arith, signed, room_of-add_one s kids i);
-      italic = grind (arith, to_z-of_z, italic_before-add_one);
+      italic =
+          let same = ap (λ (k : RowKid). k.frame.italic) c.kid_at-kid.ensures in
+          omega (arith, signed, same, italic, italic_before-add_one kids i);
+      all =
+          c.with_kid-all.ensures
+          ∙ (λ k. with_kid (c.loop-place.invariant.all k) i (c.kid_at-kid.ensures k))
+          ∙ sym (joined-suc kids i l)
+          ∙ ap (λ (n : ℕ). all_joined (map frame_of_kid (take n kids))) (sym (add-one i));
     }
 
-pub accent-accent-requires-clause-fit : goal.accent-accent-requires-clause-fit
-accent-accent-requires-clause-fit c = all_stored (goal.at.accent-accent-requires-clause-fit c).After-as_slice-items
+pub returns : goal.returns
+returns g c =
+    let kids = g.K.RowKids.kids c.args.kids.now in
+    let s = c.args.spaces in
+    let end : c.loop-place.place ≡ length kids = omega (arith, c.loop-place.auto.place-end, c.loop-place-test.false, c.kid_count-count.ensures) in
+    let at = c.loop-place.invariant.at ∙ ap (room_of s kids) end in
+    let italic = c.loop-place.invariant.italic ∙ ap (italic_before kids) end in
+    let all : c.loop-place.all ≡ all_joined (map frame_of_kid kids) =
+    c.loop-place.invariant.all ∙ ap (λ (n : ℕ). all_joined (map frame_of_kid (take n kids))) end ∙ ap (λ (l : List RowKid). all_joined (map frame_of_kid l)) (take-length kids) in
+    let offsets : c.loop-place.offsets ≡ list_to (length kids) (offset_of s kids) =
+    c.loop-place.invariant.offsets ∙ ap (λ (n : ℕ). list_to n (offset_of s kids)) end in
+    let accent = c.accent-accent.ensures in
+    search rules

@@ -1,12 +1,14 @@
-use Rattle.std.proofs.Common.{◌≡◌}
+use Rattle.std.proofs.Common.{◌≡◌, map, take}
+use Rattle.fixed_units.specs.Boxes.{all_joined}
 use Rattle.fixed_units.specs.Sums.{list_to}
-use Rattle.row_stretch.specs.Equation.{italic_before, room_of, offset_of}
+use Rattle.row_stretch.specs.Equation.{frame_of_kid, italic_before, room_of, offset_of}
 use Rattle.row_stretch.proofs.placing.row_finish.Given as goal
 
--- what the children so far take
-abbrev pub invariant-loop-kid : goal.invariant-loop-kid
-invariant-loop-kid l = record {
-  offsets : l.offsets ≡ list_to l.kid-index (offset_of l.spaces l.items);
-  at : l.at ≡ room_of l.spaces l.items l.kid-index;
-  italic : l.italic ≡ italic_before l.items l.kid-index;
+-- what the children so far take, and their box
+abbrev pub invariant-loop-place : goal.invariant-loop-place
+invariant-loop-place g l = record {
+  offsets : l.offsets ≡ list_to l.place (offset_of l.spaces (g.K.RowKids.kids l.kids));
+  at : l.at ≡ room_of l.spaces (g.K.RowKids.kids l.kids) l.place;
+  italic : l.italic ≡ italic_before (g.K.RowKids.kids l.kids) l.place;
+  all : l.all ≡ all_joined (map frame_of_kid (take l.place (g.K.RowKids.kids l.kids)));
 }

@@ -2,6 +2,7 @@ use Rattle.std.proofs.Common.{rules, ◌≡◌, ◌∙◌, ap, sym, subst, pos, 
 use Rattle.std.specs.Int.{w128}
 use Rattle.std.proofs.lemmas.Int.{to_z-of_z}
 use Rattle.fixed_units.specs.Numbers.{rounded}
+use Rattle.fixed_units.proofs.Rounding.{rounded-*ℤ}
 use Rattle.fixed_units.proofs.Signed.{signed}
 use Rattle.style_scope.specs.Sizes.{in_range_of}
 use Rattle.style_scope.proofs.Scales.{beyond, in_reach, past_range, product_not_below, size_high, size_low}
@@ -18,6 +19,17 @@ product c =
 
 low : (c : After-checked_mul) → pos 0 ≤ℤ (c.args.base *ℤ c.args.scale.num)
 low c = product_not_below c.args.base c.args.scale.num c.requires.base c.requires.num_low
+
+pub returns-then-scale-clause-value : goal.returns-then-scale-clause-value
+returns-then-scale-clause-value c =
+    let num_fits : FitsSigned w128 c.args.scale.num = search rules in
+    let den_fits : FitsSigned w128 c.args.scale.den = search rules in
+    let same : c.args.scale.num ≡ c.args.scale.den =
+    sym (to_z-of_z w128 c.args.scale.num num_fits) ∙ ap (to_z w128) c.if-scale.true ∙ to_z-of_z w128 c.args.scale.den den_fits in
+    let one : pos 0 <ℤ c.args.scale.den = omega (arith, signed, c.requires.den_low) in
+    let base : rounded (c.args.base *ℤ c.args.scale.num) c.args.scale.den ≡ c.args.base =
+    ap (λ z. rounded (c.args.base *ℤ z) c.args.scale.den) same ∙ rounded-*ℤ c.args.base c.args.scale.den one in
+    c.in_range.ensures.value ∙ ap in_range_of (to_z-of_z w64 c.args.base c.ranges.base ∙ sym base)
 
 pub returns-in_default-clause-value : goal.returns-in_default-clause-value
 returns-in_default-clause-value c =
