@@ -18,11 +18,13 @@ use Rattle.embellished.specs.Seen.{Child, Kid, Seen, children_from, flow_childre
 use Rattle.embellished.specs.declared.facts.Facts.{Facts}
 use Rattle.embellished.proofs.Nodes.{facts_out, kinds_mapped}
 use Rattle.layout_model.specs.Laws.{answer_of}
+use Rattle.layout_model.specs.Questions.{first}
 use Rattle.layout_model.specs.declared.context.Context.{Context}
 use Rattle.layout_model.specs.declared.context.Question.{Question}
 use Rattle.layout_model.specs.declared.outcome.Answer.{Answer}
 use Rattle.layout_model.proofs.Made.{answer_of_child}
 use Rattle.layout_core.proofs.Fits.{range_is}
+use Rattle.child_questions.proofs.Unstretched.{one_wave}
 use Rattle.kept_results.specs.Kept.{IsSound, NamesKept, StaysBut, is_live, is_marked}
 use Rattle.kept_results.specs.Regular.{AllInFlow, IsRegular, restyled_at}
 use Rattle.kept_results.specs.declared.memo.Entry.{Entry}
@@ -203,6 +205,7 @@ module _ (node : Node) (place : ℕ) (child other : Node) (at : slice_get (child
           ones = first_again m seen (seen_of made) own_made (kids_made r.all) place head_made (others_made r.all) entry.context
               ∙ ap (map (restyled_at m (seen_of made) entry.context place)) (sym s.ones);
           styled = s.styled;
+          twos = s.twos ∙ one_wave m seen entry.context (map (answer_of m node) (first m seen entry.context)) r.one_wave;
           as_many = ap length s.one ∙ length-map entry.ones (answer_of m node);
           others = λ index question answer q_at a_at apart.
               let n = each_of (NamesKept node below) entry.ones index question s.ones_kept q_at in

@@ -1,5 +1,5 @@
 -- Memos agree with a tree again when the same is changed in both.
-use Rattle.std.proofs.Common.{◌≡◌, ◌∙◌, inl, inr, refl, sym, ap, subst, ℕ, zero, suc, ◌<◌, ◌≤◌, arith, Bool, true, false, true≢false, cond, not, List, [], ◌∷◌, get_or, insert, length, length-set, map, remove, set, Option, Some, None, slice_get}
+use Rattle.std.proofs.Common.{◌≡◌, ◌∙◌, inl, inr, refl, sym, ap, subst, ℕ, zero, suc, ◌<◌, ◌≤◌, arith, true, false, true≢false, List, [], ◌∷◌, get_or, insert, length, length-set, map, remove, set, Option, Some, None, slice_get}
 use Rattle.std.proofs.lemmas.Option.{get_or_from_slice_get, none-some, same_Some, slice_get-map, slice_get_within}
 use Rattle.std.specs.List.{AllByRecursion}
 use Rattle.std.specs.Option.{option_and_then, option_map, option_map_or}
@@ -14,8 +14,8 @@ use Rattle.tree_edits.specs.Paths.{Fits, FitsAt, changed, changed_at, children_o
 use Rattle.tree_edits.specs.declared.change.Change.{Change}
 use Rattle.tree_edits.specs.declared.change.Change.TheVariants.{SetText, SetValue, PutChild, TakeChild, SwapChild}
 use Rattle.embellished.specs.Facts.{facts}
-use Rattle.kept_results.specs.Ends.{not_fresh, stripped}
-use Rattle.kept_results.specs.Kept.{AreApart, IsMemoOf, StaysBut, is_live}
+use Rattle.kept_results.specs.Ends.{all_undone, stripped}
+use Rattle.kept_results.specs.Kept.{AreApart, IsMemoOf, StaysBut, is_fresh, is_live}
 use Rattle.kept_results.specs.Looking.{own_facts}
 use Rattle.kept_results.specs.declared.memo.Entry.{Entry}
 use Rattle.kept_results.specs.declared.memo.Memo.{Memo}
@@ -23,6 +23,7 @@ use Rattle.kept_results.specs.declared.memo.Memo.TheOpen.{Memo-F}
 use Rattle.kept_results.specs.declared.memo.Memo.TheViews.{out-Memo, out-roll-Memo, roll-Memo}
 use Rattle.kept_results.proofs.Agreement.{agrees_child, agrees_made}
 use Rattle.kept_results.proofs.Counts.{stripped_out, stripped_roll}
+use Rattle.kept_results.proofs.Tidying.{none_each, none_made}
 use Rattle.kept_results.proofs.Lists.{set_here}
 use Rattle.kept_edits.specs.Changed.{changed_below, changed_memo, renewed, renewed_on, seen_anew, with_below}
 use Rattle.kept_edits.specs.Laws.{ChangeLaw, IsReadyFor, IsSame, KnownOn}
@@ -35,28 +36,14 @@ use Rattle.kept_edits.proofs.Lists.{both_insert, both_remove, both_set, length_i
 -- ---- no entry is fresh
 
 abbrev pub NoneFresh : List Entry → Type 0
-NoneFresh entries = AllByRecursion (λ entry. entry.fresh ≡ false) entries
+NoneFresh entries = AllByRecursion (λ entry. is_fresh entry ≡ false) entries
 
-shorter : (entries : List Entry) → length (not_fresh entries) ≤ length entries
-shorter [] = omega arith
-shorter (entry ∷ entries) = by entry.fresh (shorter entries)
-  where
-    by : (b : Bool) → length (not_fresh entries) ≤ length entries → length (cond (not b) (entry ∷ not_fresh entries) (not_fresh entries)) ≤ suc (length entries)
-    by true h = omega (arith, h)
-    by false h = omega (arith, h)
-
-none_fresh : (entries : List Entry) → not_fresh entries ≡ entries → NoneFresh entries
-none_fresh [] h = tt
-none_fresh (entry ∷ entries) h = by (none_fresh entries) entry.fresh refl h
-  where
-    by : (not_fresh entries ≡ entries → NoneFresh entries) → (b : Bool) → entry.fresh ≡ b → cond (not b) (entry ∷ not_fresh entries) (not_fresh entries) ≡ entry ∷ entries
-        → (entry.fresh ≡ false) × NoneFresh entries
-    by rest true e h = absurd (omega (arith, ap length h, shorter entries))
-    by rest false e h = let same : not_fresh entries ≡ entries = cc in (e, rest same)
+none_fresh : (entries : List Entry) → all_undone entries ≡ entries → NoneFresh entries
+none_fresh entries h = none_each entries (none_made entries h)
 
 no_live : (entries : List Entry) (place : ℕ) (entry : Entry) → NoneFresh entries → slice_get entries place ≡ Some entry → is_live true entry ≡ true → ⊥
 no_live [] place entry h at live = none-some entry at
-no_live (x ∷ entries) zero entry h at live = true≢false (sym live ∙ ap (λ (e : Entry). e.fresh) (sym (same_Some x entry at)) ∙ h.0)
+no_live (x ∷ entries) zero entry h at live = true≢false (sym live ∙ ap is_fresh (sym (same_Some x entry at)) ∙ h.0)
 no_live (x ∷ entries) (suc place) entry h at live = no_live entries place entry h.1 at live
 
 none_apart : (entries : List Entry) → NoneFresh entries → AreApart true entries
@@ -69,14 +56,14 @@ abbrev stripped_parts : Memo → Memo-F Memo
 stripped_parts memo = record {
   former = (out-Memo memo).former;
   facts = (out-Memo memo).facts;
-  entries = not_fresh (out-Memo memo).entries;
+  entries = all_undone (out-Memo memo).entries;
   below = map stripped (out-Memo memo).below;
 }
 
 parts_plain : (memo : Memo) → stripped memo ≡ memo → stripped_parts memo ≡ out-Memo memo
 parts_plain memo h = sym (out-roll-Memo (stripped_parts memo)) ∙ ap out-Memo (sym (stripped_out memo) ∙ h)
 
-pub entries_plain : (memo : Memo) → stripped memo ≡ memo → not_fresh (out-Memo memo).entries ≡ (out-Memo memo).entries
+pub entries_plain : (memo : Memo) → stripped memo ≡ memo → all_undone (out-Memo memo).entries ≡ (out-Memo memo).entries
 entries_plain memo h = ap (λ (l : Memo-F Memo). l.entries) (parts_plain memo h)
 
 below_plain : (memo : Memo) (place : ℕ) (kept : Memo) → stripped memo ≡ memo → slice_get (out-Memo memo).below place ≡ Some kept → stripped kept ≡ kept

@@ -51,5 +51,5 @@ fn serves(memo: &Memo, entry: &Entry, context: &Context) -> bool
 pub fn is_live(memo: &Memo, entry: &Entry) -> bool
     ensures { result ≡ is_live (is_marked (out-Memo memo.now)) entry.now }
 {
-    memo.former.is_none() || entry.fresh
+    memo.former.is_none() || entry.is_fresh()
 }

@@ -1,13 +1,13 @@
 -- A regular element again, of which layout sees the same but for one child.
-use Rattle.std.proofs.Common.{◌≡◌, ◌∙◌, ◌⊎◌, inl, inr, refl, sym, ap, subst, ℕ, zero, suc, ◌<◌, ◌≤◌, arith, Bool, true, false, cond, ◌&&◌, List, [], ◌∷◌, get_or, length, map, length-set, set, All, Option, Some, is_some, slice_get, nat_eq}
-use Rattle.std.proofs.lemmas.Bool.{ne_eqb}
+use Rattle.std.proofs.Common.{◌≡◌, ◌∙◌, ◌⊎◌, inl, inr, refl, sym, ap, subst, ℕ, zero, suc, ◌+◌, ◌<◌, ◌≤◌, arith, Bool, true, false, cond, ◌&&◌, List, [], ◌∷◌, get_or, length, map, length-set, set, All, Option, None, Some, is_some, slice_get, nat_eq}
+use Rattle.std.proofs.lemmas.Bool.{eq-eqb, ne_eqb}
 use Rattle.std.proofs.lemmas.Bool.Decides.{eqb_tells}
 use Rattle.std.proofs.lemmas.List.{length-map}
-use Rattle.std.proofs.lemmas.List.Elements.{All-nil}
+use Rattle.std.proofs.lemmas.List.Elements.{All-nil, All-set}
 use Rattle.std.proofs.lemmas.List.Folds.{list_all-append}
 use Rattle.std.proofs.lemmas.Option.{get_or_from_slice_get, none-some, same_Some, slice_get-map, slice_get_within}
 use Rattle.std.specs.List.{AllByRecursion, flat_map, list_all}
-use Rattle.std.specs.Option.{option_map}
+use Rattle.std.specs.Option.{option_and_then, option_map, option_map_or}
 use Rattle.font_metrics.specs.Metrics.{MetricsValue}
 use Rattle.math_tree.specs.Trees.{element_count}
 use Rattle.math_tree.specs.declared.node.Node.{Node}
@@ -17,34 +17,42 @@ use Rattle.style_scope.specs.Sizes.{size_of}
 use Rattle.embellished.proofs.InFlow.{among, shown}
 use Rattle.layout_model.specs.Laws.{answer_of, visits_below}
 use Rattle.layout_model.specs.Fits.{AreAnswers, HasStyle}
-use Rattle.layout_model.specs.Layout.{in_range, lay, visit_fits}
+use Rattle.layout_model.specs.Layout.{equation, in_range, lay, visit_fits}
 use Rattle.layout_model.specs.Questions.{IsBelow, first}
-use Rattle.layout_model.specs.Range.{is_font_size}
+use Rattle.layout_model.specs.Range.{is_font_size, outcome_fits}
 use Rattle.layout_model.specs.declared.context.Context.{Context}
 use Rattle.layout_model.specs.declared.context.Question.{Question}
 use Rattle.layout_model.specs.declared.outcome.Answer.{Answer}
+use Rattle.layout_model.specs.declared.outcome.Outcome.{Outcome}
 use Rattle.layout_model.proofs.Made.{answer_of_child}
 use Rattle.layout_model.proofs.Places.{first_below}
-use Rattle.layout_core.proofs.Children.{few_children}
+use Rattle.layout_core.proofs.Children.{few_children, in_flow}
 use Rattle.layout_core.proofs.Fits.{answers_are as answers_are_stored}
-use Rattle.layout_core.proofs.Waves.{all_fit, fits_below}
+use Rattle.layout_core.proofs.Waves.{all_fit, broken, fits_below}
+use Rattle.layout_core.proofs.Whole.{ones_false, range_waves}
 use Rattle.child_questions.proofs.Unstretched.{one_wave}
 use Rattle.kept_results.specs.Contexts.{IsProper, Suits}
-use Rattle.kept_results.specs.Kept.{Agrees, IsKept, IsMemoOf, IsMissing, Keeps, NamesKept, StaysBut, is_marked}
-use Rattle.kept_results.specs.Looking.{IsEarlier}
+use Rattle.kept_results.specs.Ends.{undone, undone_from}
+use Rattle.kept_results.specs.Kept.{Agrees, IsKept, IsMemoOf, IsMissing, IsSound, Keeps, NamesKept, StaysBut, is_fresh, is_live, is_marked}
+use Rattle.kept_results.specs.Looking.{IsEarlier, IsEntryOf, IsMadeAgain, one_at, ones_at, remade, turned}
 use Rattle.kept_results.specs.Passes.{AnswersNeed, Needs, Pair, Passes}
 use Rattle.kept_results.specs.Regular.{IsRegular, IsShownBy, restyled, restyled_at}
+use Rattle.kept_results.specs.Tidy.{AreTidy, IsTidy}
 use Rattle.kept_results.specs.declared.earlier.Earlier.{Earlier}
 use Rattle.kept_results.specs.declared.memo.Memo.{Memo}
 use Rattle.kept_results.specs.declared.memo.Entry.{Entry}
 use Rattle.kept_results.specs.declared.memo.Former.{Former}
+use Rattle.kept_results.specs.declared.memo.Origin.{Origin}
+use Rattle.kept_results.specs.declared.memo.Origin.TheVariants.{Standing}
+use Rattle.kept_results.specs.declared.memo.Said.{Said}
 use Rattle.kept_results.specs.declared.memo.Memo.TheOpen.{Memo-F}
 use Rattle.kept_results.specs.declared.memo.Memo.TheViews.{out-Memo, out-roll-Memo, roll-Memo}
-use Rattle.kept_results.proofs.Agreement.{agrees_child, names_renewed, renewed}
-use Rattle.kept_results.proofs.Lists.{set_here}
-use Rattle.kept_results.proofs.Passing.{passes_under, under}
-use Rattle.kept_results.proofs.Shown.{as_many_kids, flow_at, there_is}
-use Rattle.kept_results.proofs.Turns.{Waves, facts_known, missing_same, needed_below, ones_proper, own_entries, own_mark, pass_ones}
+use Rattle.kept_results.proofs.Agreement.{agrees_child, has_put, names_renewed, renewed}
+use Rattle.kept_results.proofs.Lists.{set_back, set_here, set_other}
+use Rattle.kept_results.proofs.Passing.{fresh_live, pair_at, passes_both, passes_put, passes_step, passes_under, under}
+use Rattle.kept_results.proofs.Shown.{as_many_kids, flow_at, read_at, there_is}
+use Rattle.kept_results.proofs.Tidying.{stands, tidy_put}
+use Rattle.kept_results.proofs.Turns.{Waves, facts_known, missing_same, needed_below, ones_proper, own_entries, own_mark, pass_ones, sound_made, waves_fit, waves_lay, waves_unfit}
 
 -- ---- lists by their places
 
@@ -52,14 +60,6 @@ map_was : {A B : Type 0} (f : A → B) (xs : List A) (i : ℕ) (y : B) → slice
 map_was f [] i y h = absurd (none-some y h)
 map_was f (x ∷ xs) zero y h = (x, refl, sym (same_Some (f x) y h))
 map_was f (x ∷ xs) (suc i) y h = map_was f xs i y h
-
--- what is at a place was set there, or stands at another one
-set_other : {A : Type 0} (xs : List A) (i j : ℕ) (x y : A) → slice_get (set xs i x) j ≡ Some y → ((j ≡ i) × (y ≡ x)) ⊎ ((j ≡ i → ⊥) × (slice_get xs j ≡ Some y))
-set_other [] i j x y h = absurd (none-some y h)
-set_other (z ∷ xs) zero zero x y h = inl (refl, sym (same_Some x y h))
-set_other (z ∷ xs) zero (suc j) x y h = inr (λ e. omega (arith, e), h)
-set_other (z ∷ xs) (suc i) zero x y h = inr (λ e. omega (arith, e), h)
-set_other (z ∷ xs) (suc i) (suc j) x y h = elim (set_other xs i j x y h) [ inl p ↦ inl (ap suc p.0, p.1) | inr q ↦ inr (λ e. q.0 (omega (arith, e)), q.1) ]
 
 mapped_at : {A B : Type 0} (f : A → B) (ys : List B) (xs : List A) → length ys ≡ length xs
     → ((i : ℕ) (y : B) (x : A) → slice_get ys i ≡ Some y → slice_get xs i ≡ Some x → y ≡ f x) → ys ≡ map f xs
@@ -298,7 +298,218 @@ module _ (m : MetricsValue) (node : Node) (memo : Memo) (context : Context) (bef
   read_entry list entry e is =
       is ∙ ap (λ (l : List Entry). get_or l before.entry entry) e ∙ get_or_from_slice_get (out-Memo memo).entries before.entry b.entry entry b.at
 
-  pub asks_made : (shown_node : Node) (entry : Entry) (asks : List Question) → shown_node ≡ node → entry ≡ b.entry
-      → asks ≡ map (restyled_at m (seen_of shown_node) context before.child) entry.ones → asks ≡ map restyle b.entry.ones
-  asks_made shown_node entry asks e f o =
-      o ∙ ap (λ (n : Node). map (restyled_at m (seen_of n) context before.child) entry.ones) e ∙ ap (λ (x : Entry). map restyle x.ones) f
+  -- ---- the question to the child on the way, once more
+
+  module _ (was asked : Question) (was_at : slice_get b.entry.ones before.child ≡ Some was) (is : asked ≡ restyled m (seen_of node) context was) where
+    restyled_here : (i : ℕ) (q : Question) → slice_get b.entry.ones i ≡ Some q → i ≡ before.child → restyle q ≡ asked
+    restyled_here i q at e =
+        let own : q.kid ≡ before.child = still_regular.in_order i q at ∙ e in
+        let same : q ≡ was = same_Some q was (sym at ∙ ap (slice_get b.entry.ones) e ∙ was_at) in
+        ap (λ (t : Bool). cond t (restyled m (seen_of node) context q) q) (eq-eqb q.kid before.child own)
+        ∙ ap (restyled m (seen_of node) context) same ∙ sym is
+
+    restyled_there : (i : ℕ) (q : Question) → slice_get b.entry.ones i ≡ Some q → (i ≡ before.child → ⊥) → restyle q ≡ q
+    restyled_there i q at other = other_stays m (seen_of node) context before.child q (λ e. other (sym (still_regular.in_order i q at) ∙ e))
+
+    pub asks_are_set : set b.entry.ones before.child asked ≡ map restyle b.entry.ones
+    asks_are_set =
+        mapped_at restyle (set b.entry.ones before.child asked) b.entry.ones (length-set b.entry.ones before.child asked)
+        (λ i y q y_at q_at.
+        elim (set_other b.entry.ones before.child i asked y y_at) [
+          | inl p ↦ p.1 ∙ sym (restyled_here i q q_at p.0)
+          | inr k ↦ same_Some y q (sym k.1 ∙ q_at) ∙ sym (restyled_there i q q_at k.0)
+        ])
+
+    pub asked_there : slice_get (set b.entry.ones before.child asked) before.child ≡ Some asked
+    asked_there = set_here b.entry.ones before.child asked was was_at
+
+    pub styles_again : HasStyle asked → All HasStyle (set b.entry.ones before.child asked)
+    styles_again style = All-set HasStyle b.entry.ones before.child asked style stays.styled
+
+  pub was_near : (was : Question) → slice_get b.entry.ones before.child ≡ Some was → was.kid < length (seen_of node).kids
+  was_near was at =
+      let near = near_kids (map restyle b.entry.ones) refl in
+      omega (arith, near, still_regular.in_order before.child was at)
+
+  pub was_here : (list : List Question) (entry : Entry) (was : Question) → list ≡ entry.ones → entry ≡ b.entry → was ≡ get_or list before.child was
+      → slice_get b.entry.ones before.child ≡ Some was
+  was_here list entry was e f is = read_at list b.entry.ones before.child was (e ∙ ap (λ (x : Entry). x.ones) f) b.serves.within is
+
+  marked : is_marked (out-Memo memo) ≡ true
+  marked = by (out-Memo memo).former b.alike
+    where
+      by : (former : Option Former) → option_and_then (λ (f : Former). f.alike_but) former ≡ Some before.child → is_some former ≡ true
+      by None e = absurd (none-some before.child e)
+      by (Some former) e = refl
+
+  -- ---- made anew, behind the pass over that child
+
+  module _ (new : Memo) where
+    abbrev pub now : Memo
+    now = roll-Memo (renewed memo before.child new)
+
+    pub entry_now : slice_get (out-Memo now).entries before.entry ≡ Some b.entry
+    entry_now = ap (λ (l : List Entry). slice_get l before.entry) (own_entries memo before.child new) ∙ b.at
+
+    pub near_entry : before.entry < length (out-Memo now).entries
+    near_entry = slice_get_within (out-Memo now).entries before.entry b.entry entry_now
+
+    pub ones_now : ones_at (out-Memo now) before.entry ≡ b.entry.ones
+    ones_now = ap (λ (o : Option Entry). option_map_or (λ (e : Entry). e.ones) o []) entry_now
+
+    pub one_now : one_at (out-Memo now) before.entry ≡ b.entry.one
+    one_now = ap (λ (o : Option Entry). option_map_or (λ (e : Entry). e.one) o []) entry_now
+
+    module _ (after : Memo) (outcome : Outcome) (said : Said) (made : IsMadeAgain now after before outcome said) where
+      abbrev pub entry_made : Entry
+      entry_made = remade (turned made.entry before.child said) outcome before.child made.had
+
+      pub was_entry : made.entry ≡ b.entry
+      was_entry = same_Some made.entry b.entry (sym made.at ∙ entry_now)
+
+      pub made_holds : IsEntryOf entry_made context outcome
+          record { ones = set b.entry.ones before.child said.asked; one = set b.entry.one before.child said.answer; twos = []; regular = true }
+      made_holds = record {
+        stores = refl;
+        in_context = ap (λ (e : Entry). e.context) was_entry ∙ b.serves.in_context;
+        ones_are = ap (λ (e : Entry). set e.ones before.child said.asked) was_entry;
+        one_is = ap (λ (e : Entry). set e.one before.child said.answer) was_entry;
+        twos_are = ap (λ (e : Entry). e.twos) was_entry ∙ stays.twos;
+        regular_is = ap (λ (e : Entry). e.regular) was_entry ∙ b.serves.regular;
+      }
+
+      stood : made.entry.origin ≡ Standing
+      stood = stands made.entry.origin (ap is_fresh was_entry ∙ b.serves.older)
+
+      pub same_before : undone entry_made ≡ undone made.entry
+      same_before =
+          (λ i. record {
+            context = made.entry.context;
+            outcome = made.entry.outcome;
+            ones = set_back made.entry.ones before.child said.asked made.had.asked made.has_said.asked i;
+            one = set_back made.entry.one before.child said.answer made.had.answer made.has_said.answer i;
+            twos = made.entry.twos;
+            regular = made.entry.regular;
+            origin = sym stood i;
+          } ∷ [])
+          ∙ sym (ap (λ (o : Origin). undone_from o made.entry) stood)
+
+      pub was_older : is_live (is_marked (out-Memo now)) made.entry ≡ false
+      was_older =
+          let mark : is_marked (out-Memo now) ≡ true = ap (λ (f : Option Former). is_some f) (own_mark memo before.child new) ∙ marked in
+          ap (λ (t : Bool). is_live t made.entry) mark ∙ ap is_fresh was_entry ∙ b.serves.older
+
+      -- one step more, whose outcome is kept
+      pub put_again : (from to : ℕ) → Agrees m node now → IsSound m node (out-Memo now).below entry_made
+          → IsMissing (is_marked (out-Memo memo)) context (out-Memo memo).entries → Needs m node context (pair_at [] context) → to ≡ from + 1
+          → Passes m node (Needs m node context) now after from to true
+      put_again from to agrees sound missing need step =
+          subst (λ (z : Memo). Passes m node (Needs m node context) now z from to true) (sym made.changed)
+          (passes_put m node (Needs m node context) now before.entry made.entry entry_made context from to agrees made.at was_older same_before sound
+          (missing_again (map restyle b.entry.ones) refl before.child new missing) made_holds.in_context refl need step)
+
+      pub kept_again : IsKept (out-Memo after) context
+      kept_again =
+          subst (λ (z : Memo). IsKept (out-Memo z) context) (sym made.changed)
+          record {
+            entry = entry_made;
+            has = has_put now before.entry made.entry entry_made made.at was_older (fresh_live (is_marked (out-Memo now)) entry_made refl);
+            in_context = made_holds.in_context;
+          }
+
+      pub tidied_again : AreTidy (out-Memo now).below → IsTidy after
+      tidied_again h = subst IsTidy (sym made.changed) (tidy_put now before.entry made.entry entry_made made.at refl h)
+
+-- ---- a pass over a regular element again
+
+module _ (m : MetricsValue) (node : Node) (memo : Memo) (context : Context) (before : Earlier) (h : Agrees m node memo) (b : IsEarlier (out-Memo memo) context before)
+    (few : element_count node ≤ 65_536) (suits : Suits m node context)
+    (was asked : Question) (was_at : slice_get b.entry.ones before.child ≡ Some was) (is : asked ≡ restyled m (seen_of node) context was) (style : HasStyle asked)
+    (child : Node) (there : slice_get (out-Node node).children before.child ≡ Some child) (old new : Memo) (at : slice_get (out-Memo memo).below before.child ≡ Some old) where
+  abbrev asks : List Question
+  asks = set b.entry.ones before.child asked
+
+  o : asks ≡ map (restyled_at m (seen_of node) context before.child) b.entry.ones
+  o = asks_are_set m node memo context before h b was asked was_at is
+
+  own_ask : slice_get asks before.child ≡ Some asked
+  own_ask = asked_there m node memo context before h b was asked was_at is
+
+  styles : All HasStyle asks
+  styles = styles_again m node memo context before h b was asked was_at is style
+
+  pub proper : IsProper m node asked
+  proper = proper_again m node memo context before h b asks o suits styles before.child asked own_ask
+
+  pub goes : (P : Child → Type 0) → P record { place = before.child; node = child } → HasChild node asked.kid P
+  goes P holds = has_child m node memo context before h b asks o before.child asked child own_ask there P holds
+
+  pub first_again : asks ≡ first m (seen_of node) context
+  first_again = first_is m node memo context before h b asks o
+
+  pub child_unfit : in_range m child asked.context ≡ false → in_range m node context ≡ false
+  child_unfit bad =
+      let n = goes (λ (x : Child). x.node ≡ child) refl in
+      let p = goes (λ (x : Child). x.place ≡ before.child) refl in
+      ones_false _ _ _ _ (range_waves m node node context refl asks first_again (map (answer_of m node) asks) refl _ refl)
+      (broken m node asks before.child asked child (slice_get_within asks before.child asked own_ask) (sym (get_or_from_slice_get asks before.child asked asked own_ask))
+      (in_flow node child asked.kid before.child n p) bad)
+
+  module _ (from mid : ℕ) (done : Bool) (pass : Passes m child (Needs m child asked.context) old new from mid done) where
+    pub passed_child : Passes m node (Needs m node context) memo (now m node memo context before h b new) from mid done
+    passed_child = pass_again m node memo context before h b asks o asked own_ask child there old new at pass.keeps from mid done pass
+
+  -- where the child's pass is done
+  module _ (from mid : ℕ) (pass : Passes m child (Needs m child asked.context) old new from mid true)
+      (answer : Answer) (e : answer ≡ (lay m child asked.context).answer) (kept : IsKept (out-Memo new) asked.context) where
+    abbrev answers : List Answer
+    answers = set b.entry.one before.child answer
+
+    abbrev below_now : List Memo
+    below_now = (out-Memo (now m node memo context before h b new)).below
+
+    agrees : Agrees m node (now m node memo context before h b new)
+    agrees = (passed_child from mid true pass).agrees
+
+    pub stored : AreAnswers answers
+    stored = stored_again m node memo context before h b asks o asked own_ask child there old new at pass.keeps answer e answers refl agrees kept few
+
+    named : AllByRecursion (NamesKept node below_now) asks
+    named = named_again m node memo context before h b asks o asked own_ask child there old new at pass.keeps answer e answers refl agrees kept
+
+    waves : Waves m node node context asks [] answers []
+    waves = waves_again m node memo context before h b asks o asked own_ask child there old new at pass.keeps answer e answers refl agrees kept
+
+    pub laid : equation m (seen_of node) context answers [] ≡ lay m node context
+    laid = waves_lay waves
+
+    pub unfit : outcome_fits (equation m (seen_of node) context answers []) ≡ false → in_range m node context ≡ false
+    unfit = waves_unfit waves
+
+    pub fit : outcome_fits (equation m (seen_of node) context answers []) ≡ true → in_range m node context ≡ true
+    fit fits =
+        waves_fit waves (still_sized m node memo context before h b) fits
+        (fits_again m node memo context before h b asks o asked own_ask child there old new at pass.keeps answer e answers refl agrees kept) refl
+
+    -- nothing is kept
+    pub step_only : (to : ℕ) → IsMissing (is_marked (out-Memo memo)) context (out-Memo memo).entries → to ≡ mid + 1
+        → Passes m node (Needs m node context) memo (now m node memo context before h b new) from to false
+    step_only to missing step =
+        passes_both m (passed_child from mid true pass)
+        (passes_step m node (Needs m node context) (now m node memo context before h b new) context mid to agrees (missing_again m node memo context before h b asks o before.child new missing)
+        record { element = node; made = (refl, refl) } step)
+
+    -- the entry is made anew
+    module _ (after : Memo) (outcome : Outcome) (out_is : outcome ≡ equation m (seen_of node) context answers [])
+        (made : IsMadeAgain (now m node memo context before h b new) after before outcome record { asked = asked; answer = answer }) where
+      pub passed_all : (to : ℕ) → outcome_fits outcome ≡ true
+          → IsMissing (is_marked (out-Memo memo)) context (out-Memo memo).entries → to ≡ mid + 1 → Passes m node (Needs m node context) memo after from to true
+      passed_all to fits missing step =
+          let entry = entry_made m node memo context before h b new after outcome record { asked = asked; answer = answer } made in
+          let holds = made_holds m node memo context before h b new after outcome record { asked = asked; answer = answer } made in
+          let sound : IsSound m node below_now entry =
+          sound_made waves below_now entry outcome true holds out_is suits (fit (ap outcome_fits (sym out_is) ∙ fits)) styles named tt
+          (λ _. regular_again m node memo context before h b asks o) in
+          passes_both m (passed_child from mid true pass)
+          (put_again m node memo context before h b new after outcome record { asked = asked; answer = answer } made mid to agrees sound missing
+          record { element = node; made = (refl, refl) } step)

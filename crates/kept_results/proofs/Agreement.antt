@@ -1,17 +1,18 @@
 -- How a memo goes on to agree with its tree.
-use Rattle.std.proofs.Common.{◌≡◌, ◌∙◌, inl, inr, refl, sym, ap, subst, ℕ, zero, suc, Bool, true, true≢false, List, [], ◌∷◌, ◌++◌, length, length-set, set, Some, slice_get}
+use Rattle.std.proofs.Common.{◌≡◌, ◌∙◌, inl, inr, refl, sym, ap, subst, ℕ, zero, suc, Bool, true, false, true≢false, List, [], ◌∷◌, ◌++◌, length, length-set, set, Some, slice_get}
 use Rattle.std.proofs.lemmas.Option.{none-some, same_Some}
 use Rattle.font_metrics.specs.Metrics.{MetricsValue}
 use Rattle.math_tree.specs.declared.node.Node.{Node}
 use Rattle.math_tree.specs.declared.node.Node.TheViews.{out-Node}
 use Rattle.layout_model.specs.declared.context.Context.{Context}
 use Rattle.layout_model.specs.declared.context.Question.{Question}
-use Rattle.kept_results.specs.Kept.{Agrees, AreApart, HasEntry, Holds, HoldsIn, HoldsOne, IsKept, IsMemoOf, IsMissing, IsSound, Keeps, NamesKept, StandAt, is_live, is_marked}
+use Rattle.kept_results.specs.Kept.{Agrees, AreApart, HasEntry, Holds, HoldsIn, HoldsOne, IsKept, IsMemoOf, IsMissing, IsSound, Keeps, NamesKept, StandAt, is_fresh, is_live, is_marked}
+use Rattle.kept_results.specs.Looking.{with_entry}
 use Rattle.kept_results.specs.declared.memo.Entry.{Entry}
 use Rattle.kept_results.specs.declared.memo.Memo.{Memo}
 use Rattle.kept_results.specs.declared.memo.Memo.TheOpen.{Memo-F}
 use Rattle.kept_results.specs.declared.memo.Memo.TheViews.{out-Memo, out-roll-Memo, roll-Memo}
-use Rattle.kept_results.proofs.Lists.{all_both, all_then, one_place, pushed, push_cases, set_cases, still_cases, still_first}
+use Rattle.kept_results.proofs.Lists.{all_both, all_then, one_place, pushed, push_cases, set_cases, set_here, still_cases, still_first}
 
 -- ---- layers that are changed
 
@@ -93,6 +94,29 @@ module _ (memo : Memo) (more : Entry) where
       let has : HasEntry (added memo more) more = record { place = length (out-Memo memo).entries; at = pushed (out-Memo memo).entries more; live = live } in
       subst (λ (l : Memo-F Memo). HasEntry l more) (sym (out-roll-Memo (added memo more))) has
 
+-- an entry that is no older one is put in place of an older one
+module _ (memo : Memo) (place : ℕ) (old new : Entry) (at : slice_get (out-Memo memo).entries place ≡ Some old) (older : is_live (is_marked (out-Memo memo)) old ≡ false) where
+  still_there : (entry : Entry) → HasEntry (out-Memo memo) entry → HasEntry (with_entry memo place new) entry
+  still_there entry h =
+      elim (still_cases (out-Memo memo).entries place h.place new entry h.at) [
+        | inl p ↦ absurd (true≢false (sym h.live ∙ ap (is_live (is_marked (out-Memo memo))) (one_place (out-Memo memo).entries h.place place entry old p.0 h.at at) ∙ older))
+        | inr e ↦ record { place = h.place; at = e; live = h.live }
+      ]
+
+  holds_put : (path : List ℕ) (entry : Entry) → Holds path memo entry → HoldsIn path (with_entry memo place new) entry
+  holds_put [] entry h = still_there entry h
+  holds_put (j ∷ path) entry h = h
+
+  pub keeps_put : Keeps memo (roll-Memo (with_entry memo place new))
+  keeps_put = record {
+    at = λ path entry h. subst (λ (l : Memo-F Memo). HoldsIn path l entry) (sym (out-roll-Memo (with_entry memo place new))) (holds_put path entry h);
+  }
+
+  pub has_put : is_live (is_marked (out-Memo memo)) new ≡ true → HasEntry (out-Memo (roll-Memo (with_entry memo place new))) new
+  has_put live =
+      let has : HasEntry (with_entry memo place new) new = record { place = place; at = set_here (out-Memo memo).entries place new old at; live = live } in
+      subst (λ (l : Memo-F Memo). HasEntry l new) (sym (out-roll-Memo (with_entry memo place new))) has
+
 -- ---- entries in a context
 
 -- there is one, and there is none
@@ -109,6 +133,20 @@ apart_added marked [] more h k = (λ _. tt, tt)
 apart_added marked (e ∷ entries) more h k = (
   λ live. all_both _ entries (more ∷ []) (h.0 live) (λ _ is. k.0 live (sym is), tt),
   apart_added marked entries more h.1 k.1,
+)
+
+missing_put : (marked : Bool) (context : Context) (entries : List Entry) (place : ℕ) (new : Entry) → IsMissing marked context entries
+    → (is_live marked new ≡ true → new.context ≡ context → ⊥) → IsMissing marked context (set entries place new)
+missing_put marked context [] place new h k = tt
+missing_put marked context (e ∷ entries) zero new h k = (k, h.1)
+missing_put marked context (e ∷ entries) (suc place) new h k = (h.0, missing_put marked context entries place new h.1 k)
+
+apart_put : (marked : Bool) (entries : List Entry) (place : ℕ) (new : Entry) → AreApart marked entries → IsMissing marked new.context entries → AreApart marked (set entries place new)
+apart_put marked [] place new h k = tt
+apart_put marked (e ∷ entries) zero new h k = (λ _. k.1, h.1)
+apart_put marked (e ∷ entries) (suc place) new h k = (
+  λ live. missing_put marked e.context entries place new (h.0 live) (λ _ is. k.0 live (sym is)),
+  apart_put marked entries place new h.1 k.1,
 )
 
 -- ---- the state
@@ -169,6 +207,7 @@ module _ (m : MetricsValue) where
               sized = s.sized;
               ones = s.ones;
               styled = s.styled;
+              twos = s.twos;
               as_many = s.as_many;
               others = λ index question answer x y other.
                   let k = s.others index question answer x y other in
@@ -183,7 +222,7 @@ module _ (m : MetricsValue) where
 
   -- one sound entry more
   pub agrees_added : (node : Node) (memo : Memo) (more : Entry) → Agrees m node memo → IsSound m node (out-Memo memo).below more
-      → IsMissing (is_marked (out-Memo memo)) more.context (out-Memo memo).entries → more.fresh ≡ true → Agrees m node (roll-Memo (added memo more))
+      → IsMissing (is_marked (out-Memo memo)) more.context (out-Memo memo).entries → is_fresh more ≡ true → Agrees m node (roll-Memo (added memo more))
   agrees_added node memo more h sound missing fresh =
       let here = h.at [] node memo (refl, refl) in
       let own : IsMemoOf m node (added memo more) = record {
@@ -197,8 +236,30 @@ module _ (m : MetricsValue) where
         apart = apart_added (is_marked (out-Memo memo)) (out-Memo memo).entries more here.apart missing;
         stays = λ but alike i entry at older regular.
             elim (push_cases (out-Memo memo).entries more entry i at) [
-              | inl p ↦ absurd (true≢false (sym fresh ∙ ap (λ (e : Entry). e.fresh) (sym p) ∙ older))
+              | inl p ↦ absurd (true≢false (sym fresh ∙ ap is_fresh (sym p) ∙ older))
               | inr q ↦ here.stays but alike i entry q older regular
             ];
       } in
       agrees_made node (added memo more) own (λ j kid kept f g. agrees_child node memo j kid kept h f g)
+
+  -- a sound entry in place of an older one
+  pub agrees_put : (node : Node) (memo : Memo) (place : ℕ) (new : Entry) → Agrees m node memo → IsSound m node (out-Memo memo).below new
+      → IsMissing (is_marked (out-Memo memo)) new.context (out-Memo memo).entries → is_fresh new ≡ true → Agrees m node (roll-Memo (with_entry memo place new))
+  agrees_put node memo place new h sound missing fresh =
+      let here = h.at [] node memo (refl, refl) in
+      let own : IsMemoOf m node (with_entry memo place new) = record {
+        facts_are = here.facts_are;
+        as_many = here.as_many;
+        sound = λ entry has.
+            elim (set_cases (out-Memo memo).entries place has.place new entry has.at) [
+              | inl p ↦ subst (IsSound m node (out-Memo memo).below) (sym p.1) sound
+              | inr q ↦ here.sound entry record { place = has.place; at = q; live = has.live }
+            ];
+        apart = apart_put (is_marked (out-Memo memo)) (out-Memo memo).entries place new here.apart missing;
+        stays = λ but alike i entry at older regular.
+            elim (set_cases (out-Memo memo).entries place i new entry at) [
+              | inl p ↦ absurd (true≢false (sym fresh ∙ ap is_fresh (sym p.1) ∙ older))
+              | inr q ↦ here.stays but alike i entry q older regular
+            ];
+      } in
+      agrees_made node (with_entry memo place new) own (λ j kid kept f g. agrees_child node memo j kid kept h f g)

@@ -1,18 +1,22 @@
 -- What a pass adds to a memo: what was there before is as it was, and how many entries there are.
-use Rattle.std.proofs.Common.{◌≡◌, ◌∙◌, sym, ap, ℕ, zero, suc, ◌+◌, arith, Bool, true, false, cond, not, List, [], ◌∷◌, ◌++◌, filter, get_or, length, length-append, map, set, Some, slice_get, None}
+use Rattle.std.proofs.Common.{◌≡◌, ◌∙◌, sym, ap, ℕ, zero, suc, ◌+◌, arith, Bool, true, false, cond, List, [], ◌∷◌, ◌++◌, filter, get_or, length, length-append, map, set, Some, slice_get, None}
 use Rattle.std.proofs.lemmas.List.{append-nil, map-set}
 use Rattle.std.proofs.lemmas.List.Elements.{filter-append}
+use Rattle.std.proofs.lemmas.Grind.{flat_map-append}
 use Rattle.std.proofs.lemmas.List.Sums.{sum_by-set}
 use Rattle.std.proofs.lemmas.Option.{get_or_from_slice_get, none-some, same_Some, slice_get-map, slice_get_within}
 use Rattle.std.specs.List.{sum}
 use Rattle.std.specs.Option.{option_map}
-use Rattle.kept_results.specs.Ends.{kept_count, live_in, not_fresh, sealed, sealed_layer, settled_all, stripped, stripped_layer}
+use Rattle.kept_results.specs.Ends.{all_undone, kept_count, live_in, sealed, sealed_layer, settled_all, stripped, stripped_layer, undone, undone_from}
 use Rattle.kept_results.specs.Kept.{is_live, is_marked}
+use Rattle.kept_results.specs.Looking.{with_entry}
 use Rattle.kept_results.specs.declared.memo.Entry.{Entry}
 use Rattle.kept_results.specs.declared.memo.Memo.{Memo}
 use Rattle.kept_results.specs.declared.memo.Memo.TheFolds.{fold-roll-Memo, fold_out-Memo}
 use Rattle.kept_results.specs.declared.memo.Memo.TheOpen.{Memo-F}
 use Rattle.kept_results.specs.declared.memo.Memo.TheViews.{out-Memo, roll-Memo}
+use Rattle.kept_results.specs.declared.memo.Origin.{Origin}
+use Rattle.kept_results.specs.declared.memo.Origin.TheVariants.{Made}
 use Rattle.kept_results.proofs.Agreement.{added, renewed}
 
 -- ---- the folds, layer by layer
@@ -21,7 +25,7 @@ abbrev pub stripped_over : Memo-F Memo → Memo
 stripped_over layer = roll-Memo record {
   former = layer.former;
   facts = layer.facts;
-  entries = not_fresh layer.entries;
+  entries = all_undone layer.entries;
   below = map stripped layer.below;
 }
 
@@ -56,15 +60,13 @@ count_roll = fold-roll-Memo ℕ live_in
 passed : {X : Type 0} (test : X → Bool) (x : X) → test x ≡ true → filter test (x ∷ []) ≡ x ∷ []
 passed test x h = ap (λ (b : Bool). cond b (x ∷ []) []) h
 
-failed : {X : Type 0} (test : X → Bool) (x : X) → test x ≡ false → filter test (x ∷ []) ≡ []
-failed test x h = ap (λ (b : Bool). cond b (x ∷ []) []) h
-
 module _ (memo : Memo) (more : Entry) where
-  pub stripped_added : more.fresh ≡ true → stripped (roll-Memo (added memo more)) ≡ stripped memo
-  stripped_added fresh =
+  pub stripped_added : more.origin ≡ Made → stripped (roll-Memo (added memo more)) ≡ stripped memo
+  stripped_added made =
       let entries : List Entry = (out-Memo memo).entries in
-      let same : not_fresh (entries ++ more ∷ []) ≡ not_fresh entries =
-      filter-append (λ entry. not entry.fresh) entries (more ∷ []) ∙ ap (λ (l : List Entry). not_fresh entries ++ l) (failed (λ entry. not entry.fresh) more (ap not fresh)) ∙ append-nil (not_fresh entries) in
+      let none : all_undone (more ∷ []) ≡ [] = ap (λ (origin : Origin). undone_from origin more ++ []) made in
+      let same : all_undone (entries ++ more ∷ []) ≡ all_undone entries =
+      flat_map-append undone entries (more ∷ []) ∙ ap (λ (l : List Entry). all_undone entries ++ l) none ∙ append-nil (all_undone entries) in
       stripped_roll (added memo more)
       ∙ ap (λ (l : List Entry). roll-Memo record {
         former = (out-Memo memo).former;
@@ -80,6 +82,44 @@ module _ (memo : Memo) (more : Entry) where
       let one = ap length (filter-append test entries (more ∷ []) ∙ ap (λ (l : List Entry). filter test entries ++ l) (passed test more live)) in
       let long = length-append (filter test entries) (more ∷ []) in
       omega (arith, count_roll (added memo more), count_out memo, one, long)
+
+-- ---- an entry in place of another
+
+module _ {X : Type 0} (test : X → Bool) where
+  one_more : (xs : List X) (place : ℕ) (old new : X) → slice_get xs place ≡ Some old → test old ≡ false → test new ≡ true
+      → length (filter test (set xs place new)) ≡ length (filter test xs) + 1
+  one_more [] place old new at f t = absurd (none-some old at)
+  one_more (x ∷ xs) zero old new at f t =
+      let more = ap (λ (b : Bool). length (cond b (new ∷ filter test xs) (filter test xs))) t in
+      let same = ap (λ (b : Bool). length (cond b (x ∷ filter test xs) (filter test xs))) (ap test (same_Some x old at) ∙ f) in
+      omega (arith, more, same)
+  one_more (x ∷ xs) (suc place) old new at f t = by (test x) (one_more xs place old new at f t)
+    where
+      by : (b : Bool) → length (filter test (set xs place new)) ≡ length (filter test xs) + 1
+          → length (cond b (x ∷ filter test (set xs place new)) (filter test (set xs place new))) ≡ length (cond b (x ∷ filter test xs) (filter test xs)) + 1
+      by true h = omega (arith, h)
+      by false h = h
+
+same_undone : (entries : List Entry) (place : ℕ) (old new : Entry) → slice_get entries place ≡ Some old → undone new ≡ undone old → all_undone (set entries place new) ≡ all_undone entries
+same_undone [] place old new at e = absurd (none-some old at)
+same_undone (x ∷ entries) zero old new at e = ap (λ (l : List Entry). l ++ all_undone entries) (e ∙ ap undone (sym (same_Some x old at)))
+same_undone (x ∷ entries) (suc place) old new at e = ap (λ (l : List Entry). undone x ++ l) (same_undone entries place old new at e)
+
+module _ (memo : Memo) (place : ℕ) (old new : Entry) (at : slice_get (out-Memo memo).entries place ≡ Some old) where
+  pub stripped_put : undone new ≡ undone old → stripped (roll-Memo (with_entry memo place new)) ≡ stripped memo
+  stripped_put e =
+      stripped_roll (with_entry memo place new)
+      ∙ ap (λ (l : List Entry). roll-Memo record {
+        former = (out-Memo memo).former;
+        facts = (out-Memo memo).facts;
+        entries = l;
+        below = map stripped (out-Memo memo).below;
+      }) (same_undone (out-Memo memo).entries place old new at e) ∙ sym (stripped_out memo)
+
+  pub count_put : is_live (is_marked (out-Memo memo)) old ≡ false → is_live (is_marked (out-Memo memo)) new ≡ true → kept_count (roll-Memo (with_entry memo place new)) ≡ kept_count memo + 1
+  count_put f t =
+      let one = one_more (is_live (is_marked (out-Memo memo))) (out-Memo memo).entries place old new at f t in
+      omega (arith, count_roll (with_entry memo place new), count_out memo, one)
 
 -- ---- one memo below is renewed
 
@@ -98,7 +138,7 @@ module _ (memo : Memo) (place : ℕ) (old new : Memo) (at : slice_get (out-Memo 
       ∙ ap (λ (l : List Memo). roll-Memo record {
         former = (out-Memo memo).former;
         facts = (out-Memo memo).facts;
-        entries = not_fresh (out-Memo memo).entries;
+        entries = all_undone (out-Memo memo).entries;
         below = l;
       }) (map_same below place at e) ∙ sym (stripped_out memo)
 

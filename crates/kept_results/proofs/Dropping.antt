@@ -1,9 +1,13 @@
 -- Loops that drop entries in place, from the last one on.
-use Rattle.std.proofs.Common.{◌≡◌, ◌∙◌, refl, sym, ap, ℕ, suc, ◌+◌, ◌<◌, ◌≤◌, arith, Bool, true, false, cond, not, List, [], ◌∷◌, ◌++◌, append_assoc, drop, drop-cons, filter, get_or, length, length-append, length-take, map, remove, set, take}
+use Rattle.std.proofs.Common.{◌≡◌, ◌∙◌, refl, sym, ap, ℕ, zero, suc, ◌+◌, ◌<◌, ◌≤◌, arith, Bool, true, false, cond, List, [], ◌∷◌, ◌++◌, append_assoc, drop, drop-cons, filter, get_or, length, length-append, length-take, map, remove, set, take, Option, None, Some, slice_get}
 use Rattle.std.proofs.lemmas.List.{take_more}
-use Rattle.kept_results.specs.Ends.{not_fresh, settled, settled_all}
+use Rattle.std.specs.Option.{option_map_or}
+use Rattle.kept_results.specs.Ends.{all_undone, restored, settled, settled_all, undone_from}
 use Rattle.kept_results.specs.Kept.{is_live}
+use Rattle.kept_results.specs.declared.memo.Before.{Before}
 use Rattle.kept_results.specs.declared.memo.Entry.{Entry}
+use Rattle.kept_results.specs.declared.memo.Origin.{Origin}
+use Rattle.kept_results.specs.declared.memo.Origin.TheVariants.{Made, Remade, Standing}
 
 -- the first entries are as they were, and of the others those that are kept
 pub record Dropped (kept : List Entry → List Entry) (before now : List Entry) (left : ℕ) : Type 0 where
@@ -20,6 +24,11 @@ module _ {X : Type 0} where
   mid_remove : (f r : List X) (x : X) → remove (f ++ x ∷ r) (length f) ≡ f ++ r
   mid_remove [] r x = refl
   mid_remove (y ∷ f) r x = ap (λ l. y ∷ l) (mid_remove f r x)
+
+  pub remove_set : (xs : List X) (i : ℕ) (x : X) → remove (set xs i x) i ≡ remove xs i
+  remove_set [] i x = refl
+  remove_set (y ∷ xs) zero x = refl
+  remove_set (y ∷ xs) (suc i) x = ap (λ l. y ∷ l) (remove_set xs i x)
 
   mid_set : (f r : List X) (x y : X) → set (f ++ x ∷ r) (length f) y ≡ f ++ y ∷ r
   mid_set [] r x y = refl
@@ -87,11 +96,21 @@ module _ (kept : List Entry → List Entry) (before now : List Entry) (left at :
 
 -- ---- which are kept
 
-fresh_goes : (x : Entry) (l : List Entry) → x.fresh ≡ true → not_fresh (x ∷ l) ≡ not_fresh l
-fresh_goes x l h = ap (λ (b : Bool). cond (not b) (x ∷ not_fresh l) (not_fresh l)) h
+made_goes : (x : Entry) (l : List Entry) → x.origin ≡ Made → all_undone (x ∷ l) ≡ all_undone l
+made_goes x l h = ap (λ (origin : Origin). undone_from origin x ++ all_undone l) h
 
-other_stays : (x : Entry) (l : List Entry) → x.fresh ≡ false → not_fresh (x ∷ l) ≡ x ∷ not_fresh l
-other_stays x l h = ap (λ (b : Bool). cond (not b) (x ∷ not_fresh l) (not_fresh l)) h
+standing_stays : (x : Entry) (l : List Entry) → x.origin ≡ Standing → all_undone (x ∷ l) ≡ x ∷ all_undone l
+standing_stays x l h = ap (λ (origin : Origin). undone_from origin x ++ all_undone l) h
+
+remade_back : (x : Entry) (was : List Before) (before : Before) (l : List Entry) → x.origin ≡ Remade was → slice_get was 0 ≡ Some before → all_undone (x ∷ l) ≡ restored x before ∷ all_undone l
+remade_back x was before l h e =
+    ap (λ (origin : Origin). undone_from origin x ++ all_undone l) h
+    ∙ ap (λ (o : Option Before). option_map_or (λ (b : Before). restored x b ∷ []) o [] ++ all_undone l) e
+
+remade_goes : (x : Entry) (was : List Before) (l : List Entry) → x.origin ≡ Remade was → slice_get was 0 ≡ None → all_undone (x ∷ l) ≡ all_undone l
+remade_goes x was l h e =
+    ap (λ (origin : Origin). undone_from origin x ++ all_undone l) h
+    ∙ ap (λ (o : Option Before). option_map_or (λ (b : Before). restored x b ∷ []) o [] ++ all_undone l) e
 
 older_goes : (marked : Bool) (x : Entry) (l : List Entry) → is_live marked x ≡ false → settled_all marked (x ∷ l) ≡ settled_all marked l
 older_goes marked x l h = ap (λ (b : Bool). map settled (cond b (x ∷ filter (is_live marked) l) (filter (is_live marked) l))) h
@@ -100,11 +119,18 @@ live_stays : (marked : Bool) (x : Entry) (l : List Entry) → is_live marked x �
 live_stays marked x l h = ap (λ (b : Bool). map settled (cond b (x ∷ filter (is_live marked) l) (filter (is_live marked) l))) h
 
 module _ (before now : List Entry) (left at : ℕ) (e : at + 1 ≡ left) (x : Entry) (is : x ≡ get_or now at x) where
-  pub fresh_out : Dropped not_fresh before now left → x.fresh ≡ true → Dropped not_fresh before (remove now at) at
-  fresh_out h f = turn_remove not_fresh before now left at e h x (read not_fresh before now left at e h x is) (fresh_goes x (drop (suc at) before) f)
+  pub made_out : Dropped all_undone before now left → x.origin ≡ Made → Dropped all_undone before (remove now at) at
+  made_out h f = turn_remove all_undone before now left at e h x (read all_undone before now left at e h x is) (made_goes x (drop (suc at) before) f)
 
-  pub other_in : Dropped not_fresh before now left → x.fresh ≡ false → Dropped not_fresh before now at
-  other_in h f = turn_stay not_fresh before now left at e h x (read not_fresh before now left at e h x is) (other_stays x (drop (suc at) before) f)
+  pub standing_in : Dropped all_undone before now left → x.origin ≡ Standing → Dropped all_undone before now at
+  standing_in h f = turn_stay all_undone before now left at e h x (read all_undone before now left at e h x is) (standing_stays x (drop (suc at) before) f)
+
+  pub remade_in : (was : List Before) (one : Before) → Dropped all_undone before now left → x.origin ≡ Remade was → slice_get was 0 ≡ Some one → Dropped all_undone before (set now at (restored x one)) at
+  remade_in was one h f g =
+      turn_set all_undone before now left at e h x (restored x one) (read all_undone before now left at e h x is) (remade_back x was one (drop (suc at) before) f g)
+
+  pub remade_out : (was : List Before) → Dropped all_undone before now left → x.origin ≡ Remade was → slice_get was 0 ≡ None → Dropped all_undone before (remove now at) at
+  remade_out was h f g = turn_remove all_undone before now left at e h x (read all_undone before now left at e h x is) (remade_goes x was (drop (suc at) before) f g)
 
   pub older_out : (marked : Bool) → Dropped (settled_all marked) before now left → is_live marked x ≡ false → Dropped (settled_all marked) before (remove now at) at
   older_out marked h f =

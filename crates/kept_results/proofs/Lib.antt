@@ -8,6 +8,7 @@ pub mod Lists
 pub mod Made
 pub mod Passing
 pub mod Renewing
+mod Replacing
 pub mod Sealing
 pub mod Shown
 pub mod Tidying

@@ -1,5 +1,5 @@
 -- Lists of which one item is set, or that have one item more.
-use Rattle.std.proofs.Common.{◌≡◌, ◌∙◌, ◌⊎◌, inl, inr, refl, sym, ap, subst, ℕ, zero, suc, ◌+◌, ◌<◌, List, [], ◌∷◌, ◌++◌, length, map, set, take, get_or, Some, slice_get}
+use Rattle.std.proofs.Common.{◌≡◌, ◌∙◌, ◌⊎◌, inl, inr, refl, sym, ap, subst, ℕ, zero, suc, ◌+◌, ◌<◌, ◌≤◌, arith, List, [], ◌∷◌, ◌++◌, length, map, set, take, get_or, Some, slice_get}
 use Rattle.std.proofs.lemmas.List.{take_more}
 use Rattle.std.proofs.lemmas.Option.{none-some, same_Some}
 use Rattle.std.specs.List.{AllByRecursion}
@@ -47,6 +47,34 @@ module _ {X : Type 0} where
   set_here [] i x y h = absurd (none-some y h)
   set_here (z ∷ xs) zero x y h = refl
   set_here (z ∷ xs) (suc i) x y h = set_here xs i x y h
+
+  -- past the end nothing is set
+  pub set_past : (xs : List X) (i : ℕ) (x : X) → length xs ≤ i → set xs i x ≡ xs
+  set_past [] i x l = refl
+  set_past (z ∷ xs) zero x l = absurd (omega (arith, l))
+  set_past (z ∷ xs) (suc i) x l = ap (λ (ys : List X). z ∷ ys) (set_past xs i x (omega (arith, l)))
+
+  pub set_twice : (xs : List X) (i : ℕ) (x y : X) → set (set xs i x) i y ≡ set xs i y
+  set_twice [] i x y = refl
+  set_twice (z ∷ xs) zero x y = refl
+  set_twice (z ∷ xs) (suc i) x y = ap (λ (ys : List X). z ∷ ys) (set_twice xs i x y)
+
+  -- what was there is set again
+  pub set_same : (xs : List X) (i : ℕ) (x : X) → slice_get xs i ≡ Some x → set xs i x ≡ xs
+  set_same [] i x h = absurd (none-some x h)
+  set_same (z ∷ xs) zero x h = ap (λ (y : X). y ∷ xs) (sym (same_Some z x h))
+  set_same (z ∷ xs) (suc i) x h = ap (λ (ys : List X). z ∷ ys) (set_same xs i x h)
+
+  pub set_back : (xs : List X) (i : ℕ) (x y : X) → slice_get xs i ≡ Some y → set (set xs i x) i y ≡ xs
+  set_back xs i x y h = set_twice xs i x y ∙ set_same xs i y h
+
+  -- what is there was set, or stands at another place
+  pub set_other : (xs : List X) (i j : ℕ) (x y : X) → slice_get (set xs i x) j ≡ Some y → ((j ≡ i) × (y ≡ x)) ⊎ ((j ≡ i → ⊥) × (slice_get xs j ≡ Some y))
+  set_other [] i j x y h = absurd (none-some y h)
+  set_other (z ∷ xs) zero zero x y h = inl (refl, sym (same_Some x y h))
+  set_other (z ∷ xs) zero (suc j) x y h = inr (λ e. omega (arith, e), h)
+  set_other (z ∷ xs) (suc i) zero x y h = inr (λ e. omega (arith, e), h)
+  set_other (z ∷ xs) (suc i) (suc j) x y h = elim (set_other xs i j x y h) [ inl p ↦ inl (ap suc p.0, p.1) | inr q ↦ inr (λ e. q.0 (omega (arith, e)), q.1) ]
 
   -- ---- one item more at the end
 

@@ -4,8 +4,8 @@ use Rattle.std.proofs.lemmas.List.{map-append, take_more}
 use Rattle.std.proofs.lemmas.List.Sums.{sum_by-append, sum_by-cons}
 use Rattle.std.proofs.lemmas.Option.{get_or_from_slice_get, slice_get_within}
 use Rattle.std.specs.List.{sum}
-use Rattle.kept_results.specs.Ends.{fresh_count, fresh_in, is_fresh, sealed, settled}
-use Rattle.kept_results.specs.Kept.{is_live, is_marked}
+use Rattle.kept_results.specs.Ends.{fresh_count, fresh_in, sealed, settled}
+use Rattle.kept_results.specs.Kept.{is_fresh, is_live, is_marked}
 use Rattle.kept_results.specs.Tidy.{IsTidy, is_calm}
 use Rattle.kept_results.specs.declared.memo.Entry.{Entry}
 use Rattle.kept_results.specs.declared.memo.Memo.{Memo}

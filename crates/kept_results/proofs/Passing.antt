@@ -1,19 +1,22 @@
 -- How passes follow one another.
-use Rattle.std.proofs.Common.{◌≡◌, ◌∙◌, refl, sym, subst, ℕ, ◌+◌, arith, Bool, true, false, List, [], ◌∷◌, ◌++◌, length-append, map, Some, slice_get}
+use Rattle.std.proofs.Common.{◌≡◌, ◌∙◌, refl, sym, ap, subst, ℕ, ◌+◌, arith, Bool, true, false, List, [], ◌∷◌, ◌++◌, length-append, map, Some, slice_get}
 use Rattle.std.proofs.lemmas.List.{length-map}
 use Rattle.std.specs.List.{AllByRecursion}
 use Rattle.font_metrics.specs.Metrics.{MetricsValue}
 use Rattle.math_tree.specs.declared.node.Node.{Node}
 use Rattle.math_tree.specs.declared.node.Node.TheViews.{out-Node}
 use Rattle.layout_model.specs.declared.context.Context.{Context}
-use Rattle.kept_results.specs.Kept.{Agrees, Holds, HoldsIn, IsMissing, IsSound, is_live, is_marked}
+use Rattle.kept_results.specs.Kept.{Agrees, Holds, HoldsIn, IsMissing, IsSound, is_fresh, is_live, is_made, is_marked}
+use Rattle.kept_results.specs.Ends.{undone}
+use Rattle.kept_results.specs.Looking.{with_entry}
 use Rattle.kept_results.specs.Passes.{HasNoRepeat, IsPairKept, IsPairMissing, Pair, Passes}
 use Rattle.kept_results.specs.declared.memo.Entry.{Entry}
 use Rattle.kept_results.specs.declared.memo.Memo.{Memo}
 use Rattle.kept_results.specs.declared.memo.Memo.TheOpen.{Memo-F}
+use Rattle.kept_results.specs.declared.memo.Origin.TheVariants.{Made}
 use Rattle.kept_results.specs.declared.memo.Memo.TheViews.{out-Memo, out-roll-Memo, roll-Memo}
-use Rattle.kept_results.proofs.Agreement.{added, agrees_added, agrees_renewed, has_added, holds_one, keeps_added, keeps_both, keeps_renewed, keeps_same, missing_kept, renewed}
-use Rattle.kept_results.proofs.Counts.{count_added, count_renewed, stripped_added, stripped_renewed}
+use Rattle.kept_results.proofs.Agreement.{added, agrees_added, agrees_put, agrees_renewed, has_added, has_put, holds_one, keeps_added, keeps_both, keeps_put, keeps_renewed, keeps_same, missing_kept, renewed}
+use Rattle.kept_results.proofs.Counts.{count_added, count_put, count_renewed, stripped_added, stripped_put, stripped_renewed}
 use Rattle.kept_results.proofs.Lists.{all_both, all_mapped, all_then, one_place, set_here}
 
 -- ---- pairs
@@ -50,7 +53,7 @@ no_repeat_both memo (p ∷ ps) qs h k held missing = (
 
 -- ---- passes
 
-pub fresh_live : (marked : Bool) (entry : Entry) → entry.fresh ≡ true → is_live marked entry ≡ true
+pub fresh_live : (marked : Bool) (entry : Entry) → is_fresh entry ≡ true → is_live marked entry ≡ true
 fresh_live true entry h = h
 fresh_live false entry h = refl
 
@@ -153,13 +156,14 @@ module _ (m : MetricsValue) where
 
   -- one step, whose outcome is kept
   pub passes_added : (node : Node) (needed : Pair → Type 0) (memo : Memo) (more : Entry) (context : Context) (from to : ℕ) → Agrees m node memo
-      → IsSound m node (out-Memo memo).below more → IsMissing (is_marked (out-Memo memo)) context (out-Memo memo).entries → more.context ≡ context → more.fresh ≡ true
+      → IsSound m node (out-Memo memo).below more → IsMissing (is_marked (out-Memo memo)) context (out-Memo memo).entries → more.context ≡ context → more.origin ≡ Made
       → needed (pair_at [] context) → to ≡ from + 1 → Passes m node needed memo (roll-Memo (added memo more)) from to true
-  passes_added node needed memo more context from to h sound missing is fresh need step =
+  passes_added node needed memo more context from to h sound missing is made need step =
+      let fresh : is_fresh more ≡ true = ap is_made made in
       let live = fresh_live (is_marked (out-Memo memo)) more fresh in
       record {
         agrees = agrees_added m node memo more h sound (subst (λ (x : Context). IsMissing (is_marked (out-Memo memo)) x (out-Memo memo).entries) (sym is) missing) fresh;
-        same = stripped_added memo more fresh;
+        same = stripped_added memo more made;
         keeps = keeps_added memo more;
         pairs = pair_at [] context ∷ [];
         steps = step;
@@ -168,6 +172,26 @@ module _ (m : MetricsValue) where
         apart = (tt, tt);
         kept = λ _. (record { entry = more; held = has_added memo more live; in_context = is }, tt);
         grown = λ _. count_added memo more live;
+      }
+
+  -- one step, whose outcome is kept in place of an older one
+  pub passes_put : (node : Node) (needed : Pair → Type 0) (memo : Memo) (place : ℕ) (old new : Entry) (context : Context) (from to : ℕ) → Agrees m node memo
+      → slice_get (out-Memo memo).entries place ≡ Some old → is_live (is_marked (out-Memo memo)) old ≡ false → undone new ≡ undone old
+      → IsSound m node (out-Memo memo).below new → IsMissing (is_marked (out-Memo memo)) context (out-Memo memo).entries → new.context ≡ context → is_fresh new ≡ true
+      → needed (pair_at [] context) → to ≡ from + 1 → Passes m node needed memo (roll-Memo (with_entry memo place new)) from to true
+  passes_put node needed memo place old new context from to h at older same sound missing is fresh need step =
+      let live = fresh_live (is_marked (out-Memo memo)) new fresh in
+      record {
+        agrees = agrees_put m node memo place new h sound (subst (λ (x : Context). IsMissing (is_marked (out-Memo memo)) x (out-Memo memo).entries) (sym is) missing) fresh;
+        same = stripped_put memo place old new at same;
+        keeps = keeps_put memo place old new at older;
+        pairs = pair_at [] context ∷ [];
+        steps = step;
+        needed_all = (need, tt);
+        missing = (missing_here memo context missing, tt);
+        apart = (tt, tt);
+        kept = λ _. (record { entry = new; held = has_put memo place old new at older live; in_context = is }, tt);
+        grown = λ _. count_put memo place old new at older live;
       }
 
   -- one step, whose outcome isn't kept

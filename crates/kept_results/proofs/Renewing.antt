@@ -3,7 +3,7 @@ use Rattle.std.proofs.Common.{◌≡◌, ◌∙◌, refl, sym, ap, ℕ, zero, su
 use Rattle.std.proofs.lemmas.Option.{get_or_from_slice_get, none-some, same_Some, slice_get_within}
 use denote.Param.Weighed.{most, at_most}
 use Rattle.kept_results.specs.Kept.{is_marked}
-use Rattle.kept_results.specs.Ends.{not_fresh, sealed, settled_all, stripped}
+use Rattle.kept_results.specs.Ends.{all_undone, sealed, settled_all, stripped}
 use Rattle.kept_results.specs.declared.memo.Entry.{Entry}
 use Rattle.kept_results.specs.declared.memo.Memo.{Memo}
 use Rattle.kept_results.specs.declared.memo.Memo.TheOpen.{Memo-F}
@@ -79,13 +79,13 @@ module _ (renew : Memo → Memo) where
   below_all before now at h e = h.below ∙ renewed_all (out-Memo before).below at e
 
 pub stripped_end : (before now : Memo) (at : ℕ) (entries : List Entry) → Renewed stripped before now at → length (out-Memo before).below ≡ at
-    → entries ≡ not_fresh (out-Memo now).entries
+    → entries ≡ all_undone (out-Memo now).entries
     → roll-Memo record { former = (out-Memo now).former; facts = (out-Memo now).facts; entries = entries; below = (out-Memo now).below } ≡ stripped before
 stripped_end before now at entries h l e =
     (λ i. roll-Memo record {
       former = h.former i;
       facts = h.facts i;
-      entries = (e ∙ ap not_fresh h.entries) i;
+      entries = (e ∙ ap all_undone h.entries) i;
       below = below_all stripped before now at h l i;
     }) ∙ sym (stripped_out before)
 

@@ -8,7 +8,7 @@ use Rattle.font_metrics.specs.Metrics.{MetricsValue}
 use Rattle.math_tree.specs.declared.node.Node.{Node}
 use Rattle.layout_model.specs.declared.context.Context.{Context}
 use Rattle.layout_model.specs.declared.context.Question.{Question}
-use Rattle.kept_results.specs.Ends.{not_fresh, sealed, settled, settled_all, stripped}
+use Rattle.kept_results.specs.Ends.{all_undone, sealed, settled, settled_all, stripped}
 use Rattle.kept_results.specs.Kept.{Agrees, AreApart, HasEntry, Holds, HoldsIn, IsMemoOf, IsMissing, IsSound, NamesKept, StandAt, is_live, is_marked}
 use Rattle.kept_results.specs.Laws.{SealLaw, WasHeld, is_unmarked, unmarked_layer}
 use Rattle.kept_results.specs.declared.memo.Entry.{Entry}
@@ -158,7 +158,7 @@ module _ (m : MetricsValue) where
 
 -- ---- no marks, no flags
 
-none_fresh : (entries : List Entry) → not_fresh (map settled entries) ≡ map settled entries
+none_fresh : (entries : List Entry) → all_undone (map settled entries) ≡ map settled entries
 none_fresh [] = refl
 none_fresh (x ∷ entries) = ap (λ (l : List Entry). settled x ∷ l) (none_fresh entries)
 

@@ -1,21 +1,24 @@
 -- Tidy memos: how they stay so, and that a calm one is sealed already.
-use Rattle.std.proofs.Common.{◌≡◌, ◌∙◌, inl, inr, refl, sym, ap, subst, ℕ, zero, suc, Bool, true, false, true≢false, cond, not, ◌&&◌, List, [], ◌∷◌, filter, length, map, set, Option, None, Some, slice_get, is_some}
+use Rattle.std.proofs.Common.{◌≡◌, ◌∙◌, inl, inr, refl, sym, ap, subst, ℕ, zero, suc, Bool, true, false, true≢false, not, ◌&&◌, ◌≤◌, arith, List, [], ◌∷◌, ◌++◌, length, map, set, Option, None, Some, slice_get, is_some}
 use Rattle.std.proofs.lemmas.Option.{none-some, same_Some, slice_get-map}
-use Rattle.std.specs.List.{list_all}
+use Rattle.std.specs.List.{AllByRecursion, list_all}
 use Rattle.std.specs.Option.{option_map}
 use Rattle.kept_results.specs.declared.memo.Former.{Former}
-use Rattle.kept_results.specs.Ends.{not_fresh, sealed, settled, settled_all, stripped}
-use Rattle.kept_results.specs.Kept.{is_marked}
+use Rattle.kept_results.specs.Ends.{all_undone, restored, sealed, settled, settled_all, stripped, undone_from}
+use Rattle.kept_results.specs.Kept.{is_fresh, is_made, is_marked}
 use Rattle.kept_results.specs.Laws.{is_unmarked, unmarked_layer}
 use Rattle.kept_results.specs.Tidy.{AreTidy, StaysCalm, IsTidy, IsMemoAt, has_none_fresh, is_calm}
+use Rattle.kept_results.specs.Looking.{with_entry}
 use Rattle.kept_results.specs.declared.memo.Entry.{Entry}
 use Rattle.kept_results.specs.declared.memo.Memo.{Memo}
+use Rattle.kept_results.specs.declared.memo.Origin.{Origin}
+use Rattle.kept_results.specs.declared.memo.Origin.TheVariants.{Made, Remade, Standing}
 use Rattle.kept_results.specs.declared.memo.Memo.TheFolds.{fold_out-Memo, ind-Memo}
 use Rattle.kept_results.specs.declared.memo.Memo.TheOpen.{Memo-F}
 use Rattle.kept_results.specs.declared.memo.Memo.TheViews.{out-Memo, out-roll-Memo, roll-Memo, roll-out-Memo}
 use Rattle.kept_results.proofs.Agreement.{added, renewed}
 use Rattle.kept_results.proofs.Counts.{sealed_out, stripped_out}
-use Rattle.kept_results.proofs.Lists.{pushed, set_cases}
+use Rattle.kept_results.proofs.Lists.{pushed, set_cases, set_here}
 
 -- ---- two tests
 
@@ -42,14 +45,14 @@ calm_mark layer h = not_true (is_marked layer) (first_holds (not (is_marked laye
 calm_entries : (layer : Memo-F Memo) → is_calm layer ≡ true → has_none_fresh layer.entries ≡ true
 calm_entries layer h = second_holds (not (is_marked layer)) (has_none_fresh layer.entries) h
 
-not_fresh_at : (entries : List Entry) (place : ℕ) (entry : Entry) → has_none_fresh entries ≡ true → slice_get entries place ≡ Some entry → entry.fresh ≡ false
+pub not_fresh_at : (entries : List Entry) (place : ℕ) (entry : Entry) → has_none_fresh entries ≡ true → slice_get entries place ≡ Some entry → is_fresh entry ≡ false
 not_fresh_at [] place entry h at = absurd (none-some entry at)
 not_fresh_at (x ∷ entries) zero entry h at =
-    ap (λ (e : Entry). e.fresh) (sym (same_Some x entry at)) ∙ not_true x.fresh (first_holds (not x.fresh) (has_none_fresh entries) h)
-not_fresh_at (x ∷ entries) (suc place) entry h at = not_fresh_at entries place entry (second_holds (not x.fresh) (has_none_fresh entries) h) at
+    ap is_fresh (sym (same_Some x entry at)) ∙ not_true (is_fresh x) (first_holds (not (is_fresh x)) (has_none_fresh entries) h)
+not_fresh_at (x ∷ entries) (suc place) entry h at = not_fresh_at entries place entry (second_holds (not (is_fresh x)) (has_none_fresh entries) h) at
 
 -- an element with a fresh entry isn't calm
-pub fresh_calms : (layer : Memo-F Memo) (place : ℕ) (entry : Entry) → slice_get layer.entries place ≡ Some entry → entry.fresh ≡ true → StaysCalm layer
+pub fresh_calms : (layer : Memo-F Memo) (place : ℕ) (entry : Entry) → slice_get layer.entries place ≡ Some entry → is_fresh entry ≡ true → StaysCalm layer
 fresh_calms layer place entry at fresh calm = absurd (true≢false (sym fresh ∙ not_fresh_at layer.entries place entry (calm_entries layer calm) at))
 
 -- a marked one isn't
@@ -79,13 +82,24 @@ tidy_renewed memo place old new at h f =
     subst (λ (l : Memo-F Memo). AreTidy l.below) (sym (out-roll-Memo (renewed memo place new))) (tidy_set (out-Memo memo).below place new h (f (h place old at)))
 
 -- one fresh entry more
-pub tidy_added : (memo : Memo) (more : Entry) → more.fresh ≡ true → AreTidy (out-Memo memo).below → IsTidy (roll-Memo (added memo more))
+pub tidy_added : (memo : Memo) (more : Entry) → is_fresh more ≡ true → AreTidy (out-Memo memo).below → IsTidy (roll-Memo (added memo more))
 tidy_added memo more fresh h =
     tidy_made (added memo more) (fresh_calms (added memo more) (length (out-Memo memo).entries) more (pushed (out-Memo memo).entries more) fresh) h
 
+-- a fresh entry in place of another
+pub tidy_put : (memo : Memo) (place : ℕ) (old new : Entry) → slice_get (out-Memo memo).entries place ≡ Some old → is_fresh new ≡ true → AreTidy (out-Memo memo).below
+    → IsTidy (roll-Memo (with_entry memo place new))
+tidy_put memo place old new at fresh h =
+    tidy_made (with_entry memo place new) (fresh_calms (with_entry memo place new) place new (set_here (out-Memo memo).entries place new old at) fresh) h
+
 -- ---- a calm memo is sealed already
 
-settled_same : (entry : Entry) → entry.fresh ≡ false → settled entry ≡ entry
+pub stands : (origin : Origin) → is_made origin ≡ false → origin ≡ Standing
+stands Standing h = refl
+stands Made h = absurd (true≢false h)
+stands (Remade was) h = absurd (true≢false h)
+
+pub settled_same : (entry : Entry) → is_fresh entry ≡ false → settled entry ≡ entry
 settled_same entry h = λ i. record {
   context = entry.context;
   outcome = entry.outcome;
@@ -93,14 +107,14 @@ settled_same entry h = λ i. record {
   one = entry.one;
   twos = entry.twos;
   regular = entry.regular;
-  fresh = sym h i;
+  origin = sym (stands entry.origin h) i;
 }
 
 settled_none : (entries : List Entry) → has_none_fresh entries ≡ true → settled_all false entries ≡ entries
 settled_none [] h = refl
 settled_none (x ∷ entries) h =
-    ap (λ (e : Entry). e ∷ settled_all false entries) (settled_same x (not_true x.fresh (first_holds (not x.fresh) (has_none_fresh entries) h)))
-    ∙ ap (λ (l : List Entry). x ∷ l) (settled_none entries (second_holds (not x.fresh) (has_none_fresh entries) h))
+    ap (λ (e : Entry). e ∷ settled_all false entries) (settled_same x (not_true (is_fresh x) (first_holds (not (is_fresh x)) (has_none_fresh entries) h)))
+    ∙ ap (λ (l : List Entry). x ∷ l) (settled_none entries (second_holds (not (is_fresh x)) (has_none_fresh entries) h))
 
 former_none : (former : Option Former) → is_some former ≡ false → None ≡ former
 former_none None h = refl
@@ -139,13 +153,38 @@ calm_sealed = ind-Memo IsSealedCalm (λ x y is tidy calm.
 
 -- ---- a memo without marks and flags is tidy
 
-passed_all : {X : Type 0} (test : X → Bool) (xs : List X) → list_all test (filter test xs) ≡ true
-passed_all test [] = refl
-passed_all {X} test (x ∷ xs) = by (passed_all test xs) (test x) refl
+fewer : (entries : List Entry) → length (all_undone entries) ≤ length entries
+fewer [] = omega arith
+fewer (x ∷ entries) = by x.origin (fewer entries)
   where
-    by : list_all test (filter test xs) ≡ true → (b : Bool) → test x ≡ b → list_all test (cond b (x ∷ filter test xs) (filter test xs)) ≡ true
-    by rest true e = both_hold (test x) (list_all test (filter test xs)) e rest
-    by rest false e = rest
+    by : (origin : Origin) → length (all_undone entries) ≤ length entries → length (undone_from origin x ++ all_undone entries) ≤ suc (length entries)
+    by Standing l = omega (arith, l)
+    by Made l = omega (arith, l)
+    by (Remade []) l = omega (arith, l)
+    by (Remade (before ∷ was)) l = omega (arith, l)
+
+tail_of : List Entry → List Entry
+tail_of [] = []
+tail_of (x ∷ entries) = entries
+
+-- where undoing leaves entries as they are, none is fresh
+pub none_made : (entries : List Entry) → all_undone entries ≡ entries → has_none_fresh entries ≡ true
+unfolding tail_of
+none_made [] h = refl
+none_made (x ∷ entries) h = by (none_made entries) x.origin refl h
+  where
+    by : (all_undone entries ≡ entries → has_none_fresh entries ≡ true) → (origin : Origin) → x.origin ≡ origin → undone_from origin x ++ all_undone entries ≡ x ∷ entries → (not (is_fresh x) && has_none_fresh entries) ≡ true
+    by rest Standing e k = both_hold (not (is_fresh x)) (has_none_fresh entries) (ap (λ (o : Origin). not (is_made o)) e) (rest (ap tail_of k))
+    by rest Made e k = let l = fewer entries in absurd (omega (arith, l, ap length k))
+    by rest (Remade []) e k = let l = fewer entries in absurd (omega (arith, l, ap length k))
+    by rest (Remade (before ∷ was)) e k =
+        let same : restored x before ≡ x = same_Some (restored x before) x (ap (λ (l : List Entry). slice_get l 0) k) in
+        absurd (true≢false (sym (ap is_fresh same ∙ ap is_made e)))
+
+pub none_each : (entries : List Entry) → has_none_fresh entries ≡ true → AllByRecursion (λ entry. is_fresh entry ≡ false) entries
+none_each [] h = tt
+none_each (x ∷ entries) h =
+    (not_true (is_fresh x) (first_holds (not (is_fresh x)) (has_none_fresh entries) h), none_each entries (second_holds (not (is_fresh x)) (has_none_fresh entries) h))
 
 -- an unmarked element without fresh entries, and so are all below it
 pub record IsClean (memo : Memo) : Type 0 where
@@ -156,7 +195,7 @@ abbrev stripped_layers : Memo → Memo-F Memo
 stripped_layers memo = record {
   former = (out-Memo memo).former;
   facts = (out-Memo memo).facts;
-  entries = not_fresh (out-Memo memo).entries;
+  entries = all_undone (out-Memo memo).entries;
   below = map stripped (out-Memo memo).below;
 }
 
@@ -174,10 +213,10 @@ each_holds (x ∷ tests) (suc place) b h at = each_holds tests place b (second_h
 clean_calm : (memo : Memo) → IsClean memo → is_calm (out-Memo memo) ≡ true
 clean_calm memo h =
     let layer : Memo-F Memo = out-Memo memo in
-    let entries : not_fresh layer.entries ≡ layer.entries = ap (λ (l : Memo-F Memo). l.entries) (plain_parts memo h.plain) in
+    let entries : all_undone layer.entries ≡ layer.entries = ap (λ (l : Memo-F Memo). l.entries) (plain_parts memo h.plain) in
     both_hold (not (is_marked layer)) (has_none_fresh layer.entries)
     (first_holds (not (is_marked layer)) (list_all (λ b. b) (map is_unmarked layer.below)) (unmarked_parts memo h.unmarked))
-    (ap has_none_fresh (sym entries) ∙ passed_all (λ entry. not entry.fresh) layer.entries)
+    (none_made layer.entries entries)
 
 clean_below : (memo : Memo) → IsClean memo → (place : ℕ) (below : Memo) → slice_get (out-Memo memo).below place ≡ Some below → IsClean below
 clean_below memo h place below at =

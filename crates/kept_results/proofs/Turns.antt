@@ -27,7 +27,7 @@ use Rattle.embellished.specs.Facts.{facts}
 use Rattle.math_tree.specs.declared.node.Node.TheViews.{out-Node}
 use Rattle.kept_results.specs.Contexts.{IsProper, Suits}
 use Rattle.kept_results.specs.Kept.{Agrees, IsKept, IsMissing, IsSound, Keeps, NamesKept, Stores}
-use Rattle.kept_results.specs.Looking.{HasAnswer, IsKeptNow, own_facts}
+use Rattle.kept_results.specs.Looking.{HasAnswer, IsEntryOf, own_facts}
 use Rattle.kept_results.specs.Passes.{AnswersNeed, Needs, Pair, Passes}
 use Rattle.kept_results.specs.Regular.{IsRegular}
 use Rattle.kept_results.specs.declared.memo.Entry.{Entry}
@@ -227,15 +227,16 @@ module _ {m : MetricsValue} {node shown : Node} {context : Context} {ones twos :
       (outcome_false (is_font_size (size_of m context.style)) (outcome_fits (lay m node context)) (ap outcome_fits (sym waves_lay) ∙ fit))
 
   -- the entry that is kept then is sound
-  pub sound_made : (before after : Memo) (outcome : Outcome) (regular : Bool) (kept : IsKeptNow before after context outcome record { ones = ones; one = one; twos = twos; regular = regular })
+  pub sound_made : (below : List Memo) (entry : Entry) (outcome : Outcome) (regular : Bool)
+      → IsEntryOf entry context outcome record { ones = ones; one = one; twos = twos; regular = regular }
       → outcome ≡ equation m (seen_of shown) context one two
       → Suits m node context → in_range m node context ≡ true → All HasStyle ones
-      → AllByRecursion (NamesKept node (out-Memo before).below) ones → AllByRecursion (NamesKept node (out-Memo before).below) twos
-      → (regular ≡ true → IsRegular m node context ones) → IsSound m node (out-Memo before).below kept.entry
-  sound_made before after outcome regular kept is suits fits styles h k same =
+      → AllByRecursion (NamesKept node below) ones → AllByRecursion (NamesKept node below) twos
+      → (regular ≡ true → IsRegular m node context ones) → IsSound m node below entry
+  sound_made below entry outcome regular kept is suits fits styles h k same =
       let here = kept.in_context in
       record {
-        stores = subst (Stores kept.entry) (is ∙ waves_lay ∙ ap (lay m node) (sym here)) kept.stores;
+        stores = subst (Stores entry) (is ∙ waves_lay ∙ ap (lay m node) (sym here)) kept.stores;
         suits = subst (Suits m node) (sym here) suits;
         fits = ap (in_range m node) here ∙ fits;
         ones = kept.ones_are ∙ first_are m node shown context w.shown_is ones w.ones_are ∙ ap (first m (seen_of node)) (sym here);
@@ -243,10 +244,10 @@ module _ {m : MetricsValue} {node shown : Node} {context : Context} {ones twos :
             ∙ ap (λ (c : Context). second m (seen_of node) c (map (answer_of m node) (first m (seen_of node) c))) (sym here);
         styled = subst (All HasStyle) (sym kept.ones_are) styles;
         one = kept.one_is ∙ w.one_is ∙ ap (map (answer_of m node)) (sym kept.ones_are);
-        ones_kept = subst (AllByRecursion (NamesKept node (out-Memo before).below)) (sym kept.ones_are) h;
-        twos_kept = subst (AllByRecursion (NamesKept node (out-Memo before).below)) (sym kept.twos_are) k;
+        ones_kept = subst (AllByRecursion (NamesKept node below)) (sym kept.ones_are) h;
+        twos_kept = subst (AllByRecursion (NamesKept node below)) (sym kept.twos_are) k;
         regular = λ e.
-            subst (λ (c : Context). IsRegular m node c kept.entry.ones) (sym here)
+            subst (λ (c : Context). IsRegular m node c entry.ones) (sym here)
             (subst (IsRegular m node context) (sym kept.ones_are) (same (sym kept.regular_is ∙ e)));
       }
 

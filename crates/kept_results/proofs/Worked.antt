@@ -1,5 +1,5 @@
 -- Worked figures: of three questions, that to the child on the way has its style found anew, and no other.
-use Rattle.std.proofs.Common.{◌≡◌, refl, ℕ, List, [], ◌∷◌, map}
+use Rattle.std.proofs.Common.{◌≡◌, refl, ℕ, [], ◌∷◌, map}
 use Rattle.font_metrics.specs.Metrics.{MetricsValue}
 use Rattle.op_dictionary.specs.declared.operator.Form.TheVariants.{Infix}
 use Rattle.embellished.specs.Seen.{Seen}

@@ -1,24 +1,48 @@
 -- How a pass ends: what it made is dropped again, or else what is older.
-use Rattle.std.specs.Prelude.{ℕ, ◌+◌, Bool, false, not, List, filter, length, map, None}
-use Rattle.std.specs.List.{sum}
-use Rattle.kept_results.specs.Kept.{is_live, is_marked}
+use Rattle.std.specs.Prelude.{ℕ, ◌+◌, Bool, List, [], ◌∷◌, filter, length, map, slice_get, slice_set, None}
+use Rattle.std.specs.List.{flat_map, sum}
+use Rattle.std.specs.Option.{option_map_or}
+use Rattle.kept_results.specs.Kept.{is_fresh, is_live, is_marked}
+use Rattle.kept_results.specs.declared.memo.Before.{Before}
 use Rattle.kept_results.specs.declared.memo.Entry.{Entry}
 use Rattle.kept_results.specs.declared.memo.Memo.{Memo}
+use Rattle.kept_results.specs.declared.memo.Origin.{Origin}
+use Rattle.kept_results.specs.declared.memo.Origin.TheVariants.{Made, Remade, Standing}
 use Rattle.kept_results.specs.declared.memo.Memo.TheFolds.{fold-Memo}
 use Rattle.kept_results.specs.declared.memo.Memo.TheOpen.{Memo-F}
 use Rattle.kept_results.specs.declared.memo.Memo.TheViews.{roll-Memo}
 
 -- ---- undone
 
--- the entries that the present pass didn't make
-abbrev pub not_fresh : List Entry → List Entry
-not_fresh entries = filter (λ entry. not entry.fresh) entries
+-- an entry as it was before the present pass made it anew
+abbrev pub restored : Entry → Before → Entry
+restored entry before = record {
+  context = entry.context;
+  outcome = before.outcome;
+  ones = slice_set entry.ones before.child before.said.asked;
+  one = slice_set entry.one before.child before.said.answer;
+  twos = entry.twos;
+  regular = entry.regular;
+  origin = Standing;
+}
+
+-- what there was of an entry before the present pass
+abbrev pub undone_from : Origin → Entry → List Entry
+undone_from Standing entry = entry ∷ []
+undone_from Made entry = []
+undone_from (Remade was) entry = option_map_or (λ before. restored entry before ∷ []) (slice_get was 0) []
+
+abbrev pub undone : Entry → List Entry
+undone entry = undone_from entry.origin entry
+
+abbrev pub all_undone : List Entry → List Entry
+all_undone entries = flat_map undone entries
 
 abbrev pub stripped_layer : Memo-F Memo → Memo
 stripped_layer layer = roll-Memo record {
   former = layer.former;
   facts = layer.facts;
-  entries = not_fresh layer.entries;
+  entries = all_undone layer.entries;
   below = layer.below;
 }
 
@@ -36,7 +60,7 @@ settled entry = record {
   one = entry.one;
   twos = entry.twos;
   regular = entry.regular;
-  fresh = false;
+  origin = Standing;
 }
 
 -- all but the older entries, none of which is fresh any more
@@ -63,10 +87,6 @@ live_in layer = length (filter (is_live (is_marked layer)) layer.entries) + sum 
 -- the number of entries that aren't older
 abbrev pub kept_count : Memo → ℕ
 kept_count memo = fold-Memo ℕ live_in memo
-
--- the present pass made an entry
-abbrev pub is_fresh : Entry → Bool
-is_fresh entry = entry.fresh
 
 abbrev pub fresh_in : Memo-F ℕ → ℕ
 fresh_in layer = length (filter is_fresh layer.entries) + sum layer.below

@@ -21,6 +21,8 @@ use Rattle.kept_results.specs.Contexts.{Suits}
 use Rattle.kept_results.specs.Regular.{IsRegular, restyled_at}
 use Rattle.kept_results.specs.declared.memo.Entry.{Entry}
 use Rattle.kept_results.specs.declared.memo.Memo.{Memo}
+use Rattle.kept_results.specs.declared.memo.Origin.{Origin}
+use Rattle.kept_results.specs.declared.memo.Origin.TheVariants.{Made, Remade, Standing}
 use Rattle.kept_results.specs.declared.memo.Memo.TheOpen.{Memo-F}
 use Rattle.kept_results.specs.declared.memo.Memo.TheViews.{out-Memo}
 
@@ -39,9 +41,18 @@ is_marked layer = is_some layer.former
 abbrev pub alike_but : {X : Type 0} → Memo-F X → Option ℕ
 alike_but layer = option_and_then (λ former. former.alike_but) layer.former
 
+-- the present pass made an entry, or made it anew out of one that stood
+abbrev pub is_made : Origin → Bool
+is_made Standing = false
+is_made Made = true
+is_made (Remade was) = true
+
+abbrev pub is_fresh : Entry → Bool
+is_fresh entry = is_made entry.origin
+
 -- an entry of a marked element that the present pass didn't make is an older one
 abbrev pub is_live : Bool → Entry → Bool
-is_live marked entry = not marked || entry.fresh
+is_live marked entry = not marked || is_fresh entry
 
 -- an element has this entry, and it is no older one
 pub record HasEntry (layer : Memo-F Memo) (entry : Entry) : Type 0 where
@@ -92,13 +103,14 @@ pub record IsSound (m : MetricsValue) (node : Node) (below : List Memo) (entry :
 
 -- a regular entry of before the edit, where only the child at a place may have another head and other answers since: its
 -- element is regular as the tree is now, in a size that a style may have; what it asked is what the element asks now, but for
--- the style of that child, and keeps the bounds of styles; what the other children answered is what they answer now, and is
--- kept
+-- the style of that child, and keeps the bounds of styles; it asked nothing in the second wave; what the other children
+-- answered is what they answer now, and is kept
 pub record StaysBut (m : MetricsValue) (node : Node) (below : List Memo) (place : ℕ) (entry : Entry) : Type 0 where
   pub regular : IsRegular m node entry.context entry.ones
   pub sized : is_font_size (size_of m entry.context.style) ≡ true
   pub ones : first m (seen_of node) entry.context ≡ map (restyled_at m (seen_of node) entry.context place) entry.ones
   pub styled : All HasStyle entry.ones
+  pub twos : entry.twos ≡ []
   pub as_many : length entry.one ≡ length entry.ones
   pub others : (index : ℕ) (question : Question) (answer : Answer) → slice_get entry.ones index ≡ Some question
       → slice_get entry.one index ≡ Some answer → (index ≡ place → ⊥) → (answer ≡ answer_of m node question) × NamesKept node below question
@@ -112,7 +124,7 @@ pub record IsMemoOf (m : MetricsValue) (node : Node) (layer : Memo-F Memo) : Typ
   pub sound : (entry : Entry) → HasEntry layer entry → IsSound m node layer.below entry
   pub apart : AreApart (is_marked layer) layer.entries
   pub stays : (child : ℕ) → alike_but layer ≡ Some child → (place : ℕ) (entry : Entry) → slice_get layer.entries place ≡ Some entry
-      → entry.fresh ≡ false → entry.regular ≡ true → StaysBut m node layer.below child entry
+      → is_fresh entry ≡ false → entry.regular ≡ true → StaysBut m node layer.below child entry
 
 -- an element of a tree and its memo, by the places of children down to it
 abbrev pub StandAt : List ℕ → Node → Memo → Node → Memo → Type 0

@@ -1,14 +1,18 @@
 -- What is found among the entries of an element, and how one more is kept.
-use Rattle.std.specs.Prelude.{◌≡◌, ℕ, ◌<◌, true, false, ◌++◌, ◌∷◌, [], length, Some, slice_get}
+use Rattle.std.specs.Prelude.{◌≡◌, ℕ, ◌<◌, true, false, List, ◌++◌, ◌∷◌, [], length, Some, slice_get, slice_set}
+use Rattle.std.specs.Option.{option_map_or}
 use Rattle.layout_model.specs.declared.context.Context.{Context}
+use Rattle.layout_model.specs.declared.context.Question.{Question}
 use Rattle.layout_model.specs.declared.outcome.Answer.{Answer}
 use Rattle.layout_model.specs.declared.outcome.Outcome.{Outcome}
 use Rattle.embellished.specs.declared.facts.Facts.{Facts}
-use Rattle.kept_results.specs.Kept.{HasEntry, Stores, alike_but}
+use Rattle.kept_results.specs.Kept.{HasEntry, Stores, alike_but, is_fresh}
 use Rattle.kept_results.specs.declared.earlier.Earlier.{Earlier}
 use Rattle.kept_results.specs.declared.entries.Asked.{Asked}
 use Rattle.kept_results.specs.declared.memo.Entry.{Entry}
 use Rattle.kept_results.specs.declared.memo.Memo.{Memo}
+use Rattle.kept_results.specs.declared.memo.Origin.TheVariants.{Made, Remade}
+use Rattle.kept_results.specs.declared.memo.Said.{Said}
 use Rattle.kept_results.specs.declared.memo.Memo.TheOpen.{Memo-F}
 use Rattle.kept_results.specs.declared.memo.Memo.TheViews.{out-Memo, roll-Memo}
 
@@ -23,7 +27,7 @@ pub record HasAnswer (layer : Memo-F Memo) (context : Context) (answer : Answer)
 
 -- an entry of before the present edit, in a context, of a regular element that asked the child at a place
 pub record CanServe (entry : Entry) (context : Context) (child : ℕ) : Type 0 where
-  pub older : entry.fresh ≡ false
+  pub older : is_fresh entry ≡ false
   pub regular : entry.regular ≡ true
   pub within : child < length entry.ones
   pub in_context : entry.context ≡ context
@@ -40,22 +44,81 @@ abbrev pub HasNoEarlier : Memo-F Memo → Context → Type 0
 HasNoEarlier layer context = (child : ℕ) → alike_but layer ≡ Some child → (place : ℕ) (entry : Entry)
     → slice_get layer.entries place ≡ Some entry → CanServe entry context child → ⊥
 
--- one fresh entry was added, in a context, with an outcome and what was asked for it
-pub record IsKeptNow (before after : Memo) (context : Context) (outcome : Outcome) (asked : Asked) : Type 0 where
-  pub entry : Entry
+-- an entry has this outcome, and this was asked for it
+pub record IsEntryOf (entry : Entry) (context : Context) (outcome : Outcome) (asked : Asked) : Type 0 where
   pub stores : Stores entry outcome
   pub in_context : entry.context ≡ context
   pub ones_are : entry.ones ≡ asked.ones
   pub one_is : entry.one ≡ asked.one
   pub twos_are : entry.twos ≡ asked.twos
   pub regular_is : entry.regular ≡ asked.regular
-  pub fresh : entry.fresh ≡ true
+
+-- one entry that the pass made was added, in a context, with an outcome and what was asked for it
+pub record IsKeptNow (before after : Memo) (context : Context) (outcome : Outcome) (asked : Asked) : Type 0 where
+  pub entry : Entry
+  pub holds : IsEntryOf entry context outcome asked
+  pub made : entry.origin ≡ Made
   pub added : after ≡ roll-Memo record {
     former = (out-Memo before).former;
     facts = (out-Memo before).facts;
     entries = (out-Memo before).entries ++ entry ∷ [];
     below = (out-Memo before).below;
   }
+
+-- ---- made anew
+
+-- what the entry at a place asked in the first wave, and what was answered
+abbrev pub ones_at : Memo-F Memo → ℕ → List Question
+ones_at layer place = option_map_or (λ entry. entry.ones) (slice_get layer.entries place) []
+
+abbrev pub one_at : Memo-F Memo → ℕ → List Answer
+one_at layer place = option_map_or (λ entry. entry.one) (slice_get layer.entries place) []
+
+-- an entry whose child at a place was asked something else, and answered something else
+abbrev pub turned : Entry → ℕ → Said → Entry
+turned entry child said = record {
+  context = entry.context;
+  outcome = entry.outcome;
+  ones = slice_set entry.ones child said.asked;
+  one = slice_set entry.one child said.answer;
+  twos = entry.twos;
+  regular = entry.regular;
+  origin = entry.origin;
+}
+
+-- with another outcome, it holds what it had before
+abbrev pub remade : Entry → Outcome → ℕ → Said → Entry
+remade entry outcome child said = record {
+  context = entry.context;
+  outcome = outcome;
+  ones = entry.ones;
+  one = entry.one;
+  twos = entry.twos;
+  regular = entry.regular;
+  origin = Remade (record { child = child; said = said; outcome = entry.outcome } ∷ []);
+}
+
+-- of the child at a place an entry has this question, and this answer to it
+pub record HasSaid (entry : Entry) (child : ℕ) (said : Said) : Type 0 where
+  pub asked : slice_get entry.ones child ≡ Some said.asked
+  pub answer : slice_get entry.one child ≡ Some said.answer
+
+-- another entry at a place
+abbrev pub with_entry : Memo → ℕ → Entry → Memo-F Memo
+with_entry memo place entry = record {
+  former = (out-Memo memo).former;
+  facts = (out-Memo memo).facts;
+  entries = slice_set (out-Memo memo).entries place entry;
+  below = (out-Memo memo).below;
+}
+
+-- an entry was made anew: the child on the way was asked and answered this, and so it has this outcome
+pub record IsMadeAgain (before after : Memo) (earlier : Earlier) (outcome : Outcome) (said : Said) : Type 0 where
+  pub entry : Entry
+  pub at : slice_get (out-Memo before).entries earlier.entry ≡ Some entry
+  pub had : Said
+  pub has_said : HasSaid entry earlier.child had
+  pub changed : after ≡ roll-Memo (with_entry before earlier.entry (remade (turned entry earlier.child said) outcome earlier.child had))
 
 -- what the element of a memo is among operators
 abbrev pub own_facts : Memo → Facts

@@ -1,14 +1,14 @@
 -- Where the end of a pass may stop: what the edit and the pass left alone.
 use Rattle.std.specs.Prelude.{◌≡◌, ℕ, Bool, true, not, ◌&&◌, List, [], ◌∷◌, Some, slice_get}
 use Rattle.std.specs.List.{list_all}
-use Rattle.kept_results.specs.Kept.{is_marked}
+use Rattle.kept_results.specs.Kept.{is_fresh, is_marked}
 use Rattle.kept_results.specs.declared.memo.Entry.{Entry}
 use Rattle.kept_results.specs.declared.memo.Memo.{Memo}
 use Rattle.kept_results.specs.declared.memo.Memo.TheOpen.{Memo-F}
 use Rattle.kept_results.specs.declared.memo.Memo.TheViews.{out-Memo}
 
 abbrev pub has_none_fresh : List Entry → Bool
-has_none_fresh entries = list_all (λ entry. not entry.fresh) entries
+has_none_fresh entries = list_all (λ entry. not (is_fresh entry)) entries
 
 -- the edit and the pass left an element alone: it is unmarked, and none of its own entries is fresh
 abbrev pub is_calm : {X : Type 0} → Memo-F X → Bool

@@ -9,11 +9,10 @@ ghost use Rattle.layout_model.specs.Questions.{first};
 ghost use Rattle.layout_model.specs.Range.{outcome_fits};
 ghost use Rattle.child_questions.specs.Surveys.{has_one_wave, survey_of};
 ghost use Rattle.kept_results.specs.Looking.{CanServe, HasNoEarlier, IsEarlier};
-ghost use Rattle.kept_results.specs.Regular.{AreInOrder, IsRegular, restyled_at};
+ghost use Rattle.kept_results.specs.Regular.{AreInOrder, IsRegular, restyled};
 ghost use Rattle.kept_results.specs.declared.memo.Memo.TheViews.{out-Memo};
 
 use crate::contexts::{copy_of_stretch, is_same};
-use crate::entries::copy_of;
 use crate::memo::{Entry, Memo};
 use crate::whole_view::WholeView;
 use embellished::{NodeView, View};
@@ -54,54 +53,37 @@ fn can_serve(entry: &Entry, context: &Context, child: usize) -> bool
     ensures yes { result ≡ true → CanServe entry.now context.now child }
     ensures no { result ≡ false → CanServe entry.now context.now child → ⊥ }
 {
-    !entry.fresh && entry.regular && child < entry.ones.len() && is_same(&entry.context, context)
+    !entry.is_fresh()
+        && entry.regular
+        && child < entry.ones.len()
+        && is_same(&entry.context, context)
 }
 
-/// What an element asks in the first wave: what it asked before the edit, but for the style of its child on
-/// the way there.
+/// A question of before the edit again, with the style that the child has now to which it goes.
 pub fn asked_again(
     alloc: Global,
     view: &WholeView,
-    asks: &List<Question>,
-    child: usize,
+    asked: &Question,
     context: &Context,
     metrics: &Metrics,
-) -> Result<List<Question>, Memory>
-    requires within { child < length (seen_of view.now.node.now).kids }
-    requires styled { All HasStyle asks.now }
+) -> Result<Question, Memory>
+    requires within { asked.now.kid < length (seen_of view.now.node.now).kids }
     requires style { IsStyle context.now.style }
     requires size { size_of metrics.now context.now.style ≤ℤ pos (2 ^ 20) }
-    ensures ok { IfOk result (λ all. all ≡ map (restyled_at metrics.now (seen_of view.now.node.now) context.now child) asks.now) }
-    ensures styles { IfOk result (All HasStyle) }
+    ensures ok { IfOk result (λ again. again ≡ restyled metrics.now (seen_of view.now.node.now) context.now asked.now) }
+    ensures style { IfOk result HasStyle }
 {
-    let mut all = List::with_room(alloc, asks.len())?;
-    for asked in asks.as_slice() {
-        let style = if asked.kid as usize == child {
-            style_of_kid(view, context, metrics, child)
-        } else {
-            asked.context.style
-        };
-        all.push(Question {
-            kid: asked.kid,
-            context: Context {
-                style,
-                form: asked.context.form,
-                stretch: copy_of_stretch(alloc, &asked.context.stretch)?,
-            },
-        })?;
-    }
-    Ok(all)
-}
-
-/// The same answers again.
-pub fn copies_of(alloc: Global, answers: &List<Answer>) -> Result<List<Answer>, Memory>
-    ensures { IfOk result (λ all. all ≡ answers.now) }
-{
-    let mut all = List::with_room(alloc, answers.len())?;
-    for answer in answers.as_slice() {
-        all.push(copy_of(alloc, answer)?)?;
-    }
-    Ok(all)
+    let style = style_of_kid(view, context, metrics, asked.kid as usize);
+    let stretch = copy_of_stretch(alloc, &asked.context.stretch)?;
+    let context = Context {
+        style,
+        form: asked.context.form,
+        stretch,
+    };
+    Ok(Question {
+        kid: asked.kid,
+        context,
+    })
 }
 
 /// The outcome of a regular element over what it asks and the answers to that. It takes one step.

@@ -1,19 +1,23 @@
-ghost use Rattle.std.specs.Prelude.{◌≡◌, ◌-◌, ◌^◌, filter, length, min};
-ghost use Rattle.kept_results.specs.Ends.{fresh_count, is_fresh, not_fresh, sealed, settled_all, stripped};
+ghost use Rattle.std.specs.Prelude.{◌≡◌, ◌-◌, ◌^◌, filter, length, min, slice_get};
+ghost use Rattle.kept_results.specs.Ends.{all_undone, fresh_count, sealed, settled, settled_all, stripped};
+ghost use Rattle.kept_results.specs.Kept.{is_fresh};
 ghost use Rattle.kept_results.specs.Tidy.{IsTidy};
 
 use crate::entries::{is_calm, is_live, is_marked};
-use crate::memo::{Entry, Memo};
+use crate::memo::{Before, Entry, Memo, Origin};
+use crate::remaking::restore;
 use fixed_units::List;
+use std::mem;
 
-/// Undoes a pass: what it made is dropped, and all else is as before it. It takes no memory.
+/// Undoes a pass: what it made is dropped, what it made anew is what it was, and all else is as before it.
+/// It takes no memory.
 pub fn undo_pass(memo: &mut Memo)
     ensures { memo.new ≡ stripped memo.old }
 {
     for at in 0..memo.below.len() {
         undo_pass(memo.below.at_mut(at));
     }
-    drop_fresh(&mut memo.entries);
+    undo_entries(&mut memo.entries);
 }
 
 /// Ends a pass that was done: older entries are dropped, and marks and flags are cleared. It goes only
@@ -53,28 +57,52 @@ fn count_fresh(entries: &[Entry]) -> usize
 {
     let mut made = 0;
     for entry in entries {
-        if entry.fresh {
+        if entry.is_fresh() {
             made += 1;
         }
     }
     made
 }
 
-/// Drops the entries that the present pass made. They stand at the end, and so nothing is moved.
-fn drop_fresh(entries: &mut List<Entry>)
-    ensures { entries.new ≡ not_fresh entries.old }
+/// Drops the entries that the present pass made, and makes those that it made out of others what they were.
+fn undo_entries(entries: &mut List<Entry>)
+    ensures { entries.new ≡ all_undone entries.old }
 {
     let count = entries.len();
     for step in 0..count {
         let at = count - 1 - step;
-        if entries.as_slice()[at].fresh {
-            entries.remove(at);
+        match take_origin(entries.at_mut(at)) {
+            Origin::Standing => {}
+            Origin::Made => drop(entries.remove(at)),
+            Origin::Remade(was) => match first_of(was) {
+                Some(before) => restore(entries.at_mut(at), before),
+                None => drop(entries.remove(at)),
+            },
         }
     }
 }
 
-/// Drops the older entries, and clears the flags of the others. These stand at the end, so that only
-/// they are moved.
+/// What stands first in a list.
+fn first_of(was: List<Before>) -> Option<Before>
+    ensures { result ≡ slice_get was 0 }
+{
+    let mut was = was;
+    if was.is_empty() {
+        None
+    } else {
+        Some(was.remove(0))
+    }
+}
+
+/// How an entry stands to the present pass; from then on it is one that the pass left as it was.
+fn take_origin(entry: &mut Entry) -> Origin
+    ensures origin { result ≡ entry.old.origin }
+    ensures entry { entry.new ≡ settled entry.old }
+{
+    mem::replace(&mut entry.origin, Origin::Standing)
+}
+
+/// Drops the older entries, and clears the flags of the others.
 fn drop_older(entries: &mut List<Entry>, marked: bool)
     ensures { entries.new ≡ settled_all marked entries.old }
 {
@@ -82,9 +110,9 @@ fn drop_older(entries: &mut List<Entry>, marked: bool)
     for step in 0..count {
         let at = count - 1 - step;
         if is_live(marked, &entries.as_slice()[at]) {
-            entries.at_mut(at).fresh = false;
+            drop(take_origin(entries.at_mut(at)));
         } else {
-            entries.remove(at);
+            drop(entries.remove(at));
         }
     }
 }

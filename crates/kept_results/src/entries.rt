@@ -5,7 +5,7 @@ ghost use Rattle.kept_results.specs.Tidy.{has_none_fresh, is_calm};
 ghost use Rattle.kept_results.specs.declared.memo.Memo.TheViews.{out-Memo};
 
 use crate::contexts::{copy_of as copy_of_context, is_same};
-use crate::memo::{Entry, Memo};
+use crate::memo::{Entry, Memo, Origin};
 use embellished::Facts;
 use fixed_units::{List, Memory};
 use layout_model::{Answer, Context, Outcome, Question};
@@ -31,7 +31,7 @@ fn has_none_fresh(entries: &[Entry]) -> bool
     ensures { result ≡ has_none_fresh entries.now }
 {
     for entry in entries {
-        if entry.fresh {
+        if entry.is_fresh() {
             return false;
         }
     }
@@ -42,7 +42,7 @@ fn has_none_fresh(entries: &[Entry]) -> bool
 pub fn is_live(marked: bool, entry: &Entry) -> bool
     ensures { result ≡ is_live marked entry.now }
 {
-    !marked || entry.fresh
+    !marked || entry.is_fresh()
 }
 
 /// Is this an entry in a context, and no older one?
@@ -109,7 +109,7 @@ pub fn keep(
         one: asked.one,
         twos: asked.twos,
         regular: asked.regular,
-        fresh: true,
+        origin: Origin::Made,
     })?;
     Ok(answer)
 }

@@ -21,10 +21,11 @@ mod entries; // one element's entries
 pub mod laws; // what holds of kept layouts
 mod memo; // Entry, Former, Memo
 mod relay; // a pass over an element
+mod remaking; // an entry that a pass makes anew, and what it was
 mod whole_view; // a view of an element that has all its children in flow
 
 pub use contexts::is_same;
 pub use ends::{seal, undo_pass};
 pub use entries::{facts_below, is_marked};
-pub use memo::{Entry, Former, Memo};
+pub use memo::{Before, Entry, Former, Memo, Origin, Said};
 pub use relay::relay_element;

@@ -1,3 +1,6 @@
+ghost use Rattle.std.specs.Prelude.{◌≡◌};
+ghost use Rattle.kept_results.specs.Kept.{is_fresh};
+
 use embellished::Facts;
 use fixed_units::List;
 use layout_model::{Answer, Context, Outcome, Question};
@@ -16,8 +19,45 @@ pub struct Entry {
     /// Whether it is known that all children are in flow, none of them a prescript, and that each is asked
     /// once, in order, in the first wave, whatever they answer.
     pub regular: bool,
+    /// How it stands to the present pass.
+    pub origin: Origin,
+}
+
+/// How an entry stands to the present pass.
+#[derive(Debug, Drop)]
+pub enum Origin {
+    /// The pass left it as it was.
+    Standing,
+    /// The pass made it.
+    Made,
+    /// The pass made it out of one that stood, of which this was otherwise: one item, on the heap, so that
+    /// no other entry is larger for it.
+    Remade(List<Before>),
+}
+
+/// What was otherwise of an entry before the present pass made it anew.
+#[derive(Debug, Drop)]
+pub struct Before {
+    /// The place of the child that was asked again.
+    pub child: usize,
+    pub said: Said,
+    pub outcome: Outcome,
+}
+
+/// What a child was asked, and what it answered.
+#[derive(Debug, Drop)]
+pub struct Said {
+    pub asked: Question,
+    pub answer: Answer,
+}
+
+impl Entry {
     /// Whether the present pass made it.
-    pub fresh: bool,
+    pub fn is_fresh(&self) -> bool
+        ensures { result ≡ is_fresh self.now }
+    {
+        !matches!(self.origin, Origin::Standing)
+    }
 }
 
 /// What an element was before the present edit, which changes it or one below it.

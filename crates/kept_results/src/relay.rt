@@ -11,9 +11,10 @@ ghost use Rattle.kept_results.specs.Passes.{AnswersNeed, Needs, Passes};
 ghost use Rattle.kept_results.specs.Tidy.{AreTidy, IsTidy};
 ghost use Rattle.kept_results.specs.declared.memo.Memo.TheViews.{out-Memo};
 
-use crate::earlier::{Earlier, asked_again, copies_of, find_earlier, is_regular, outcome_of};
+use crate::earlier::{Earlier, asked_again, find_earlier, is_regular};
 use crate::entries::{Asked, facts_below, keep, kept_answer};
-use crate::memo::Memo;
+use crate::memo::{Memo, Said};
+use crate::remaking::make_again;
 use crate::whole_view::WholeView;
 use embellished::NodeView;
 use fixed_units::{LayRefusal, List, Steps};
@@ -129,23 +130,14 @@ fn relay_again<L: Ledger>(
 {
     let place = before.child;
     let entry = &memo.entries.as_slice()[before.entry];
+    let was = &entry.ones.as_slice()[place];
     let view = WholeView::of(node, memo);
-    let ones = asked_again(alloc, &view, &entry.ones, place, context, metrics)?;
-    let mut one = copies_of(alloc, &entry.one)?;
+    let asked = asked_again(alloc, &view, was, context, metrics)?;
     let child = &node.children.as_slice()[place];
     let below = memo.below.at_mut(place);
-    let asked = &ones.as_slice()[place];
     let answer = relay_element(alloc, child, below, &asked.context, metrics, steps)?;
-    *one.at_mut(place) = answer;
-    let view = WholeView::of(node, memo);
-    let outcome = outcome_of(alloc, &view, context, metrics, &ones, &one, steps)?;
-    let asked = Asked {
-        ones,
-        one,
-        twos: List::make(alloc),
-        regular: true,
-    };
-    Ok(keep(alloc, memo, context, outcome, asked)?)
+    let said = Said { asked, answer };
+    make_again(alloc, node, memo, context, before, said, metrics, steps)
 }
 
 /// The answers of the children that an element asks, in order.

@@ -17,11 +17,12 @@ use Rattle.layout_model.specs.declared.context.Context.{Context}
 use Rattle.layout_model.specs.declared.context.Question.{Question}
 use Rattle.layout_core.proofs.Children.{smaller}
 use Rattle.kept_results.specs.Ends.{settled}
-use Rattle.kept_results.specs.Kept.{Agrees, AreApart, HasEntry, HoldsIn, HoldsOne, IsKept, IsMemoOf, IsMissing, IsSound, NamesKept, is_live, is_marked}
+use Rattle.kept_results.specs.Kept.{Agrees, AreApart, HasEntry, HoldsIn, HoldsOne, IsKept, IsMemoOf, IsMissing, IsSound, NamesKept, is_fresh, is_live, is_marked}
 use Rattle.kept_results.specs.Looking.{own_facts}
 use Rattle.kept_results.specs.Passes.{AnswersNeed, Needs, Pair}
 use Rattle.kept_results.specs.declared.memo.Entry.{Entry}
 use Rattle.kept_results.specs.declared.memo.Memo.{Memo}
+use Rattle.kept_results.specs.declared.memo.Origin.TheVariants.{Made}
 use Rattle.kept_results.specs.declared.memo.Memo.TheOpen.{Memo-F}
 use Rattle.kept_results.specs.declared.memo.Memo.TheViews.{out-Memo, out-roll-Memo, roll-Memo, roll-out-Memo}
 use Rattle.kept_results.proofs.Agreement.{agrees_child, agrees_made, missing_kept}
@@ -167,12 +168,12 @@ fresh entry = record {
   one = entry.one;
   twos = entry.twos;
   regular = entry.regular;
-  fresh = true;
+  origin = Made;
 }
 
 module _ (m : MetricsValue) (node : Node) (memo : Memo) (context : Context) where
   -- it is flagged already
-  pub flagged_already : (place : ℕ) (entry : Entry) → Agrees m node memo → slice_get (out-Memo memo).entries place ≡ Some entry → entry.context ≡ context → entry.fresh ≡ true
+  pub flagged_already : (place : ℕ) (entry : Entry) → Agrees m node memo → slice_get (out-Memo memo).entries place ≡ Some entry → entry.context ≡ context → is_fresh entry ≡ true
       → IsFlagged m node context memo memo
   flagged_already place entry h at is flag = record {
     agrees = h;
@@ -299,7 +300,7 @@ module _ (m : MetricsValue) (node : Node) (memo : Memo) (context : Context) (pla
         ];
         apart = apart_any mark (set entries place (fresh entry)) (subst (AreApart false) (sym same_entries) (apart_settled m node memo whole));
         stays = λ child alike i e at_e older regular. elim (set_cases entries place i (fresh entry) e at_e) [
-          | inl s ↦ absurd (true≢false (ap (λ (x : Entry). x.fresh) (sym s.1) ∙ older))
+          | inl s ↦ absurd (true≢false (ap is_fresh (sym s.1) ∙ older))
           | inr s ↦
               let r = own.stays child alike i e s older regular in
               record {
@@ -307,6 +308,7 @@ module _ (m : MetricsValue) (node : Node) (memo : Memo) (context : Context) (pla
                 sized = r.sized;
                 ones = r.ones;
                 styled = r.styled;
+                twos = r.twos;
                 as_many = r.as_many;
                 others = λ index question answer x y other.
                     let k = r.others index question answer x y other in

@@ -1,5 +1,5 @@
 -- What is left when all is marked, what is needed is flagged, and the memo is sealed.
-use Rattle.std.proofs.Common.{◌≡◌, ◌∙◌, inl, inr, refl, sym, ap, subst, ℕ, zero, suc, Bool, true, false, cond, not, ◌&&◌, List, [], ◌∷◌, filter, map, None, Option, Some, is_some, slice_get, true≢false}
+use Rattle.std.proofs.Common.{◌≡◌, ◌∙◌, inl, inr, refl, sym, ap, subst, ℕ, zero, suc, Bool, true, false, cond, not, ◌&&◌, List, [], ◌∷◌, filter, map, None, Option, Some, is_some, slice_get}
 use Rattle.std.proofs.lemmas.List.{length-map}
 use Rattle.std.proofs.lemmas.Option.{none-some, same_Some, slice_get-map}
 use Rattle.std.specs.List.{AllByRecursion, list_all}
@@ -8,8 +8,8 @@ use Rattle.font_metrics.specs.Metrics.{MetricsValue}
 use Rattle.math_tree.specs.declared.node.Node.{Node}
 use Rattle.kept_results.specs.declared.memo.Former.{Former}
 use Rattle.layout_model.specs.declared.context.Context.{Context}
-use Rattle.kept_results.specs.Ends.{not_fresh, sealed, settled, stripped}
-use Rattle.kept_results.specs.Kept.{Agrees, AreApart, HasEntry, Holds, HoldsIn, HoldsOne, IsMemoOf, StandAt, is_live, is_marked}
+use Rattle.kept_results.specs.Ends.{all_undone, sealed, settled, stripped}
+use Rattle.kept_results.specs.Kept.{Agrees, AreApart, HasEntry, Holds, HoldsIn, HoldsOne, IsMemoOf, StandAt, is_fresh, is_live, is_marked}
 use Rattle.kept_results.specs.Laws.{is_unmarked, unmarked_layer}
 use Rattle.kept_results.specs.declared.memo.Entry.{Entry}
 use Rattle.kept_results.specs.declared.memo.Memo.{Memo}
@@ -18,6 +18,7 @@ use Rattle.kept_results.specs.declared.memo.Memo.TheOpen.{Memo-F}
 use Rattle.kept_results.specs.declared.memo.Memo.TheViews.{out-Memo, out-roll-Memo, roll-Memo, roll-out-Memo}
 use Rattle.kept_results.proofs.Counts.{stripped_out}
 use Rattle.kept_results.proofs.Sealing.{seal_law}
+use Rattle.kept_results.proofs.Tidying.{none_made, not_fresh_at, stands}
 use Rattle.kept_results.proofs.Whole.{kept_law}
 use Rattle.kept_sweep.specs.Flagged.{IsFlagged, all_marked, cleared}
 use Rattle.kept_sweep.specs.Swept.{IsPartOf, KeepsNeeded}
@@ -59,25 +60,25 @@ both_true true b h = (refl, h)
 both_true false b h = (h, let g : false ≡ true = h in cc)
 
 AreOld : List Entry → Type 0
-AreOld entries = (place : ℕ) (entry : Entry) → slice_get entries place ≡ Some entry → entry.fresh ≡ false
+AreOld entries = (place : ℕ) (entry : Entry) → slice_get entries place ≡ Some entry → is_fresh entry ≡ false
 
 module _ (memo : Memo) (h : stripped memo ≡ memo) where
   abbrev own : Memo-F Memo
   own = out-Memo memo
 
-  entries_plain : not_fresh own.entries ≡ own.entries
+  entries_plain : all_undone own.entries ≡ own.entries
   entries_plain = ap (λ (l : Memo-F Memo). l.entries) (sym (out-roll-Memo _)) ∙ ap (λ (z : Memo). (out-Memo z).entries) (sym (stripped_out memo) ∙ h)
 
   below_plain : map stripped own.below ≡ own.below
   below_plain =
       ap (λ (l : Memo-F Memo). l.below)
-      (sym (out-roll-Memo (record { former = own.former; facts = own.facts; entries = not_fresh own.entries; below = map stripped own.below })))
+      (sym (out-roll-Memo (record { former = own.former; facts = own.facts; entries = all_undone own.entries; below = map stripped own.below })))
       ∙ ap (λ (z : Memo). (out-Memo z).below) (sym (stripped_out memo) ∙ h)
 
   all_old : AreOld own.entries
   unfolding AreOld
   all_old place entry at =
-      is_false entry.fresh (passes_at (λ e. not e.fresh) own.entries place entry (ap (λ (l : List Entry). slice_get l place) entries_plain ∙ at))
+      not_fresh_at own.entries place entry (none_made own.entries entries_plain) at
 
   each_plain : (place : ℕ) (below : Memo) → slice_get own.below place ≡ Some below → stripped below ≡ below
   each_plain place below at =
@@ -151,7 +152,7 @@ settled_same : (entries : List Entry) → AreOld entries → map settled entries
 unfolding AreOld
 settled_same [] h = refl
 settled_same (e ∷ entries) h =
-    (λ i. record { context = e.context; outcome = e.outcome; ones = e.ones; one = e.one; twos = e.twos; regular = e.regular; fresh = sym (h 0 e refl) i } ∷ settled_same entries (λ place. h (suc place)) i)
+    (λ i. record { context = e.context; outcome = e.outcome; ones = e.ones; one = e.one; twos = e.twos; regular = e.regular; origin = sym (stands e.origin (h 0 e refl)) i } ∷ settled_same entries (λ place. h (suc place)) i)
 
 abbrev IsCleared : Memo → Type 0
 IsCleared memo = stripped memo ≡ memo → is_unmarked memo ≡ true → cleared memo ≡ memo

@@ -11,7 +11,7 @@ use crate::places::{Spot, place_from};
 use embellished::Facts;
 use fixed_units::List;
 use font_metrics::Metrics;
-use kept_results::{Entry, Former, Memo, is_same};
+use kept_results::{Entry, Former, Memo, Origin, is_same};
 use layout_model::{Context, Question};
 use math_tree::Node;
 
@@ -39,7 +39,7 @@ pub fn flag_needed(node: &Node, memo: &mut Memo, context: &Context, metrics: &Me
     ensures { IsFlagged metrics.now node.now context.now memo.old memo.new }
 {
     if let Some(at) = place_of(memo, context) {
-        if !memo.entries.as_slice()[at].fresh {
+        if !memo.entries.as_slice()[at].is_fresh() {
             flag_asked(
                 node,
                 &memo.facts,
@@ -47,7 +47,7 @@ pub fn flag_needed(node: &Node, memo: &mut Memo, context: &Context, metrics: &Me
                 &memo.entries.as_slice()[at],
                 metrics,
             );
-            memo.entries.at_mut(at).fresh = true;
+            memo.entries.at_mut(at).origin = Origin::Made;
         }
     }
 }

@@ -1,5 +1,6 @@
 use Rattle.std.proofs.Common.{◌≡◌, ◌+◌, ◌-◌, ◌^◌, filter, length, min, take}
-use Rattle.kept_results.specs.Ends.{is_fresh, sealed}
+use Rattle.kept_results.specs.Ends.{sealed}
+use Rattle.kept_results.specs.Kept.{is_fresh}
 use Rattle.kept_results.specs.declared.memo.Memo.TheViews.{out-Memo}
 use Rattle.kept_results.proofs.Made.{fresh_below}
 use Rattle.kept_results.proofs.Renewing.{Renewed}

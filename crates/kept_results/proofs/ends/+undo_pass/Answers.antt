@@ -11,4 +11,4 @@ loop-at-preserved t c =
 pub returns : goal.returns
 returns t c =
     let all : length (out-Memo c.args.memo.now).below ≡ c.loop-at.at = omega arith in
-    stripped_end c.args.memo.now c.loop-at.memo c.loop-at.at c.drop_fresh.new.entries c.loop-at.invariant all c.drop_fresh.ensures
+    stripped_end c.args.memo.now c.loop-at.memo c.loop-at.at c.undo_entries.new.entries c.loop-at.invariant all c.undo_entries.ensures

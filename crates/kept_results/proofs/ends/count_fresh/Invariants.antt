@@ -1,5 +1,5 @@
 use Rattle.std.proofs.Common.{◌≡◌, ◌≤◌, filter, length, take}
-use Rattle.kept_results.specs.Ends.{is_fresh}
+use Rattle.kept_results.specs.Kept.{is_fresh}
 use Rattle.kept_results.proofs.ends.count_fresh.Given as goal
 
 -- those so far

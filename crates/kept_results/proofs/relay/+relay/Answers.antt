@@ -1,17 +1,14 @@
-use Rattle.std.proofs.Common.{rules, ◌≡◌, ◌∙◌, refl, sym, ap, subst, ◌<◌, arith, All, Bool, true, false, List, [], length, map, set, Option, Some, None, IfNone, IfSome, Err, is_some}
-use Rattle.std.proofs.lemmas.List.{length-map}
-use Rattle.std.proofs.lemmas.Option.{get_or_from_slice_get, slice_get_within}
+use Rattle.std.proofs.Common.{rules, ◌≡◌, ◌∙◌, refl, sym, ap, subst, ◌<◌, arith, Bool, true, false, List, [], length, map, set, Option, Some, None, IfNone, IfSome, Err, Ok, OnOk, OnErr, Result, is_some}
+use Rattle.std.proofs.lemmas.Result.{IfOk-weaker}
 use Rattle.font_metrics.specs.Metrics.{MetricsValue}
 use Rattle.math_tree.specs.declared.node.Node.{Node}
 use Rattle.math_tree.specs.declared.node.Node.TheViews.{out-Node, size-Node}
 use Rattle.embellished.specs.Seen.{Child, seen_of}
 use Rattle.kept_results.specs.declared.memo.Former.{Former}
-use Rattle.layout_model.specs.Fits.{AreAnswers, HasStyle}
+use Rattle.layout_model.specs.Fits.{AreAnswers}
 use Rattle.layout_model.specs.Laws.{answer_of}
-use Rattle.layout_model.specs.Layout.{equation}
-use Rattle.layout_model.specs.Questions.{first}
+use Rattle.layout_model.specs.Layout.{equation, lay}
 use Rattle.layout_model.specs.Range.{outcome_fits}
-use Rattle.child_questions.specs.Surveys.{has_one_wave, survey_of}
 use Rattle.layout_model.specs.declared.context.Context.{Context}
 use Rattle.layout_model.specs.declared.context.Question.{Question}
 use Rattle.layout_model.specs.declared.outcome.Answer.{Answer}
@@ -21,16 +18,15 @@ use Rattle.layout_core.proofs.Fits.{answers_are, range_is}
 use Rattle.layout_core.proofs.Waves.{all_fit, broken, fit_more}
 use Rattle.layout_core.proofs.Whole.{answers_all, ones_false, range_waves, size_false, twos_false}
 use Rattle.kept_results.specs.Contexts.{IsProper}
-use Rattle.kept_results.specs.Kept.{IsKept, IsMissing, NamesKept, is_marked}
-use Rattle.kept_results.specs.Looking.{HasAnswer, IsKeptNow, own_facts}
+use Rattle.kept_results.specs.Kept.{IsKept, IsMissing, NamesKept, is_made, is_marked}
+use Rattle.kept_results.specs.Looking.{HasAnswer, one_at, own_facts}
 use Rattle.kept_results.specs.Passes.{AnswersNeed, Needs, Pair, Passes}
-use Rattle.kept_results.specs.Regular.{IsRegular}
+use Rattle.kept_results.specs.Regular.{IsRegular, restyled, restyled_at}
 use Rattle.kept_results.specs.Tidy.{IsTidy}
 use Rattle.kept_results.specs.declared.memo.Memo.{Memo}
-use Rattle.kept_results.specs.declared.memo.Entry.{Entry}
-use Rattle.kept_results.specs.declared.memo.Memo.TheViews.{out-Memo, roll-Memo}
-use Rattle.kept_results.proofs.Again.{asks_made, fits_again, first_is, has_child, missing_again, named_again, near_below, near_child, near_kids, pass_again, proper_again, read_entry, regular_again, shown_by, stays, still_regular, still_sized, stored_again, told_again, waves_again, within_asks}
-use Rattle.kept_results.proofs.Agreement.{agrees_child, has_added, renewed}
+use Rattle.kept_results.specs.declared.memo.Memo.TheViews.{out-Memo}
+use Rattle.kept_results.proofs.Again.{child_unfit, fit, first_again, goes, kept_again, laid, near_below, near_child, near_entry, now, one_now, ones_now, passed_all, passed_child, proper, read_entry, shown_by, stays, step_only, still_regular, still_sized, stored, tidied_again, unfit, was_here, was_near}
+use Rattle.kept_results.proofs.Agreement.{agrees_child, has_added}
 use Rattle.kept_results.proofs.Lists.{all_then}
 use Rattle.kept_results.proofs.Passing.{fresh_live, pair_at, passes_added, passes_both, passes_none, passes_partly, passes_step, passes_under, under}
 use Rattle.kept_results.proofs.Shown.{read_at}
@@ -428,8 +424,8 @@ relay_anew-returns-clause-passes g t c =
     let whole = waves_fit waves (c.in_ok-survey.ensures {u = tt}).fit made.fit one.fit two.fit in
     let kept = (c.in_ok-keep.ensures {u = tt}).kept in
     let named = all_then (NamesKept node (out-Memo c.relay_all.new.memo).below) (NamesKept node (out-Memo c.relay_all-2.new.memo).below) (names_still node two.passed.keeps) c.in_ok-ones.ones one.kept in
-    let sound = sound_made waves c.relay_all-2.new.memo c.keep.new.memo c.in_ok-outcome.outcome c.is_regular-regular.result kept made.ok c.requires.context whole o.styles named two.kept (regular_still m _ node context c.in_ok-ones.ones _ shown c.is_regular-regular.ensures) in
-    let all = passes_both m both (passes_added m node (Needs m node context) c.relay_all-2.new.memo kept.entry context c.relay_all-2.new.steps c.finish_asked.new.steps both.agrees sound missing kept.in_context kept.fresh (own_need m node context) c.finish_asked.ensures.step) in
+    let sound = sound_made waves (out-Memo c.relay_all-2.new.memo).below kept.entry c.in_ok-outcome.outcome c.is_regular-regular.result kept.holds made.ok c.requires.context whole o.styles named two.kept (regular_still m _ node context c.in_ok-ones.ones _ shown c.is_regular-regular.ensures) in
+    let all = passes_both m both (passes_added m node (Needs m node context) c.relay_all-2.new.memo kept.entry context c.relay_all-2.new.steps c.finish_asked.new.steps both.agrees sound missing kept.holds.in_context kept.made (own_need m node context) c.finish_asked.ensures.step) in
     subst (λ (memo : Memo). Passes m node (Needs m node context) c.args.memo.now memo c.args.steps.now c.finish_asked.new.steps false) (sym kept.added) (passes_partly m all)
 
 pub relay_anew-returns-clause-passed : goal.relay_anew-returns-clause-passed
@@ -452,23 +448,23 @@ relay_anew-returns-clause-passed g t c =
     let whole = waves_fit waves (c.in_ok-survey.ensures {u = tt}).fit made.fit one.fit two.fit in
     let kept = (c.in_ok-keep.ensures {u = tt}).kept in
     let named = all_then (NamesKept node (out-Memo c.relay_all.new.memo).below) (NamesKept node (out-Memo c.relay_all-2.new.memo).below) (names_still node two.passed.keeps) c.in_ok-ones.ones one.kept in
-    let sound = sound_made waves c.relay_all-2.new.memo c.keep.new.memo c.in_ok-outcome.outcome c.is_regular-regular.result kept made.ok c.requires.context whole o.styles named two.kept (regular_still m _ node context c.in_ok-ones.ones _ shown c.is_regular-regular.ensures) in
-    let all = passes_both m both (passes_added m node (Needs m node context) c.relay_all-2.new.memo kept.entry context c.relay_all-2.new.steps c.finish_asked.new.steps both.agrees sound missing kept.in_context kept.fresh (own_need m node context) c.finish_asked.ensures.step) in
+    let sound = sound_made waves (out-Memo c.relay_all-2.new.memo).below kept.entry c.in_ok-outcome.outcome c.is_regular-regular.result kept.holds made.ok c.requires.context whole o.styles named two.kept (regular_still m _ node context c.in_ok-ones.ones _ shown c.is_regular-regular.ensures) in
+    let all = passes_both m both (passes_added m node (Needs m node context) c.relay_all-2.new.memo kept.entry context c.relay_all-2.new.steps c.finish_asked.new.steps both.agrees sound missing kept.holds.in_context kept.made (own_need m node context) c.finish_asked.ensures.step) in
     subst (λ (memo : Memo). Passes m node (Needs m node context) c.args.memo.now memo c.args.steps.now c.finish_asked.new.steps true) (sym kept.added) all
 
 pub relay_anew-returns-clause-kept : goal.relay_anew-returns-clause-kept
 relay_anew-returns-clause-kept g t c =
     let kept = (c.in_ok-keep.ensures {u = tt}).kept in
-    let live = fresh_live (is_marked (out-Memo c.relay_all-2.new.memo)) kept.entry kept.fresh in
+    let live = fresh_live (is_marked (out-Memo c.relay_all-2.new.memo)) kept.entry (ap is_made kept.made) in
     subst (λ (memo : Memo). IsKept (out-Memo memo) c.args.context.now) (sym kept.added)
-    record { entry = kept.entry; has = has_added c.relay_all-2.new.memo kept.entry live; in_context = kept.in_context }
+    record { entry = kept.entry; has = has_added c.relay_all-2.new.memo kept.entry live; in_context = kept.holds.in_context }
 
 pub relay_anew-returns-clause-tidy : goal.relay_anew-returns-clause-tidy
 relay_anew-returns-clause-tidy g t c =
     λ h.
     let kept = (c.in_ok-keep.ensures {u = tt}).kept in
     let ones = (c.in_ok-one.ensures {u = tt}).tidy (tidy_below c.args.memo.now h) in
-    subst IsTidy (sym kept.added) (tidy_added c.relay_all-2.new.memo kept.entry kept.fresh ((c.in_ok-two.ensures {u = tt}).tidy ones))
+    subst IsTidy (sym kept.added) (tidy_added c.relay_all-2.new.memo kept.entry (ap is_made kept.made) ((c.in_ok-two.ensures {u = tt}).tidy ones))
 
 pub relay_anew-returns-clause-ok : goal.relay_anew-returns-clause-ok
 relay_anew-returns-clause-ok g t c =
@@ -502,6 +498,14 @@ relay_anew-returns-clause-fit g t c =
 
 -- ---- an element of which layout sees the same but for one child
 
+on_both : {A : Type 0} {E : Type 0} (r : Result A E) {X Y P : Type 0} → OnOk r X → OnOk r Y → (X → Y → P) → OnOk r P
+on_both (Ok a) x y f = f x y
+on_both (Err e) x y f = tt
+
+on_each : {A : Type 0} {E : Type 0} (r : Result A E) {X Y Z P : Type 0} → OnOk r X → OnOk r Y → OnErr r Z → (X → Y → P) → (Z → P) → P
+on_each (Ok a) x y z f k = f x y
+on_each (Err e) x y z f k = k z
+
 pub relay_again-of-view-requires : goal.relay_again-of-view-requires
 relay_again-of-view-requires g t c =
     let m = c.args.metrics.now in
@@ -523,19 +527,9 @@ relay_again-asked_again-requires-clause-within g t c =
     let h = c.requires.agrees in
     let b = c.requires.before in
     let entry_is = read_entry m node memo context before h b c.as_slice.result.now c.index-as_slice-before.result c.as_slice.ensures c.index-as_slice-before.is in
-    subst (λ (n : Node). before.child < length (seen_of n).kids) (sym c.of-view.ensures) (near_kids m node memo context before h b _ refl)
-
-pub relay_again-asked_again-requires-clause-styled : goal.relay_again-asked_again-requires-clause-styled
-relay_again-asked_again-requires-clause-styled g t c =
-    let m = c.args.metrics.now in
-    let node = c.args.node.now in
-    let memo = c.args.memo.now in
-    let context = c.args.context.now in
-    let before = c.args.before in
-    let h = c.requires.agrees in
-    let b = c.requires.before in
-    let entry_is = read_entry m node memo context before h b c.as_slice.result.now c.index-as_slice-before.result c.as_slice.ensures c.index-as_slice-before.is in
-    subst (λ (e : Entry). All HasStyle e.ones) (sym entry_is) (stays m node memo context before h b).styled
+    let was = c.index-as_slice-place.result in
+    let was_at = was_here m node memo context before h b c.as_slice-2.result.now c.index-as_slice-before.result was c.as_slice-2.ensures entry_is c.index-as_slice-place.is in
+    subst (λ (n : Node). was.kid < length (seen_of n).kids) (sym c.of-view.ensures) (was_near m node memo context before h b was was_at)
 
 pub relay_again-asked_again-requires-clause-size : goal.relay_again-asked_again-requires-clause-size
 relay_again-asked_again-requires-clause-size g t c =
@@ -549,69 +543,9 @@ relay_again-asked_again-requires-clause-size g t c =
     let sized = still_sized m node memo context before h b in
     search rules
 
-pub relay_again-returns-in_err-ones-clause-passes : goal.relay_again-returns-in_err-ones-clause-passes
-relay_again-returns-in_err-ones-clause-passes g t c =
+pub relay_again-returns-in_err-asked-clause-passes : goal.relay_again-returns-in_err-asked-clause-passes
+relay_again-returns-in_err-asked-clause-passes g t c =
     passes_none c.args.metrics.now c.args.node.now (Needs c.args.metrics.now c.args.node.now c.args.context.now) c.args.memo.now c.args.steps.now false c.requires.agrees
-
-pub relay_again-returns-in_err-one-clause-passes : goal.relay_again-returns-in_err-one-clause-passes
-relay_again-returns-in_err-one-clause-passes g t c =
-    passes_none c.args.metrics.now c.args.node.now (Needs c.args.metrics.now c.args.node.now c.args.context.now) c.args.memo.now c.args.steps.now false c.requires.agrees
-
-pub relay_again-bounds-as_slice-place : goal.relay_again-bounds-as_slice-place
-relay_again-bounds-as_slice-place g t c =
-    let m = c.args.metrics.now in
-    let node = c.args.node.now in
-    let memo = c.args.memo.now in
-    let context = c.args.context.now in
-    let before = c.args.before in
-    let h = c.requires.agrees in
-    let b = c.requires.before in
-    let entry_is = read_entry m node memo context before h b c.as_slice.result.now c.index-as_slice-before.result c.as_slice.ensures c.index-as_slice-before.is in
-    let asks = c.in_ok-ones.ones in
-    let o = asks_made m node memo context before h b c.of-view.result.node.now c.index-as_slice-before.result asks c.of-view.ensures entry_is (c.in_ok-ones.ensures {u = tt}).ok in
-    omega (arith, near_child m node memo context before h b asks o, ap length c.as_slice-2.ensures)
-
-pub relay_again-offset_bounds-as_slice-place : goal.relay_again-offset_bounds-as_slice-place
-relay_again-offset_bounds-as_slice-place g t c =
-    let m = c.args.metrics.now in
-    let node = c.args.node.now in
-    let memo = c.args.memo.now in
-    let context = c.args.context.now in
-    let before = c.args.before in
-    let h = c.requires.agrees in
-    let b = c.requires.before in
-    let entry_is = read_entry m node memo context before h b c.as_slice.result.now c.index-as_slice-before.result c.as_slice.ensures c.index-as_slice-before.is in
-    let asks = c.in_ok-ones.ones in
-    let o = asks_made m node memo context before h b c.of-view.result.node.now c.index-as_slice-before.result asks c.of-view.ensures entry_is (c.in_ok-ones.ensures {u = tt}).ok in
-    omega (arith, near_child m node memo context before h b asks o, few_children node, c.requires.few)
-
-pub relay_again-at_mut-below-requires : goal.relay_again-at_mut-below-requires
-relay_again-at_mut-below-requires g t c =
-    let m = c.args.metrics.now in
-    let node = c.args.node.now in
-    let memo = c.args.memo.now in
-    let context = c.args.context.now in
-    let before = c.args.before in
-    let h = c.requires.agrees in
-    let b = c.requires.before in
-    let entry_is = read_entry m node memo context before h b c.as_slice.result.now c.index-as_slice-before.result c.as_slice.ensures c.index-as_slice-before.is in
-    let asks = c.in_ok-ones.ones in
-    let o = asks_made m node memo context before h b c.of-view.result.node.now c.index-as_slice-before.result asks c.of-view.ensures entry_is (c.in_ok-ones.ensures {u = tt}).ok in
-    near_below m node memo context before h b asks o
-
-pub relay_again-bounds-as_slice-place-2 : goal.relay_again-bounds-as_slice-place-2
-relay_again-bounds-as_slice-place-2 g t c =
-    let m = c.args.metrics.now in
-    let node = c.args.node.now in
-    let memo = c.args.memo.now in
-    let context = c.args.context.now in
-    let before = c.args.before in
-    let h = c.requires.agrees in
-    let b = c.requires.before in
-    let entry_is = read_entry m node memo context before h b c.as_slice.result.now c.index-as_slice-before.result c.as_slice.ensures c.index-as_slice-before.is in
-    let asks = c.in_ok-ones.ones in
-    let o = asks_made m node memo context before h b c.of-view.result.node.now c.index-as_slice-before.result asks c.of-view.ensures entry_is (c.in_ok-ones.ensures {u = tt}).ok in
-    omega (arith, within_asks m node memo context before h b asks o, ap length c.as_slice-3.ensures)
 
 pub relay_again-offset_bounds-as_slice-place-2 : goal.relay_again-offset_bounds-as_slice-place-2
 relay_again-offset_bounds-as_slice-place-2 g t c =
@@ -622,10 +556,31 @@ relay_again-offset_bounds-as_slice-place-2 g t c =
     let before = c.args.before in
     let h = c.requires.agrees in
     let b = c.requires.before in
-    let entry_is = read_entry m node memo context before h b c.as_slice.result.now c.index-as_slice-before.result c.as_slice.ensures c.index-as_slice-before.is in
-    let asks = c.in_ok-ones.ones in
-    let o = asks_made m node memo context before h b c.of-view.result.node.now c.index-as_slice-before.result asks c.of-view.ensures entry_is (c.in_ok-ones.ensures {u = tt}).ok in
-    omega (arith, near_child m node memo context before h b asks o, few_children node, c.requires.few)
+    let near = near_child m node memo context before h b (map (restyled_at m (seen_of node) context before.child) b.entry.ones) refl in
+    omega (arith, near, few_children node, c.requires.few)
+
+pub relay_again-bounds-as_slice-place-2 : goal.relay_again-bounds-as_slice-place-2
+relay_again-bounds-as_slice-place-2 g t c =
+    let m = c.args.metrics.now in
+    let node = c.args.node.now in
+    let memo = c.args.memo.now in
+    let context = c.args.context.now in
+    let before = c.args.before in
+    let h = c.requires.agrees in
+    let b = c.requires.before in
+    let near = near_child m node memo context before h b (map (restyled_at m (seen_of node) context before.child) b.entry.ones) refl in
+    omega (arith, near, ap length c.as_slice-3.ensures)
+
+pub relay_again-at_mut-below-requires : goal.relay_again-at_mut-below-requires
+relay_again-at_mut-below-requires g t c =
+    let m = c.args.metrics.now in
+    let node = c.args.node.now in
+    let memo = c.args.memo.now in
+    let context = c.args.context.now in
+    let before = c.args.before in
+    let h = c.requires.agrees in
+    let b = c.requires.before in
+    near_below m node memo context before h b (map (restyled_at m (seen_of node) context before.child) b.entry.ones) refl
 
 pub relay_again-relay_element-requires : goal.relay_again-relay_element-requires
 relay_again-relay_element-requires g t c κs within =
@@ -637,20 +592,21 @@ relay_again-relay_element-requires g t c κs within =
     let h = c.requires.agrees in
     let b = c.requires.before in
     let entry_is = read_entry m node memo context before h b c.as_slice.result.now c.index-as_slice-before.result c.as_slice.ensures c.index-as_slice-before.is in
-    let asks = c.in_ok-ones.ones in
-    let o = asks_made m node memo context before h b c.of-view.result.node.now c.index-as_slice-before.result asks c.of-view.ensures entry_is (c.in_ok-ones.ensures {u = tt}).ok in
-    let child = c.index-as_slice-place.result in
-    let there = read_at c.as_slice-2.result.now (out-Node node).children before.child child c.as_slice-2.ensures (near_child m node memo context before h b asks o) c.index-as_slice-place.is in
-    let q = c.index-as_slice-place-2.result in
-    let asked = read_at c.as_slice-3.result.now asks before.child q c.as_slice-3.ensures (within_asks m node memo context before h b asks o) c.index-as_slice-place-2.is in
+    let was = c.index-as_slice-place.result in
+    let was_at = was_here m node memo context before h b c.as_slice-2.result.now c.index-as_slice-before.result was c.as_slice-2.ensures entry_is c.index-as_slice-place.is in
+    let near = near_child m node memo context before h b (map (restyled_at m (seen_of node) context before.child) b.entry.ones) refl in
+    let asked = c.in_ok-asked.asked in
+    let is = (c.in_ok-asked.ensures {u = tt}).ok ∙ ap (λ (n : Node). restyled m (seen_of n) context was) c.of-view.ensures in
+    let style = (c.in_ok-asked.ensures {u = tt}).style in
+    let child = c.index-as_slice-place-2.result in
+    let there = read_at c.as_slice-3.result.now (out-Node node).children before.child child c.as_slice-3.ensures near c.index-as_slice-place-2.is in
     let old = c.at_mut-below.result.now in
     let at = c.at_mut-below.ensures.value in
-    let n = has_child m node memo context before h b asks o before.child q child asked there (λ (x : Child). x.node ≡ child) refl in
-    let p = has_child m node memo context before h b asks o before.child q child asked there (λ (x : Child). x.place ≡ before.child) refl in
-    let falls : size-Node child < size-Node node = smaller node child q.kid before.child n p in
-    let few = few_below node child q.kid before.child n p in
-    let proper = proper_again m node memo context before h b asks o c.requires.context (c.in_ok-ones.ensures {u = tt}).styles before.child q asked in
-    (omega arith, (search rules, (agrees_child m node memo before.child child old h there at, (omega (arith, few, c.requires.few), suits_child node child q.kid before.child n p m q refl proper))))
+    let n = goes m node memo context before h b c.requires.few c.requires.context was asked was_at is style child there old old at (λ (x : Child). x.node ≡ child) refl in
+    let p = goes m node memo context before h b c.requires.few c.requires.context was asked was_at is style child there old old at (λ (x : Child). x.place ≡ before.child) refl in
+    let falls : size-Node child < size-Node node = smaller node child asked.kid before.child n p in
+    let few = few_below node child asked.kid before.child n p in
+    (omega arith, (search rules, (agrees_child m node memo before.child child old h there at, (omega (arith, few, c.requires.few), suits_child node child asked.kid before.child n p m asked refl (proper m node memo context before h b c.requires.few c.requires.context was asked was_at is style child there old old at)))))
 
 pub relay_again-returns-in_err-answer-clause-passes : goal.relay_again-returns-in_err-answer-clause-passes
 relay_again-returns-in_err-answer-clause-passes g t c =
@@ -662,17 +618,18 @@ relay_again-returns-in_err-answer-clause-passes g t c =
     let h = c.requires.agrees in
     let b = c.requires.before in
     let entry_is = read_entry m node memo context before h b c.as_slice.result.now c.index-as_slice-before.result c.as_slice.ensures c.index-as_slice-before.is in
-    let asks = c.in_ok-ones.ones in
-    let o = asks_made m node memo context before h b c.of-view.result.node.now c.index-as_slice-before.result asks c.of-view.ensures entry_is (c.in_ok-ones.ensures {u = tt}).ok in
-    let child = c.index-as_slice-place.result in
-    let there = read_at c.as_slice-2.result.now (out-Node node).children before.child child c.as_slice-2.ensures (near_child m node memo context before h b asks o) c.index-as_slice-place.is in
-    let q = c.index-as_slice-place-2.result in
-    let asked = read_at c.as_slice-3.result.now asks before.child q c.as_slice-3.ensures (within_asks m node memo context before h b asks o) c.index-as_slice-place-2.is in
+    let was = c.index-as_slice-place.result in
+    let was_at = was_here m node memo context before h b c.as_slice-2.result.now c.index-as_slice-before.result was c.as_slice-2.ensures entry_is c.index-as_slice-place.is in
+    let near = near_child m node memo context before h b (map (restyled_at m (seen_of node) context before.child) b.entry.ones) refl in
+    let asked = c.in_ok-asked.asked in
+    let is = (c.in_ok-asked.ensures {u = tt}).ok ∙ ap (λ (n : Node). restyled m (seen_of n) context was) c.of-view.ensures in
+    let style = (c.in_ok-asked.ensures {u = tt}).style in
+    let child = c.index-as_slice-place-2.result in
+    let there = read_at c.as_slice-3.result.now (out-Node node).children before.child child c.as_slice-3.ensures near c.index-as_slice-place-2.is in
     let old = c.at_mut-below.result.now in
-    let new = c.relay_element.new.memo in
     let at = c.at_mut-below.ensures.value in
-    let part = (c.in_err-answer.ensures {u = tt}).passes in
-    pass_again m node memo context before h b asks o q asked child there old new at part.keeps c.args.steps.now c.relay_element.new.steps false part
+    let new = c.relay_element.new.memo in
+    passed_child m node memo context before h b c.requires.few c.requires.context was asked was_at is style child there old new at c.args.steps.now c.relay_element.new.steps false (c.in_err-answer.ensures {u = tt}).passes
 
 pub relay_again-returns-in_err-answer-clause-range : goal.relay_again-returns-in_err-answer-clause-range
 relay_again-returns-in_err-answer-clause-range g t c =
@@ -685,26 +642,58 @@ relay_again-returns-in_err-answer-clause-range g t c =
     let h = c.requires.agrees in
     let b = c.requires.before in
     let entry_is = read_entry m node memo context before h b c.as_slice.result.now c.index-as_slice-before.result c.as_slice.ensures c.index-as_slice-before.is in
-    let asks = c.in_ok-ones.ones in
-    let o = asks_made m node memo context before h b c.of-view.result.node.now c.index-as_slice-before.result asks c.of-view.ensures entry_is (c.in_ok-ones.ensures {u = tt}).ok in
-    let child = c.index-as_slice-place.result in
-    let there = read_at c.as_slice-2.result.now (out-Node node).children before.child child c.as_slice-2.ensures (near_child m node memo context before h b asks o) c.index-as_slice-place.is in
-    let q = c.index-as_slice-place-2.result in
-    let asked = read_at c.as_slice-3.result.now asks before.child q c.as_slice-3.ensures (within_asks m node memo context before h b asks o) c.index-as_slice-place-2.is in
+    let was = c.index-as_slice-place.result in
+    let was_at = was_here m node memo context before h b c.as_slice-2.result.now c.index-as_slice-before.result was c.as_slice-2.ensures entry_is c.index-as_slice-place.is in
+    let near = near_child m node memo context before h b (map (restyled_at m (seen_of node) context before.child) b.entry.ones) refl in
+    let asked = c.in_ok-asked.asked in
+    let is = (c.in_ok-asked.ensures {u = tt}).ok ∙ ap (λ (n : Node). restyled m (seen_of n) context was) c.of-view.ensures in
+    let style = (c.in_ok-asked.ensures {u = tt}).style in
+    let child = c.index-as_slice-place-2.result in
+    let there = read_at c.as_slice-3.result.now (out-Node node).children before.child child c.as_slice-3.ensures near c.index-as_slice-place-2.is in
     let old = c.at_mut-below.result.now in
-    let new = c.relay_element.new.memo in
     let at = c.at_mut-below.ensures.value in
+    let new = c.relay_element.new.memo in
     let same = rw e at c.from_residual-in_err-answer.ensures.1 in
-    let n = has_child m node memo context before h b asks o before.child q child asked there (λ (x : Child). x.node ≡ child) refl in
-    let p = has_child m node memo context before h b asks o before.child q child asked there (λ (x : Child). x.place ≡ before.child) refl in
-    let first = first_is m node memo context before h b asks o in
-    let whole = range_waves m node node context refl asks first (map (answer_of m node) asks) refl _ refl in
-    ones_false _ _ _ _ whole
-    (broken m node asks before.child q child (slice_get_within asks before.child q asked) (sym (get_or_from_slice_get asks before.child q q asked)) (in_flow node child q.kid before.child n p)
-    ((c.in_err-answer.ensures {u = tt}).range (ap Err (sym same))))
+    child_unfit m node memo context before h b c.requires.few c.requires.context was asked was_at is style child there old new at ((c.in_err-answer.ensures {u = tt}).range (ap Err (sym same)))
 
-pub relay_again-at_mut-requires : goal.relay_again-at_mut-requires
-relay_again-at_mut-requires g t c =
+pub relay_again-make_again-requires-clause-entry : goal.relay_again-make_again-requires-clause-entry
+relay_again-make_again-requires-clause-entry g t c =
+    let m = c.args.metrics.now in
+    let node = c.args.node.now in
+    let memo = c.args.memo.now in
+    let context = c.args.context.now in
+    let before = c.args.before in
+    let h = c.requires.agrees in
+    let b = c.requires.before in
+    let new = c.relay_element.new.memo in
+    near_entry m node memo context before h b new
+
+pub relay_again-make_again-requires-clause-asked : goal.relay_again-make_again-requires-clause-asked
+relay_again-make_again-requires-clause-asked g t c =
+    let m = c.args.metrics.now in
+    let node = c.args.node.now in
+    let memo = c.args.memo.now in
+    let context = c.args.context.now in
+    let before = c.args.before in
+    let h = c.requires.agrees in
+    let b = c.requires.before in
+    let new = c.relay_element.new.memo in
+    omega (arith, b.serves.within, ap length (ones_now m node memo context before h b new))
+
+pub relay_again-make_again-requires-clause-as_many : goal.relay_again-make_again-requires-clause-as_many
+relay_again-make_again-requires-clause-as_many g t c =
+    let m = c.args.metrics.now in
+    let node = c.args.node.now in
+    let memo = c.args.memo.now in
+    let context = c.args.context.now in
+    let before = c.args.before in
+    let h = c.requires.agrees in
+    let b = c.requires.before in
+    let new = c.relay_element.new.memo in
+    ap length (one_now m node memo context before h b new) ∙ (stays m node memo context before h b).as_many ∙ sym (ap length (ones_now m node memo context before h b new))
+
+pub relay_again-make_again-requires-clause-shown : goal.relay_again-make_again-requires-clause-shown
+relay_again-make_again-requires-clause-shown g t c =
     let m = c.args.metrics.now in
     let node = c.args.node.now in
     let memo = c.args.memo.now in
@@ -713,46 +702,24 @@ relay_again-at_mut-requires g t c =
     let h = c.requires.agrees in
     let b = c.requires.before in
     let entry_is = read_entry m node memo context before h b c.as_slice.result.now c.index-as_slice-before.result c.as_slice.ensures c.index-as_slice-before.is in
-    let asks = c.in_ok-ones.ones in
-    let o = asks_made m node memo context before h b c.of-view.result.node.now c.index-as_slice-before.result asks c.of-view.ensures entry_is (c.in_ok-ones.ensures {u = tt}).ok in
-    let child = c.index-as_slice-place.result in
-    let there = read_at c.as_slice-2.result.now (out-Node node).children before.child child c.as_slice-2.ensures (near_child m node memo context before h b asks o) c.index-as_slice-place.is in
-    let q = c.index-as_slice-place-2.result in
-    let asked = read_at c.as_slice-3.result.now asks before.child q c.as_slice-3.ensures (within_asks m node memo context before h b asks o) c.index-as_slice-place-2.is in
+    let was = c.index-as_slice-place.result in
+    let was_at = was_here m node memo context before h b c.as_slice-2.result.now c.index-as_slice-before.result was c.as_slice-2.ensures entry_is c.index-as_slice-place.is in
+    let near = near_child m node memo context before h b (map (restyled_at m (seen_of node) context before.child) b.entry.ones) refl in
+    let asked = c.in_ok-asked.asked in
+    let is = (c.in_ok-asked.ensures {u = tt}).ok ∙ ap (λ (n : Node). restyled m (seen_of n) context was) c.of-view.ensures in
+    let style = (c.in_ok-asked.ensures {u = tt}).style in
+    let child = c.index-as_slice-place-2.result in
+    let there = read_at c.as_slice-3.result.now (out-Node node).children before.child child c.as_slice-3.ensures near c.index-as_slice-place-2.is in
     let old = c.at_mut-below.result.now in
-    let new = c.relay_element.new.memo in
     let at = c.at_mut-below.ensures.value in
-    let made = (c.in_ok-answer.ensures {u = tt}) in
-    let pass = pass_again m node memo context before h b asks o q asked child there old new at made.passed.keeps c.args.steps.now c.relay_element.new.steps true made.passed in
-    let many = (stays m node memo context before h b).as_many in
-    let l = b.serves.within in
-    omega (arith, ap length (c.in_ok-one.ensures {u = tt} ∙ ap (λ (e : Entry). e.one) entry_is), many, l)
-
-pub relay_again-of-view-requires-2 : goal.relay_again-of-view-requires-2
-relay_again-of-view-requires-2 g t c =
-    let m = c.args.metrics.now in
-    let node = c.args.node.now in
-    let memo = c.args.memo.now in
-    let context = c.args.context.now in
-    let before = c.args.before in
-    let h = c.requires.agrees in
-    let b = c.requires.before in
-    let entry_is = read_entry m node memo context before h b c.as_slice.result.now c.index-as_slice-before.result c.as_slice.ensures c.index-as_slice-before.is in
-    let asks = c.in_ok-ones.ones in
-    let o = asks_made m node memo context before h b c.of-view.result.node.now c.index-as_slice-before.result asks c.of-view.ensures entry_is (c.in_ok-ones.ensures {u = tt}).ok in
-    let child = c.index-as_slice-place.result in
-    let there = read_at c.as_slice-2.result.now (out-Node node).children before.child child c.as_slice-2.ensures (near_child m node memo context before h b asks o) c.index-as_slice-place.is in
-    let q = c.index-as_slice-place-2.result in
-    let asked = read_at c.as_slice-3.result.now asks before.child q c.as_slice-3.ensures (within_asks m node memo context before h b asks o) c.index-as_slice-place-2.is in
-    let old = c.at_mut-below.result.now in
     let new = c.relay_element.new.memo in
-    let at = c.at_mut-below.ensures.value in
-    let made = (c.in_ok-answer.ensures {u = tt}) in
-    let pass = pass_again m node memo context before h b asks o q asked child there old new at made.passed.keeps c.args.steps.now c.relay_element.new.steps true made.passed in
-    shown_by m node memo context before h b (roll-Memo (renewed memo before.child new)) pass.agrees c.requires.few
+    let done = (c.in_ok-answer.ensures {u = tt}) in
+    let answer = c.in_ok-answer.answer in
+    let pass = passed_child m node memo context before h b c.requires.few c.requires.context was asked was_at is style child there old new at c.args.steps.now c.relay_element.new.steps true done.passed in
+    shown_by m node memo context before h b (now m node memo context before h b new) pass.agrees c.requires.few
 
-pub relay_again-outcome_of-requires-clause-size : goal.relay_again-outcome_of-requires-clause-size
-relay_again-outcome_of-requires-clause-size g t c =
+pub relay_again-make_again-requires-clause-size : goal.relay_again-make_again-requires-clause-size
+relay_again-make_again-requires-clause-size g t c =
     let m = c.args.metrics.now in
     let node = c.args.node.now in
     let memo = c.args.memo.now in
@@ -763,8 +730,8 @@ relay_again-outcome_of-requires-clause-size g t c =
     let sized = still_sized m node memo context before h b in
     search rules
 
-pub relay_again-outcome_of-requires-clause-one_wave : goal.relay_again-outcome_of-requires-clause-one_wave
-relay_again-outcome_of-requires-clause-one_wave g t c =
+pub relay_again-make_again-requires-clause-one_wave : goal.relay_again-make_again-requires-clause-one_wave
+relay_again-make_again-requires-clause-one_wave g t c =
     let m = c.args.metrics.now in
     let node = c.args.node.now in
     let memo = c.args.memo.now in
@@ -772,10 +739,10 @@ relay_again-outcome_of-requires-clause-one_wave g t c =
     let before = c.args.before in
     let h = c.requires.agrees in
     let b = c.requires.before in
-    subst (λ (n : Node). has_one_wave (survey_of m (seen_of n) context) ≡ true) (sym c.of-view-2.ensures) (still_regular m node memo context before h b).one_wave
+    (still_regular m node memo context before h b).one_wave
 
-pub relay_again-outcome_of-requires-clause-ones : goal.relay_again-outcome_of-requires-clause-ones
-relay_again-outcome_of-requires-clause-ones g t c =
+pub relay_again-make_again-requires-clause-ones : goal.relay_again-make_again-requires-clause-ones
+relay_again-make_again-requires-clause-ones g t c =
     let m = c.args.metrics.now in
     let node = c.args.node.now in
     let memo = c.args.memo.now in
@@ -784,37 +751,21 @@ relay_again-outcome_of-requires-clause-ones g t c =
     let h = c.requires.agrees in
     let b = c.requires.before in
     let entry_is = read_entry m node memo context before h b c.as_slice.result.now c.index-as_slice-before.result c.as_slice.ensures c.index-as_slice-before.is in
-    let asks = c.in_ok-ones.ones in
-    let o = asks_made m node memo context before h b c.of-view.result.node.now c.index-as_slice-before.result asks c.of-view.ensures entry_is (c.in_ok-ones.ensures {u = tt}).ok in
-    subst (λ (n : Node). asks ≡ first m (seen_of n) context) (sym c.of-view-2.ensures) (first_is m node memo context before h b asks o)
-
-pub relay_again-outcome_of-requires-clause-as_many : goal.relay_again-outcome_of-requires-clause-as_many
-relay_again-outcome_of-requires-clause-as_many g t c =
-    let m = c.args.metrics.now in
-    let node = c.args.node.now in
-    let memo = c.args.memo.now in
-    let context = c.args.context.now in
-    let before = c.args.before in
-    let h = c.requires.agrees in
-    let b = c.requires.before in
-    let entry_is = read_entry m node memo context before h b c.as_slice.result.now c.index-as_slice-before.result c.as_slice.ensures c.index-as_slice-before.is in
-    let asks = c.in_ok-ones.ones in
-    let o = asks_made m node memo context before h b c.of-view.result.node.now c.index-as_slice-before.result asks c.of-view.ensures entry_is (c.in_ok-ones.ensures {u = tt}).ok in
-    let child = c.index-as_slice-place.result in
-    let there = read_at c.as_slice-2.result.now (out-Node node).children before.child child c.as_slice-2.ensures (near_child m node memo context before h b asks o) c.index-as_slice-place.is in
-    let q = c.index-as_slice-place-2.result in
-    let asked = read_at c.as_slice-3.result.now asks before.child q c.as_slice-3.ensures (within_asks m node memo context before h b asks o) c.index-as_slice-place-2.is in
+    let was = c.index-as_slice-place.result in
+    let was_at = was_here m node memo context before h b c.as_slice-2.result.now c.index-as_slice-before.result was c.as_slice-2.ensures entry_is c.index-as_slice-place.is in
+    let near = near_child m node memo context before h b (map (restyled_at m (seen_of node) context before.child) b.entry.ones) refl in
+    let asked = c.in_ok-asked.asked in
+    let is = (c.in_ok-asked.ensures {u = tt}).ok ∙ ap (λ (n : Node). restyled m (seen_of n) context was) c.of-view.ensures in
+    let style = (c.in_ok-asked.ensures {u = tt}).style in
+    let child = c.index-as_slice-place-2.result in
+    let there = read_at c.as_slice-3.result.now (out-Node node).children before.child child c.as_slice-3.ensures near c.index-as_slice-place-2.is in
     let old = c.at_mut-below.result.now in
-    let new = c.relay_element.new.memo in
     let at = c.at_mut-below.ensures.value in
-    let made = (c.in_ok-answer.ensures {u = tt}) in
-    let pass = pass_again m node memo context before h b asks o q asked child there old new at made.passed.keeps c.args.steps.now c.relay_element.new.steps true made.passed in
-    let answers = set c.in_ok-one.one before.child c.in_ok-answer.answer in
-    let one_is : answers ≡ set b.entry.one before.child c.in_ok-answer.answer = ap (λ (l : List Answer). set l before.child c.in_ok-answer.answer) (c.in_ok-one.ensures {u = tt} ∙ ap (λ (e : Entry). e.one) entry_is) in
-    ap length (told_again m node memo context before h b asks o q asked child there old new at made.passed.keeps c.in_ok-answer.answer made.ok answers one_is pass.agrees made.kept) ∙ length-map asks (answer_of m node)
+    let new = c.relay_element.new.memo in
+    ap (λ (l : List Question). set l before.child asked) (ones_now m node memo context before h b new) ∙ first_again m node memo context before h b c.requires.few c.requires.context was asked was_at is style child there old new at
 
-pub relay_again-outcome_of-requires-clause-stored : goal.relay_again-outcome_of-requires-clause-stored
-relay_again-outcome_of-requires-clause-stored g t c =
+pub relay_again-make_again-requires-clause-stored : goal.relay_again-make_again-requires-clause-stored
+relay_again-make_again-requires-clause-stored g t c =
     let m = c.args.metrics.now in
     let node = c.args.node.now in
     let memo = c.args.memo.now in
@@ -823,101 +774,20 @@ relay_again-outcome_of-requires-clause-stored g t c =
     let h = c.requires.agrees in
     let b = c.requires.before in
     let entry_is = read_entry m node memo context before h b c.as_slice.result.now c.index-as_slice-before.result c.as_slice.ensures c.index-as_slice-before.is in
-    let asks = c.in_ok-ones.ones in
-    let o = asks_made m node memo context before h b c.of-view.result.node.now c.index-as_slice-before.result asks c.of-view.ensures entry_is (c.in_ok-ones.ensures {u = tt}).ok in
-    let child = c.index-as_slice-place.result in
-    let there = read_at c.as_slice-2.result.now (out-Node node).children before.child child c.as_slice-2.ensures (near_child m node memo context before h b asks o) c.index-as_slice-place.is in
-    let q = c.index-as_slice-place-2.result in
-    let asked = read_at c.as_slice-3.result.now asks before.child q c.as_slice-3.ensures (within_asks m node memo context before h b asks o) c.index-as_slice-place-2.is in
+    let was = c.index-as_slice-place.result in
+    let was_at = was_here m node memo context before h b c.as_slice-2.result.now c.index-as_slice-before.result was c.as_slice-2.ensures entry_is c.index-as_slice-place.is in
+    let near = near_child m node memo context before h b (map (restyled_at m (seen_of node) context before.child) b.entry.ones) refl in
+    let asked = c.in_ok-asked.asked in
+    let is = (c.in_ok-asked.ensures {u = tt}).ok ∙ ap (λ (n : Node). restyled m (seen_of n) context was) c.of-view.ensures in
+    let style = (c.in_ok-asked.ensures {u = tt}).style in
+    let child = c.index-as_slice-place-2.result in
+    let there = read_at c.as_slice-3.result.now (out-Node node).children before.child child c.as_slice-3.ensures near c.index-as_slice-place-2.is in
     let old = c.at_mut-below.result.now in
-    let new = c.relay_element.new.memo in
     let at = c.at_mut-below.ensures.value in
-    let made = (c.in_ok-answer.ensures {u = tt}) in
-    let pass = pass_again m node memo context before h b asks o q asked child there old new at made.passed.keeps c.args.steps.now c.relay_element.new.steps true made.passed in
-    let answers = set c.in_ok-one.one before.child c.in_ok-answer.answer in
-    let one_is : answers ≡ set b.entry.one before.child c.in_ok-answer.answer = ap (λ (l : List Answer). set l before.child c.in_ok-answer.answer) (c.in_ok-one.ensures {u = tt} ∙ ap (λ (e : Entry). e.one) entry_is) in
-    stored_again m node memo context before h b asks o q asked child there old new at made.passed.keeps c.in_ok-answer.answer made.ok answers one_is pass.agrees made.kept c.requires.few
-
-pub relay_again-returns-in_err-outcome-clause-passes : goal.relay_again-returns-in_err-outcome-clause-passes
-relay_again-returns-in_err-outcome-clause-passes g t c =
-    let m = c.args.metrics.now in
-    let node = c.args.node.now in
-    let memo = c.args.memo.now in
-    let context = c.args.context.now in
-    let before = c.args.before in
-    let h = c.requires.agrees in
-    let b = c.requires.before in
-    let entry_is = read_entry m node memo context before h b c.as_slice.result.now c.index-as_slice-before.result c.as_slice.ensures c.index-as_slice-before.is in
-    let asks = c.in_ok-ones.ones in
-    let o = asks_made m node memo context before h b c.of-view.result.node.now c.index-as_slice-before.result asks c.of-view.ensures entry_is (c.in_ok-ones.ensures {u = tt}).ok in
-    let child = c.index-as_slice-place.result in
-    let there = read_at c.as_slice-2.result.now (out-Node node).children before.child child c.as_slice-2.ensures (near_child m node memo context before h b asks o) c.index-as_slice-place.is in
-    let q = c.index-as_slice-place-2.result in
-    let asked = read_at c.as_slice-3.result.now asks before.child q c.as_slice-3.ensures (within_asks m node memo context before h b asks o) c.index-as_slice-place-2.is in
-    let old = c.at_mut-below.result.now in
     let new = c.relay_element.new.memo in
-    let at = c.at_mut-below.ensures.value in
-    let made = (c.in_ok-answer.ensures {u = tt}) in
-    let pass = pass_again m node memo context before h b asks o q asked child there old new at made.passed.keeps c.args.steps.now c.relay_element.new.steps true made.passed in
-    let answers = set c.in_ok-one.one before.child c.in_ok-answer.answer in
-    let one_is : answers ≡ set b.entry.one before.child c.in_ok-answer.answer = ap (λ (l : List Answer). set l before.child c.in_ok-answer.answer) (c.in_ok-one.ensures {u = tt} ∙ ap (λ (e : Entry). e.one) entry_is) in
-    let missing = missing_again m node memo context before h b asks o before.child new c.requires.missing in
-    passes_both m pass (passes_step m node (Needs m node context) (roll-Memo (renewed memo before.child new)) context c.relay_element.new.steps c.outcome_of.new.steps pass.agrees missing (own_need m node context) c.outcome_of.ensures.step)
-
-pub relay_again-returns-in_err-outcome-clause-range : goal.relay_again-returns-in_err-outcome-clause-range
-relay_again-returns-in_err-outcome-clause-range g t c =
-    λ e.
-    let m = c.args.metrics.now in
-    let node = c.args.node.now in
-    let memo = c.args.memo.now in
-    let context = c.args.context.now in
-    let before = c.args.before in
-    let h = c.requires.agrees in
-    let b = c.requires.before in
-    let entry_is = read_entry m node memo context before h b c.as_slice.result.now c.index-as_slice-before.result c.as_slice.ensures c.index-as_slice-before.is in
-    let asks = c.in_ok-ones.ones in
-    let o = asks_made m node memo context before h b c.of-view.result.node.now c.index-as_slice-before.result asks c.of-view.ensures entry_is (c.in_ok-ones.ensures {u = tt}).ok in
-    let child = c.index-as_slice-place.result in
-    let there = read_at c.as_slice-2.result.now (out-Node node).children before.child child c.as_slice-2.ensures (near_child m node memo context before h b asks o) c.index-as_slice-place.is in
-    let q = c.index-as_slice-place-2.result in
-    let asked = read_at c.as_slice-3.result.now asks before.child q c.as_slice-3.ensures (within_asks m node memo context before h b asks o) c.index-as_slice-place-2.is in
-    let old = c.at_mut-below.result.now in
-    let new = c.relay_element.new.memo in
-    let at = c.at_mut-below.ensures.value in
-    let made = (c.in_ok-answer.ensures {u = tt}) in
-    let pass = pass_again m node memo context before h b asks o q asked child there old new at made.passed.keeps c.args.steps.now c.relay_element.new.steps true made.passed in
-    let answers = set c.in_ok-one.one before.child c.in_ok-answer.answer in
-    let one_is : answers ≡ set b.entry.one before.child c.in_ok-answer.answer = ap (λ (l : List Answer). set l before.child c.in_ok-answer.answer) (c.in_ok-one.ensures {u = tt} ∙ ap (λ (e : Entry). e.one) entry_is) in
-    let w = (waves_again m node memo context before h b asks o q asked child there old new at made.passed.keeps c.in_ok-answer.answer made.ok answers one_is pass.agrees made.kept) in
-    let same = rw e at c.from_residual-in_err-outcome.ensures.1 in
-    waves_unfit w (ap (λ (n : Node). outcome_fits (equation m (seen_of n) context answers [])) (sym c.of-view-2.ensures) ∙ (c.in_err-outcome.ensures {u = tt}).range (ap Err (sym same)))
-
-pub relay_again-returns-in_err-keep-clause-passes : goal.relay_again-returns-in_err-keep-clause-passes
-relay_again-returns-in_err-keep-clause-passes g t c =
-    let m = c.args.metrics.now in
-    let node = c.args.node.now in
-    let memo = c.args.memo.now in
-    let context = c.args.context.now in
-    let before = c.args.before in
-    let h = c.requires.agrees in
-    let b = c.requires.before in
-    let entry_is = read_entry m node memo context before h b c.as_slice.result.now c.index-as_slice-before.result c.as_slice.ensures c.index-as_slice-before.is in
-    let asks = c.in_ok-ones.ones in
-    let o = asks_made m node memo context before h b c.of-view.result.node.now c.index-as_slice-before.result asks c.of-view.ensures entry_is (c.in_ok-ones.ensures {u = tt}).ok in
-    let child = c.index-as_slice-place.result in
-    let there = read_at c.as_slice-2.result.now (out-Node node).children before.child child c.as_slice-2.ensures (near_child m node memo context before h b asks o) c.index-as_slice-place.is in
-    let q = c.index-as_slice-place-2.result in
-    let asked = read_at c.as_slice-3.result.now asks before.child q c.as_slice-3.ensures (within_asks m node memo context before h b asks o) c.index-as_slice-place-2.is in
-    let old = c.at_mut-below.result.now in
-    let new = c.relay_element.new.memo in
-    let at = c.at_mut-below.ensures.value in
-    let made = (c.in_ok-answer.ensures {u = tt}) in
-    let pass = pass_again m node memo context before h b asks o q asked child there old new at made.passed.keeps c.args.steps.now c.relay_element.new.steps true made.passed in
-    let answers = set c.in_ok-one.one before.child c.in_ok-answer.answer in
-    let one_is : answers ≡ set b.entry.one before.child c.in_ok-answer.answer = ap (λ (l : List Answer). set l before.child c.in_ok-answer.answer) (c.in_ok-one.ensures {u = tt} ∙ ap (λ (e : Entry). e.one) entry_is) in
-    let missing = missing_again m node memo context before h b asks o before.child new c.requires.missing in
-    subst (λ (z : Memo). Passes m node (Needs m node context) memo z c.args.steps.now c.outcome_of.new.steps false) (sym (c.in_err-keep.ensures {u = tt}).unchanged)
-    (passes_both m pass (passes_step m node (Needs m node context) (roll-Memo (renewed memo before.child new)) context c.relay_element.new.steps c.outcome_of.new.steps pass.agrees missing (own_need m node context) c.outcome_of.ensures.step))
+    let done = (c.in_ok-answer.ensures {u = tt}) in
+    let answer = c.in_ok-answer.answer in
+    subst AreAnswers (sym (ap (λ (l : List Answer). set l before.child answer) (one_now m node memo context before h b new))) (stored m node memo context before h b c.requires.few c.requires.context was asked was_at is style child there old new at c.args.steps.now c.relay_element.new.steps done.passed answer done.ok done.kept)
 
 pub relay_again-returns-clause-passes : goal.relay_again-returns-clause-passes
 relay_again-returns-clause-passes g t c =
@@ -929,31 +799,24 @@ relay_again-returns-clause-passes g t c =
     let h = c.requires.agrees in
     let b = c.requires.before in
     let entry_is = read_entry m node memo context before h b c.as_slice.result.now c.index-as_slice-before.result c.as_slice.ensures c.index-as_slice-before.is in
-    let asks = c.in_ok-ones.ones in
-    let o = asks_made m node memo context before h b c.of-view.result.node.now c.index-as_slice-before.result asks c.of-view.ensures entry_is (c.in_ok-ones.ensures {u = tt}).ok in
-    let child = c.index-as_slice-place.result in
-    let there = read_at c.as_slice-2.result.now (out-Node node).children before.child child c.as_slice-2.ensures (near_child m node memo context before h b asks o) c.index-as_slice-place.is in
-    let q = c.index-as_slice-place-2.result in
-    let asked = read_at c.as_slice-3.result.now asks before.child q c.as_slice-3.ensures (within_asks m node memo context before h b asks o) c.index-as_slice-place-2.is in
+    let was = c.index-as_slice-place.result in
+    let was_at = was_here m node memo context before h b c.as_slice-2.result.now c.index-as_slice-before.result was c.as_slice-2.ensures entry_is c.index-as_slice-place.is in
+    let near = near_child m node memo context before h b (map (restyled_at m (seen_of node) context before.child) b.entry.ones) refl in
+    let asked = c.in_ok-asked.asked in
+    let is = (c.in_ok-asked.ensures {u = tt}).ok ∙ ap (λ (n : Node). restyled m (seen_of n) context was) c.of-view.ensures in
+    let style = (c.in_ok-asked.ensures {u = tt}).style in
+    let child = c.index-as_slice-place-2.result in
+    let there = read_at c.as_slice-3.result.now (out-Node node).children before.child child c.as_slice-3.ensures near c.index-as_slice-place-2.is in
     let old = c.at_mut-below.result.now in
-    let new = c.relay_element.new.memo in
     let at = c.at_mut-below.ensures.value in
-    let made = (c.in_ok-answer.ensures {u = tt}) in
-    let pass = pass_again m node memo context before h b asks o q asked child there old new at made.passed.keeps c.args.steps.now c.relay_element.new.steps true made.passed in
-    let answers = set c.in_ok-one.one before.child c.in_ok-answer.answer in
-    let one_is : answers ≡ set b.entry.one before.child c.in_ok-answer.answer = ap (λ (l : List Answer). set l before.child c.in_ok-answer.answer) (c.in_ok-one.ensures {u = tt} ∙ ap (λ (e : Entry). e.one) entry_is) in
-    let missing = missing_again m node memo context before h b asks o before.child new c.requires.missing in
-    let w = (waves_again m node memo context before h b asks o q asked child there old new at made.passed.keeps c.in_ok-answer.answer made.ok answers one_is pass.agrees made.kept) in
-    let outcome = (c.in_ok-outcome.ensures {u = tt}) in
-    let is = outcome.ok ∙ ap (λ (n : Node). equation m (seen_of n) context answers []) c.of-view-2.ensures in
-    let fit = ap (λ (n : Node). outcome_fits (equation m (seen_of n) context answers [])) (sym c.of-view-2.ensures) ∙ outcome.fit in
-    let whole = waves_fit w (still_sized m node memo context before h b) fit (fits_again m node memo context before h b asks o q asked child there old new at made.passed.keeps c.in_ok-answer.answer made.ok answers one_is pass.agrees made.kept) refl in
-    let kept : IsKeptNow (roll-Memo (renewed memo before.child new)) c.keep.new.memo context c.in_ok-outcome.outcome record { ones = asks; one = answers; twos = []; regular = true } =
-    subst (λ (twos : List Question). IsKeptNow (roll-Memo (renewed memo before.child new)) c.keep.new.memo context c.in_ok-outcome.outcome record { ones = asks; one = answers; twos = twos; regular = true }) c.make.ensures (c.in_ok-keep.ensures {u = tt}).kept in
-    let sound = sound_made w (roll-Memo (renewed memo before.child new)) c.keep.new.memo c.in_ok-outcome.outcome true kept is c.requires.context whole (c.in_ok-ones.ensures {u = tt}).styles (named_again m node memo context before h b asks o q asked child there old new at made.passed.keeps c.in_ok-answer.answer made.ok answers one_is pass.agrees made.kept) tt
-    (λ _. regular_again m node memo context before h b asks o) in
-    let all = passes_both m pass (passes_added m node (Needs m node context) (roll-Memo (renewed memo before.child new)) kept.entry context c.relay_element.new.steps c.outcome_of.new.steps pass.agrees sound missing kept.in_context kept.fresh (own_need m node context) c.outcome_of.ensures.step) in
-    subst (λ (z : Memo). Passes m node (Needs m node context) memo z c.args.steps.now c.outcome_of.new.steps false) (sym kept.added) (passes_partly m all)
+    let new = c.relay_element.new.memo in
+    let done = (c.in_ok-answer.ensures {u = tt}) in
+    let answer = c.in_ok-answer.answer in
+    let out_is = ap (λ (l : List Answer). equation m (seen_of node) context (set l before.child answer) []) (one_now m node memo context before h b new) in
+    on_each c.make_again.result c.make_again.ensures.made c.make_again.ensures.fit c.make_again.ensures.unchanged
+    (λ made fits. passes_partly m (passed_all m node memo context before h b c.requires.few c.requires.context was asked was_at is style child there old new at c.args.steps.now c.relay_element.new.steps done.passed answer done.ok done.kept c.make_again.new.memo _ out_is made c.make_again.new.steps fits c.requires.missing c.make_again.ensures.step))
+    (λ same. subst (λ (z : Memo). Passes m node (Needs m node context) memo z c.args.steps.now c.make_again.new.steps false) (sym same)
+    (step_only m node memo context before h b c.requires.few c.requires.context was asked was_at is style child there old new at c.args.steps.now c.relay_element.new.steps done.passed answer done.ok done.kept c.make_again.new.steps c.requires.missing c.make_again.ensures.step))
 
 pub relay_again-returns-clause-passed : goal.relay_again-returns-clause-passed
 relay_again-returns-clause-passed g t c =
@@ -965,48 +828,47 @@ relay_again-returns-clause-passed g t c =
     let h = c.requires.agrees in
     let b = c.requires.before in
     let entry_is = read_entry m node memo context before h b c.as_slice.result.now c.index-as_slice-before.result c.as_slice.ensures c.index-as_slice-before.is in
-    let asks = c.in_ok-ones.ones in
-    let o = asks_made m node memo context before h b c.of-view.result.node.now c.index-as_slice-before.result asks c.of-view.ensures entry_is (c.in_ok-ones.ensures {u = tt}).ok in
-    let child = c.index-as_slice-place.result in
-    let there = read_at c.as_slice-2.result.now (out-Node node).children before.child child c.as_slice-2.ensures (near_child m node memo context before h b asks o) c.index-as_slice-place.is in
-    let q = c.index-as_slice-place-2.result in
-    let asked = read_at c.as_slice-3.result.now asks before.child q c.as_slice-3.ensures (within_asks m node memo context before h b asks o) c.index-as_slice-place-2.is in
+    let was = c.index-as_slice-place.result in
+    let was_at = was_here m node memo context before h b c.as_slice-2.result.now c.index-as_slice-before.result was c.as_slice-2.ensures entry_is c.index-as_slice-place.is in
+    let near = near_child m node memo context before h b (map (restyled_at m (seen_of node) context before.child) b.entry.ones) refl in
+    let asked = c.in_ok-asked.asked in
+    let is = (c.in_ok-asked.ensures {u = tt}).ok ∙ ap (λ (n : Node). restyled m (seen_of n) context was) c.of-view.ensures in
+    let style = (c.in_ok-asked.ensures {u = tt}).style in
+    let child = c.index-as_slice-place-2.result in
+    let there = read_at c.as_slice-3.result.now (out-Node node).children before.child child c.as_slice-3.ensures near c.index-as_slice-place-2.is in
     let old = c.at_mut-below.result.now in
-    let new = c.relay_element.new.memo in
     let at = c.at_mut-below.ensures.value in
-    let made = (c.in_ok-answer.ensures {u = tt}) in
-    let pass = pass_again m node memo context before h b asks o q asked child there old new at made.passed.keeps c.args.steps.now c.relay_element.new.steps true made.passed in
-    let answers = set c.in_ok-one.one before.child c.in_ok-answer.answer in
-    let one_is : answers ≡ set b.entry.one before.child c.in_ok-answer.answer = ap (λ (l : List Answer). set l before.child c.in_ok-answer.answer) (c.in_ok-one.ensures {u = tt} ∙ ap (λ (e : Entry). e.one) entry_is) in
-    let missing = missing_again m node memo context before h b asks o before.child new c.requires.missing in
-    let w = (waves_again m node memo context before h b asks o q asked child there old new at made.passed.keeps c.in_ok-answer.answer made.ok answers one_is pass.agrees made.kept) in
-    let outcome = (c.in_ok-outcome.ensures {u = tt}) in
-    let is = outcome.ok ∙ ap (λ (n : Node). equation m (seen_of n) context answers []) c.of-view-2.ensures in
-    let fit = ap (λ (n : Node). outcome_fits (equation m (seen_of n) context answers [])) (sym c.of-view-2.ensures) ∙ outcome.fit in
-    let whole = waves_fit w (still_sized m node memo context before h b) fit (fits_again m node memo context before h b asks o q asked child there old new at made.passed.keeps c.in_ok-answer.answer made.ok answers one_is pass.agrees made.kept) refl in
-    let kept : IsKeptNow (roll-Memo (renewed memo before.child new)) c.keep.new.memo context c.in_ok-outcome.outcome record { ones = asks; one = answers; twos = []; regular = true } =
-    subst (λ (twos : List Question). IsKeptNow (roll-Memo (renewed memo before.child new)) c.keep.new.memo context c.in_ok-outcome.outcome record { ones = asks; one = answers; twos = twos; regular = true }) c.make.ensures (c.in_ok-keep.ensures {u = tt}).kept in
-    let sound = sound_made w (roll-Memo (renewed memo before.child new)) c.keep.new.memo c.in_ok-outcome.outcome true kept is c.requires.context whole (c.in_ok-ones.ensures {u = tt}).styles (named_again m node memo context before h b asks o q asked child there old new at made.passed.keeps c.in_ok-answer.answer made.ok answers one_is pass.agrees made.kept) tt
-    (λ _. regular_again m node memo context before h b asks o) in
-    let all = passes_both m pass (passes_added m node (Needs m node context) (roll-Memo (renewed memo before.child new)) kept.entry context c.relay_element.new.steps c.outcome_of.new.steps pass.agrees sound missing kept.in_context kept.fresh (own_need m node context) c.outcome_of.ensures.step) in
-    subst (λ (z : Memo). Passes m node (Needs m node context) memo z c.args.steps.now c.outcome_of.new.steps true) (sym kept.added) all
+    let new = c.relay_element.new.memo in
+    let done = (c.in_ok-answer.ensures {u = tt}) in
+    let answer = c.in_ok-answer.answer in
+    let out_is = ap (λ (l : List Answer). equation m (seen_of node) context (set l before.child answer) []) (one_now m node memo context before h b new) in
+    on_both c.make_again.result c.make_again.ensures.made c.make_again.ensures.fit (λ made fits. passed_all m node memo context before h b c.requires.few c.requires.context was asked was_at is style child there old new at c.args.steps.now c.relay_element.new.steps done.passed answer done.ok done.kept c.make_again.new.memo _ out_is made c.make_again.new.steps fits c.requires.missing c.make_again.ensures.step)
 
 pub relay_again-returns-clause-kept : goal.relay_again-returns-clause-kept
 relay_again-returns-clause-kept g t c =
-    let kept = (c.in_ok-keep.ensures {u = tt}).kept in
-    let now = roll-Memo (renewed c.args.memo.now c.args.before.child c.relay_element.new.memo) in
-    let live = fresh_live (is_marked (out-Memo now)) kept.entry kept.fresh in
-    subst (λ (memo : Memo). IsKept (out-Memo memo) c.args.context.now) (sym kept.added)
-    record { entry = kept.entry; has = has_added now kept.entry live; in_context = kept.in_context }
+    let m = c.args.metrics.now in
+    let node = c.args.node.now in
+    let memo = c.args.memo.now in
+    let context = c.args.context.now in
+    let before = c.args.before in
+    let h = c.requires.agrees in
+    let b = c.requires.before in
+    let new = c.relay_element.new.memo in
+    on_both c.make_again.result c.make_again.ensures.made c.make_again.ensures.fit (λ made fits. kept_again m node memo context before h b new c.make_again.new.memo _ _ made)
 
 pub relay_again-returns-clause-tidy : goal.relay_again-returns-clause-tidy
 relay_again-returns-clause-tidy g t c =
-    λ h.
-    let kept = (c.in_ok-keep.ensures {u = tt}).kept in
+    let m = c.args.metrics.now in
+    let node = c.args.node.now in
     let memo = c.args.memo.now in
-    let place = c.args.before.child in
-    let below = tidy_renewed memo place c.at_mut-below.result.now c.relay_element.new.memo c.at_mut-below.ensures.value (tidy_below memo h) (c.in_ok-answer.ensures {u = tt}).tidy in
-    subst IsTidy (sym kept.added) (tidy_added (roll-Memo (renewed memo place c.relay_element.new.memo)) kept.entry kept.fresh below)
+    let context = c.args.context.now in
+    let before = c.args.before in
+    let h = c.requires.agrees in
+    let b = c.requires.before in
+    let new = c.relay_element.new.memo in
+    on_both c.make_again.result c.make_again.ensures.made c.make_again.ensures.fit
+    (λ made fits tidy. tidied_again m node memo context before h b new c.make_again.new.memo _ _ made
+    (tidy_renewed memo before.child c.at_mut-below.result.now new c.at_mut-below.ensures.value (tidy_below memo tidy) (c.in_ok-answer.ensures {u = tt}).tidy))
 
 pub relay_again-returns-clause-ok : goal.relay_again-returns-clause-ok
 relay_again-returns-clause-ok g t c =
@@ -1018,26 +880,22 @@ relay_again-returns-clause-ok g t c =
     let h = c.requires.agrees in
     let b = c.requires.before in
     let entry_is = read_entry m node memo context before h b c.as_slice.result.now c.index-as_slice-before.result c.as_slice.ensures c.index-as_slice-before.is in
-    let asks = c.in_ok-ones.ones in
-    let o = asks_made m node memo context before h b c.of-view.result.node.now c.index-as_slice-before.result asks c.of-view.ensures entry_is (c.in_ok-ones.ensures {u = tt}).ok in
-    let child = c.index-as_slice-place.result in
-    let there = read_at c.as_slice-2.result.now (out-Node node).children before.child child c.as_slice-2.ensures (near_child m node memo context before h b asks o) c.index-as_slice-place.is in
-    let q = c.index-as_slice-place-2.result in
-    let asked = read_at c.as_slice-3.result.now asks before.child q c.as_slice-3.ensures (within_asks m node memo context before h b asks o) c.index-as_slice-place-2.is in
+    let was = c.index-as_slice-place.result in
+    let was_at = was_here m node memo context before h b c.as_slice-2.result.now c.index-as_slice-before.result was c.as_slice-2.ensures entry_is c.index-as_slice-place.is in
+    let near = near_child m node memo context before h b (map (restyled_at m (seen_of node) context before.child) b.entry.ones) refl in
+    let asked = c.in_ok-asked.asked in
+    let is = (c.in_ok-asked.ensures {u = tt}).ok ∙ ap (λ (n : Node). restyled m (seen_of n) context was) c.of-view.ensures in
+    let style = (c.in_ok-asked.ensures {u = tt}).style in
+    let child = c.index-as_slice-place-2.result in
+    let there = read_at c.as_slice-3.result.now (out-Node node).children before.child child c.as_slice-3.ensures near c.index-as_slice-place-2.is in
     let old = c.at_mut-below.result.now in
-    let new = c.relay_element.new.memo in
     let at = c.at_mut-below.ensures.value in
-    let made = (c.in_ok-answer.ensures {u = tt}) in
-    let pass = pass_again m node memo context before h b asks o q asked child there old new at made.passed.keeps c.args.steps.now c.relay_element.new.steps true made.passed in
-    let answers = set c.in_ok-one.one before.child c.in_ok-answer.answer in
-    let one_is : answers ≡ set b.entry.one before.child c.in_ok-answer.answer = ap (λ (l : List Answer). set l before.child c.in_ok-answer.answer) (c.in_ok-one.ensures {u = tt} ∙ ap (λ (e : Entry). e.one) entry_is) in
-    let missing = missing_again m node memo context before h b asks o before.child new c.requires.missing in
-    let w = (waves_again m node memo context before h b asks o q asked child there old new at made.passed.keeps c.in_ok-answer.answer made.ok answers one_is pass.agrees made.kept) in
-    let outcome = (c.in_ok-outcome.ensures {u = tt}) in
-    let is = outcome.ok ∙ ap (λ (n : Node). equation m (seen_of n) context answers []) c.of-view-2.ensures in
-    let fit = ap (λ (n : Node). outcome_fits (equation m (seen_of n) context answers [])) (sym c.of-view-2.ensures) ∙ outcome.fit in
-    let whole = waves_fit w (still_sized m node memo context before h b) fit (fits_again m node memo context before h b asks o q asked child there old new at made.passed.keeps c.in_ok-answer.answer made.ok answers one_is pass.agrees made.kept) refl in
-    (c.in_ok-keep.ensures {u = tt}).answer ∙ ap (λ (o : Outcome). o.answer) (is ∙ waves_lay w)
+    let new = c.relay_element.new.memo in
+    let done = (c.in_ok-answer.ensures {u = tt}) in
+    let answer = c.in_ok-answer.answer in
+    let out_is = ap (λ (l : List Answer). equation m (seen_of node) context (set l before.child answer) []) (one_now m node memo context before h b new) in
+    IfOk-weaker c.make_again.result (λ (a : Answer). a ≡ (equation m (seen_of node) context (set (one_at (out-Memo (now m node memo context before h b new)) before.entry) before.child answer) []).answer)
+    (λ (a : Answer). a ≡ (lay m node context).answer) (λ a e. e ∙ ap (λ (x : Outcome). x.answer) (out_is ∙ laid m node memo context before h b c.requires.few c.requires.context was asked was_at is style child there old new at c.args.steps.now c.relay_element.new.steps done.passed answer done.ok done.kept)) c.make_again.ensures.ok
 
 pub relay_again-returns-clause-fit : goal.relay_again-returns-clause-fit
 relay_again-returns-clause-fit g t c =
@@ -1049,23 +907,44 @@ relay_again-returns-clause-fit g t c =
     let h = c.requires.agrees in
     let b = c.requires.before in
     let entry_is = read_entry m node memo context before h b c.as_slice.result.now c.index-as_slice-before.result c.as_slice.ensures c.index-as_slice-before.is in
-    let asks = c.in_ok-ones.ones in
-    let o = asks_made m node memo context before h b c.of-view.result.node.now c.index-as_slice-before.result asks c.of-view.ensures entry_is (c.in_ok-ones.ensures {u = tt}).ok in
-    let child = c.index-as_slice-place.result in
-    let there = read_at c.as_slice-2.result.now (out-Node node).children before.child child c.as_slice-2.ensures (near_child m node memo context before h b asks o) c.index-as_slice-place.is in
-    let q = c.index-as_slice-place-2.result in
-    let asked = read_at c.as_slice-3.result.now asks before.child q c.as_slice-3.ensures (within_asks m node memo context before h b asks o) c.index-as_slice-place-2.is in
+    let was = c.index-as_slice-place.result in
+    let was_at = was_here m node memo context before h b c.as_slice-2.result.now c.index-as_slice-before.result was c.as_slice-2.ensures entry_is c.index-as_slice-place.is in
+    let near = near_child m node memo context before h b (map (restyled_at m (seen_of node) context before.child) b.entry.ones) refl in
+    let asked = c.in_ok-asked.asked in
+    let is = (c.in_ok-asked.ensures {u = tt}).ok ∙ ap (λ (n : Node). restyled m (seen_of n) context was) c.of-view.ensures in
+    let style = (c.in_ok-asked.ensures {u = tt}).style in
+    let child = c.index-as_slice-place-2.result in
+    let there = read_at c.as_slice-3.result.now (out-Node node).children before.child child c.as_slice-3.ensures near c.index-as_slice-place-2.is in
     let old = c.at_mut-below.result.now in
-    let new = c.relay_element.new.memo in
     let at = c.at_mut-below.ensures.value in
-    let made = (c.in_ok-answer.ensures {u = tt}) in
-    let pass = pass_again m node memo context before h b asks o q asked child there old new at made.passed.keeps c.args.steps.now c.relay_element.new.steps true made.passed in
-    let answers = set c.in_ok-one.one before.child c.in_ok-answer.answer in
-    let one_is : answers ≡ set b.entry.one before.child c.in_ok-answer.answer = ap (λ (l : List Answer). set l before.child c.in_ok-answer.answer) (c.in_ok-one.ensures {u = tt} ∙ ap (λ (e : Entry). e.one) entry_is) in
-    let missing = missing_again m node memo context before h b asks o before.child new c.requires.missing in
-    let w = (waves_again m node memo context before h b asks o q asked child there old new at made.passed.keeps c.in_ok-answer.answer made.ok answers one_is pass.agrees made.kept) in
-    let outcome = (c.in_ok-outcome.ensures {u = tt}) in
-    let is = outcome.ok ∙ ap (λ (n : Node). equation m (seen_of n) context answers []) c.of-view-2.ensures in
-    let fit = ap (λ (n : Node). outcome_fits (equation m (seen_of n) context answers [])) (sym c.of-view-2.ensures) ∙ outcome.fit in
-    let whole = waves_fit w (still_sized m node memo context before h b) fit (fits_again m node memo context before h b asks o q asked child there old new at made.passed.keeps c.in_ok-answer.answer made.ok answers one_is pass.agrees made.kept) refl in
-    whole
+    let new = c.relay_element.new.memo in
+    let done = (c.in_ok-answer.ensures {u = tt}) in
+    let answer = c.in_ok-answer.answer in
+    let out_is = ap (λ (l : List Answer). equation m (seen_of node) context (set l before.child answer) []) (one_now m node memo context before h b new) in
+    on_both c.make_again.result c.make_again.ensures.made c.make_again.ensures.fit (λ made fits. fit m node memo context before h b c.requires.few c.requires.context was asked was_at is style child there old new at c.args.steps.now c.relay_element.new.steps done.passed answer done.ok done.kept (ap outcome_fits (sym out_is) ∙ fits))
+
+pub relay_again-returns-clause-range : goal.relay_again-returns-clause-range
+relay_again-returns-clause-range g t c =
+    let m = c.args.metrics.now in
+    let node = c.args.node.now in
+    let memo = c.args.memo.now in
+    let context = c.args.context.now in
+    let before = c.args.before in
+    let h = c.requires.agrees in
+    let b = c.requires.before in
+    let entry_is = read_entry m node memo context before h b c.as_slice.result.now c.index-as_slice-before.result c.as_slice.ensures c.index-as_slice-before.is in
+    let was = c.index-as_slice-place.result in
+    let was_at = was_here m node memo context before h b c.as_slice-2.result.now c.index-as_slice-before.result was c.as_slice-2.ensures entry_is c.index-as_slice-place.is in
+    let near = near_child m node memo context before h b (map (restyled_at m (seen_of node) context before.child) b.entry.ones) refl in
+    let asked = c.in_ok-asked.asked in
+    let is = (c.in_ok-asked.ensures {u = tt}).ok ∙ ap (λ (n : Node). restyled m (seen_of n) context was) c.of-view.ensures in
+    let style = (c.in_ok-asked.ensures {u = tt}).style in
+    let child = c.index-as_slice-place-2.result in
+    let there = read_at c.as_slice-3.result.now (out-Node node).children before.child child c.as_slice-3.ensures near c.index-as_slice-place-2.is in
+    let old = c.at_mut-below.result.now in
+    let at = c.at_mut-below.ensures.value in
+    let new = c.relay_element.new.memo in
+    let done = (c.in_ok-answer.ensures {u = tt}) in
+    let answer = c.in_ok-answer.answer in
+    let out_is = ap (λ (l : List Answer). equation m (seen_of node) context (set l before.child answer) []) (one_now m node memo context before h b new) in
+    λ e. unfit m node memo context before h b c.requires.few c.requires.context was asked was_at is style child there old new at c.args.steps.now c.relay_element.new.steps done.passed answer done.ok done.kept (ap outcome_fits (sym out_is) ∙ c.make_again.ensures.range e)

@@ -11,7 +11,6 @@ use Rattle.layout_model.specs.declared.context.Question.{Question}
 use Rattle.layout_core.proofs.Children.{item_of}
 use Rattle.kept_results.specs.Kept.{NamesKept}
 use Rattle.kept_results.specs.Looking.{own_facts}
-use Rattle.kept_results.specs.declared.memo.Entry.{Entry}
 use Rattle.kept_results.specs.declared.memo.Memo.{Memo}
 use Rattle.kept_results.specs.declared.memo.Memo.TheViews.{out-Memo}
 use Rattle.kept_results.proofs.Lists.{all_more, all_then}
@@ -21,16 +20,16 @@ use Rattle.kept_sweep.proofs.flags.+flag.Goals as goal
 
 -- ---- one entry
 
-pub flag_needed-bounds-as_slice-at-then-not-as_slice-at : goal.flag_needed-bounds-as_slice-at-then-not-as_slice-at
-flag_needed-bounds-as_slice-at-then-not-as_slice-at t c =
+pub flag_needed-bounds-as_slice-at-then-not-is_fresh : goal.flag_needed-bounds-as_slice-at-then-not-is_fresh
+flag_needed-bounds-as_slice-at-then-not-is_fresh t c =
     let f = (c.in-Some.ensures {u = tt}).some in
     let h = slice_get_within (out-Memo c.args.memo.now).entries c.in-Some.at f.entry f.at in
-    omega (arith, h, ap length (c.as_slice-then-not-as_slice-at.ensures ∙ whole_entries c.args.memo.now))
+    omega (arith, h, ap length (c.as_slice-then-not-is_fresh.ensures ∙ whole_entries c.args.memo.now))
 
 pub flag_needed-flag_asked-requires : goal.flag_needed-flag_asked-requires
 flag_needed-flag_asked-requires t c =
-    let x = c.index-as_slice-at-then-not-as_slice-at in
-    let r = entry_read c.args.memo.now c.args.context.now c.in-Some.at c.as_slice-then-not-as_slice-at.result.now x.result (c.in-Some.ensures {u = tt}).some (c.as_slice-then-not-as_slice-at.ensures ∙ whole_entries c.args.memo.now) x.is in
+    let x = c.index-as_slice-at-then-not-is_fresh in
+    let r = entry_read c.args.memo.now c.args.context.now c.in-Some.at c.as_slice-then-not-is_fresh.result.now x.result (c.in-Some.ensures {u = tt}).some (c.as_slice-then-not-is_fresh.ensures ∙ whole_entries c.args.memo.now) x.is in
     let all = ready c.args.metrics.now c.args.node.now c.args.memo.now c.in-Some.at x.result c.requires.agrees c.requires.whole r.0 in
     (omega arith, (all.own, (all.known, (all.agrees, (all.whole, (all.ones, all.twos))))))
 
@@ -39,19 +38,19 @@ flag_needed-at_mut-requires t c =
     let f = (c.in-Some.ensures {u = tt}).some in
     place_within c.args.memo.now c.flag_asked.new.below c.in-Some.at f.entry f.at
 
-pub flag_needed-returns-then-not-as_slice-at : goal.flag_needed-returns-then-not-as_slice-at
-flag_needed-returns-then-not-as_slice-at t c =
-    let x = c.index-as_slice-at-then-not-as_slice-at in
-    let r = entry_read c.args.memo.now c.args.context.now c.in-Some.at c.as_slice-then-not-as_slice-at.result.now x.result (c.in-Some.ensures {u = tt}).some (c.as_slice-then-not-as_slice-at.ensures ∙ whole_entries c.args.memo.now) x.is in
+pub flag_needed-returns-then-not-is_fresh : goal.flag_needed-returns-then-not-is_fresh
+flag_needed-returns-then-not-is_fresh t c =
+    let x = c.index-as_slice-at-then-not-is_fresh in
+    let r = entry_read c.args.memo.now c.args.context.now c.in-Some.at c.as_slice-then-not-is_fresh.result.now x.result (c.in-Some.ensures {u = tt}).some (c.as_slice-then-not-is_fresh.ensures ∙ whole_entries c.args.memo.now) x.is in
     flagged_end c.args.metrics.now c.args.node.now c.args.memo.now c.in-Some.at x.result c.requires.agrees c.requires.whole r.0 c.args.context.now c.at_mut.result.now c.flag_asked.new.below r.1 c.at_mut.ensures.value
     c.flag_asked.ensures.flagged c.flag_asked.ensures.ones c.flag_asked.ensures.twos
 
-pub flag_needed-returns-else-not-as_slice-at : goal.flag_needed-returns-else-not-as_slice-at
-flag_needed-returns-else-not-as_slice-at t c =
+pub flag_needed-returns-else-not-is_fresh : goal.flag_needed-returns-else-not-is_fresh
+flag_needed-returns-else-not-is_fresh t c =
     let x = c.index-as_slice-at in
     let r = entry_read c.args.memo.now c.args.context.now c.in-Some.at c.as_slice.result.now x.result (c.in-Some.ensures {u = tt}).some c.as_slice.ensures x.is in
     subst (IsFlagged c.args.metrics.now c.args.node.now c.args.context.now c.args.memo.now) (sym (same_whole c.args.memo.now))
-    (flagged_already c.args.metrics.now c.args.node.now c.args.memo.now c.args.context.now c.in-Some.at x.result c.requires.agrees r.0 r.1 (ap (λ (e : Entry). e.fresh) x.is ∙ c.if-not-as_slice-at.false))
+    (flagged_already c.args.metrics.now c.args.node.now c.args.memo.now c.args.context.now c.in-Some.at x.result c.requires.agrees r.0 r.1 (sym c.is_fresh.ensures ∙ c.if-not-is_fresh.false))
 
 pub flag_needed-returns-in_default : goal.flag_needed-returns-in_default
 flag_needed-returns-in_default t c =
