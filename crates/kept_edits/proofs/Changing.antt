@@ -189,7 +189,7 @@ module _ (m : MetricsValue) where
 
   -- ---- at the end of a path
 
-  abbrev after : Change → List ℕ → Node → Node
+  abbrev pub after : Change → List ℕ → Node → Node
   after change path node = changed_at (changed change) path node
 
   pub child_on : (change : Change) (place : ℕ) (path : List ℕ) (found : Option Node) (element : Node) → option_and_then (node_at path) found ≡ Some element → Fits change element

@@ -1,23 +1,32 @@
--- Changed memos are tidy: only the elements on the way are marked, and nothing is fresh.
-use Rattle.std.proofs.Common.{◌≡◌, inl, inr, refl, sym, ap, subst, ℕ, true, List, [], ◌∷◌, get_or, length, set}
+-- Changed memos are tidy: only the elements on the way are marked, each names its child on the way or none, and nothing is fresh.
+use Rattle.std.proofs.Common.{◌≡◌, ◌∙◌, inl, inr, refl, sym, ap, subst, ℕ, zero, suc, ◌<◌, arith, true, List, [], ◌∷◌, get_or, length, set, Option, Some, slice_get}
+use Rattle.std.proofs.lemmas.Option.{none-some, same_Some, slice_get_within}
 use Rattle.std.specs.Option.{option_map_or}
 use Rattle.font_metrics.specs.Metrics.{MetricsValue}
+use Rattle.math_tree.specs.Trees.{node as node_of}
 use Rattle.math_tree.specs.declared.node.Node.{Node}
-use Rattle.kept_results.specs.Ends.{stripped}
+use Rattle.math_tree.specs.declared.node.Node.TheOpen.{Node-F}
+use Rattle.math_tree.specs.declared.node.Node.TheViews.{out-Node, out-roll-Node}
+use Rattle.tree_edits.specs.Edits.{head_of}
+use Rattle.tree_edits.specs.Paths.{FitsAt, children_of}
+use Rattle.tree_edits.specs.declared.change.Change.{Change}
+use Rattle.embellished.specs.declared.facts.Facts.{Facts}
 use Rattle.kept_results.specs.Laws.{is_unmarked}
 use Rattle.kept_results.specs.Looking.{own_facts}
-use Rattle.kept_results.specs.Tidy.{AreTidy, IsTidy}
+use Rattle.kept_results.specs.Tidy.{AreTidy, IsTidy, is_calm}
 use Rattle.kept_results.specs.declared.memo.Memo.{Memo}
 use Rattle.kept_results.specs.declared.memo.Memo.TheViews.{out-Memo}
-use Rattle.kept_results.proofs.Tidying.{clean_tidy, mark_calms, tidy_below, tidy_made, tidy_set}
+use Rattle.kept_results.proofs.Lists.{set_cases, set_here}
+use Rattle.kept_results.proofs.Tidying.{IsClean, clean_below, clean_calm, clean_tidy, mark_calms, tidy_below, tidy_made, tidy_set}
 use Rattle.kept_edits.specs.Blank.{blank}
 use Rattle.kept_edits.specs.Changed.{FitsBelow, FitsMemo, changed_below, changed_memo, renewed, renewed_on, with_below, seen_anew}
+use Rattle.kept_edits.specs.Laws.{IsReadyFor, KnownOn}
 use Rattle.kept_edits.specs.Passed.{PutsTidy}
 use Rattle.kept_edits.specs.declared.change.MemoChange.{MemoChange}
 use Rattle.kept_edits.specs.declared.change.MemoChange.TheVariants.{Stay, PutMemo, TakeMemo, SwapMemo}
 use Rattle.kept_edits.specs.declared.change.Renewal.{Renewal}
-use Rattle.kept_edits.proofs.Changing.{marked, marked_is}
-use Rattle.kept_edits.proofs.Lists.{both_insert, both_remove}
+use Rattle.kept_edits.proofs.Changing.{after, child_on, marked, marked_is, paired}
+use Rattle.kept_edits.proofs.Lists.{both_insert, both_remove, some_at}
 use Rattle.kept_edits.proofs.Unlaid.{blank_law}
 
 -- ---- the memos of an element's children
@@ -31,28 +40,78 @@ tidy_below_changed (SwapMemo index memo) below fits put h = tidy_set below index
 
 -- ---- on the way
 
-tidy_marked : (memo : Memo) (own : Renewal) (below : List Memo) → AreTidy below → IsTidy (with_below (renewed own memo) below)
-tidy_marked memo own below h = subst IsTidy (sym (marked_is memo own below)) (tidy_made (marked memo own below) (mark_calms (marked memo own below) refl) h)
+-- of an element on the way, layout sees the same but for its child on the way, or nothing is known
+abbrev pub NamesWay : List Renewal → List ℕ → Type 0
+NamesWay known [] = (own : Renewal) (but : ℕ) → slice_get known 0 ≡ Some own → own.alike_but ≡ Some but → ⊥
+NamesWay known (place ∷ path) =
+    ((own : Renewal) (but : ℕ) → slice_get known (length (place ∷ path)) ≡ Some own → own.alike_but ≡ Some but → but ≡ place) × NamesWay known path
 
--- what was tidy is so after a change
-pub changed_tidy : (change : MemoChange) (known : List Renewal) (path : List ℕ) (memo : Memo) → FitsMemo change path memo → PutsTidy change → IsTidy memo
+-- where nothing is known of an element, layout may see something else of it
+own_alike : (known : List Renewal) (n : ℕ) (facts : Facts) (but : ℕ) → (get_or known n (seen_anew facts)).alike_but ≡ Some but
+    → (own : Renewal) × (slice_get known n ≡ Some own) × (own.alike_but ≡ Some but)
+own_alike [] n facts but h = absurd (none-some but h)
+own_alike (own ∷ known) zero facts but h = (own, refl, h)
+own_alike (own ∷ known) (suc n) facts but h = own_alike known n facts but h
+
+tidy_marked : (memo : Memo) (own : Renewal) (below : List Memo)
+    → ((but : ℕ) → own.alike_but ≡ Some but → (place : ℕ) (kept : Memo) → slice_get below place ≡ Some kept → (place ≡ but → ⊥) → is_calm (out-Memo kept) ≡ true)
+    → AreTidy below → IsTidy (with_below (renewed own memo) below)
+tidy_marked memo own below others h = subst IsTidy (sym (marked_is memo own below)) (tidy_made (marked memo own below) (mark_calms (marked memo own below) refl others) h)
+
+-- what was clean is tidy after a change
+pub changed_tidy : (change : MemoChange) (known : List Renewal) (path : List ℕ) (memo : Memo) → NamesWay known path → FitsMemo change path memo → PutsTidy change → IsClean memo
     → IsTidy (changed_memo change known path memo)
-changed_tidy change known [] memo fits put h =
-    tidy_marked memo (get_or known 0 (seen_anew (own_facts memo))) (changed_below change (out-Memo memo).below) (tidy_below_changed change (out-Memo memo).below fits put (tidy_below memo h))
-changed_tidy change known (place ∷ path) memo fits put h =
+changed_tidy change known [] memo names fits put h =
+    tidy_marked memo (get_or known 0 (seen_anew (own_facts memo))) (changed_below change (out-Memo memo).below)
+    (λ but alike. let own = own_alike known 0 (own_facts memo) but alike in absurd (names own.0 but own.1 own.2))
+    (tidy_below_changed change (out-Memo memo).below fits put (tidy_below memo (clean_tidy memo h.unmarked h.plain)))
+changed_tidy change known (place ∷ path) memo names fits put h =
     let below : List Memo = (out-Memo memo).below in
     let kept : Memo = fits.0 in
-    let there = changed_tidy change known path kept fits.2 put (tidy_below memo h place kept fits.1) in
-    let is : changed_memo change known (place ∷ path) memo ≡ with_below (renewed_on known (place ∷ path) memo) (set below place (changed_memo change known path kept)) =
+    let new : Memo = changed_memo change known path kept in
+    let there = changed_tidy change known path kept names.1 fits.2 put (clean_below memo h place kept fits.1) in
+    let is : changed_memo change known (place ∷ path) memo ≡ with_below (renewed_on known (place ∷ path) memo) (set below place new) =
     ap (λ o. with_below (renewed_on known (place ∷ path) memo) (option_map_or (λ z. set below place (changed_memo change known path z)) o below)) fits.1 in
+    let others : (but : ℕ) → (get_or known (length (place ∷ path)) (seen_anew (own_facts memo))).alike_but ≡ Some but
+    → (j : ℕ) (one : Memo) → slice_get (set below place new) j ≡ Some one → (j ≡ but → ⊥) → is_calm (out-Memo one) ≡ true =
+    λ but alike j one at other.
+    let own = own_alike known (length (place ∷ path)) (own_facts memo) but alike in
+    elim (set_cases below place j new one at) [
+      | inl p ↦ absurd (other (p.0 ∙ sym (names.0 own.0 but own.1 own.2)))
+      | inr was ↦ clean_calm one (clean_below memo h j one was)
+    ] in
     subst IsTidy (sym is)
-    (tidy_marked memo (get_or known (length (place ∷ path)) (seen_anew (own_facts memo))) (set below place (changed_memo change known path kept))
-    (tidy_set below place (changed_memo change known path kept) (tidy_below memo h) there))
+    (tidy_marked memo (get_or known (length (place ∷ path)) (seen_anew (own_facts memo))) (set below place new) others
+    (tidy_set below place new (tidy_below memo (clean_tidy memo h.unmarked h.plain)) there))
 
--- before an edit a memo has no marks and flags
-pub changed_is_tidy : (change : MemoChange) (known : List Renewal) (path : List ℕ) (memo : Memo) → is_unmarked memo ≡ true → stripped memo ≡ memo → FitsMemo change path memo → PutsTidy change
-    → IsTidy (changed_memo change known path memo)
-changed_is_tidy change known path memo unmarked plain fits put = changed_tidy change known path memo fits put (clean_tidy memo unmarked plain)
+-- what is known of the elements on a way names it
+pub names_way : (m : MetricsValue) (path : List ℕ) (node : Node) (memo : Memo) (change : Change) (known : List Renewal) → IsReadyFor m node memo → FitsAt change path node
+    → KnownOn known path (after m change path node) memo → NamesWay known path
+names_way m [] node memo change known h fits is = λ own but at alike. absurd (none-some but (ap (λ (o : Renewal). o.alike_but) (same_Some _ own (sym is ∙ at)) ∙ alike))
+names_way m (place ∷ path) node memo change known h fits is =
+    let nodes : List Node = children_of node in
+    let pairs = paired m node memo h in
+    let c = child_on m change place path (slice_get nodes place) fits.element fits.at fits.fits in
+    let child : Node = c.0 in
+    let l = pairs.as_many in
+    let k = some_at (out-Memo memo).below place (omega (arith, l, slice_get_within nodes place child c.1)) in
+    let kept : Memo = k.0 in
+    let new : Node = after m change path child in
+    let made : Node = node_of (head_of node) (set nodes place new) in
+    let node_is : after m change (place ∷ path) node ≡ made =
+    ap (λ (o : Option Node). option_map_or (λ z. node_of (head_of node) (set nodes place (after m change path z))) o node) c.1 in
+    let known_made = subst (λ (n : Node). KnownOn known (place ∷ path) n memo) node_is is in
+    let there : slice_get (out-Node made).children place ≡ Some new =
+    ap (λ (z : Node-F Node). slice_get z.children place) (out-roll-Node record { head = head_of node; children = set nodes place new }) ∙ set_here nodes place new child c.1 in
+    ((λ own but at alike. (known_made.3 but (ap (λ (o : Renewal). o.alike_but) (same_Some known_made.0 own (sym known_made.1 ∙ at)) ∙ alike)).on_the_way),
+    names_way m path child kept change known (pairs.each place child kept c.1 k.1) c.2 (known_made.4 new kept there k.1))
+
+-- before an edit a memo has no marks, and nothing of it is fresh
+pub changed_is_tidy : (m : MetricsValue) (node : Node) (change : Change) (other : MemoChange) (known : List Renewal) (path : List ℕ) (memo : Memo) → is_unmarked memo ≡ true
+    → IsReadyFor m node memo → FitsAt change path node → KnownOn known path (after m change path node) memo → FitsMemo other path memo → PutsTidy other
+    → IsTidy (changed_memo other known path memo)
+changed_is_tidy m node change other known path memo unmarked ready at is fits put =
+    changed_tidy other known path memo (names_way m path node memo change known ready at is) fits put record { unmarked = unmarked; plain = ready.plain }
 
 -- what an edit puts in was never laid out
 pub blank_tidy : (m : MetricsValue) (node : Node) → IsTidy (blank node)

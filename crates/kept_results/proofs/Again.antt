@@ -51,7 +51,7 @@ use Rattle.kept_results.proofs.Agreement.{agrees_child, has_put, names_renewed, 
 use Rattle.kept_results.proofs.Lists.{set_back, set_here, set_other}
 use Rattle.kept_results.proofs.Passing.{fresh_live, pair_at, passes_both, passes_put, passes_step, passes_under, under}
 use Rattle.kept_results.proofs.Shown.{as_many_kids, flow_at, read_at, there_is}
-use Rattle.kept_results.proofs.Tidying.{stands, tidy_put}
+use Rattle.kept_results.proofs.Tidying.{stands, tidy_again}
 use Rattle.kept_results.proofs.Turns.{Waves, facts_known, missing_same, needed_below, ones_proper, own_entries, own_mark, pass_ones, sound_made, waves_fit, waves_lay, waves_unfit}
 
 -- ---- lists by their places
@@ -417,8 +417,8 @@ module _ (m : MetricsValue) (node : Node) (memo : Memo) (context : Context) (bef
             in_context = made_holds.in_context;
           }
 
-      pub tidied_again : AreTidy (out-Memo now).below → IsTidy after
-      tidied_again h = subst IsTidy (sym made.changed) (tidy_put now before.entry made.entry entry_made made.at refl h)
+      pub tidied_again : IsTidy memo → AreTidy (out-Memo now).below → IsTidy after
+      tidied_again tidy below = subst IsTidy (sym made.changed) (tidy_again memo before.child b.alike before.entry b.entry entry_made b.at b.serves.older refl new tidy below)
 
 -- ---- a pass over a regular element again
 

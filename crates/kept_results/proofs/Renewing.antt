@@ -1,13 +1,13 @@
 -- Loops that renew each memo below, one after another.
-use Rattle.std.proofs.Common.{◌≡◌, ◌∙◌, refl, sym, ap, ℕ, zero, suc, ◌+◌, ◌<◌, ◌≤◌, max, arith, List, [], ◌∷◌, ◌++◌, drop, get_or, length, map, set, take, Some, slice_get, None, is_some}
+use Rattle.std.proofs.Common.{◌≡◌, ◌∙◌, refl, sym, ap, ℕ, zero, suc, ◌+◌, ◌<◌, ◌≤◌, max, arith, List, [], ◌∷◌, ◌++◌, drop, get_or, length, map, set, take, Some, slice_get, None}
 use Rattle.std.proofs.lemmas.Option.{get_or_from_slice_get, none-some, same_Some, slice_get_within}
 use denote.Param.Weighed.{most, at_most}
 use Rattle.kept_results.specs.Kept.{is_marked}
-use Rattle.kept_results.specs.Ends.{all_undone, sealed, settled_all, stripped}
+use Rattle.kept_results.specs.Ends.{all_undone, sealed, sealed_below, settled_all, stripped}
 use Rattle.kept_results.specs.declared.memo.Entry.{Entry}
 use Rattle.kept_results.specs.declared.memo.Memo.{Memo}
 use Rattle.kept_results.specs.declared.memo.Memo.TheOpen.{Memo-F}
-use Rattle.kept_results.specs.declared.memo.Memo.TheViews.{out-Memo, out-roll-Memo, roll-Memo, size-Memo, size_is-Memo}
+use Rattle.kept_results.specs.declared.memo.Memo.TheViews.{out-Memo, out-roll-Memo, roll-Memo, roll-out-Memo, size-Memo, size_is-Memo}
 use Rattle.kept_results.proofs.Agreement.{renewed}
 use Rattle.kept_results.proofs.Counts.{sealed_out, stripped_out}
 
@@ -93,16 +93,31 @@ stripped_end before now at entries h l e =
 abbrev pub dropped : Memo → List Entry → Memo-F Memo
 dropped now entries = record { former = (out-Memo now).former; facts = (out-Memo now).facts; entries = entries; below = (out-Memo now).below }
 
+abbrev over_below : Memo-F Memo → Memo-F Memo
+over_below layer = record { former = layer.former; facts = layer.facts; entries = layer.entries; below = map sealed layer.below }
+
 abbrev unmarked : Memo-F Memo → Memo
 unmarked layer = roll-Memo record { former = None; facts = layer.facts; entries = layer.entries; below = layer.below }
 
-pub sealed_end : (before now : Memo) (at : ℕ) (entries : List Entry) → Renewed sealed before now at → length (out-Memo before).below ≡ at
+-- all below are sealed
+pub sealed_all : (before now : Memo) (at : ℕ) → Renewed sealed before now at → length (out-Memo before).below ≡ at → now ≡ sealed_below (out-Memo before)
+sealed_all before now at h l =
+    sym (roll-out-Memo now)
+    ∙ (λ i. roll-Memo record {
+      former = h.former i;
+      facts = h.facts i;
+      entries = h.entries i;
+      below = below_all sealed before now at h l i;
+    })
+
+pub sealed_end : (before now : Memo) (entries : List Entry) → now ≡ sealed_below (out-Memo before)
     → entries ≡ settled_all (is_marked (out-Memo now)) (out-Memo now).entries → unmarked (out-Memo (roll-Memo (dropped now entries))) ≡ sealed before
-sealed_end before now at entries h l e =
+sealed_end before now entries is e =
+    let o : out-Memo now ≡ over_below (out-Memo before) = ap out-Memo is ∙ out-roll-Memo (over_below (out-Memo before)) in
     ap unmarked (out-roll-Memo (dropped now entries))
     ∙ (λ i. roll-Memo record {
       former = None;
-      facts = h.facts i;
-      entries = (e ∙ (λ j. settled_all (is_some (h.former j)) (h.entries j))) i;
-      below = below_all sealed before now at h l i;
+      facts = (o i).facts;
+      entries = (e ∙ (λ j. settled_all (is_marked (o j)) (o j).entries)) i;
+      below = (o i).below;
     }) ∙ sym (sealed_out before)

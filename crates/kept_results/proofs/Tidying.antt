@@ -1,13 +1,13 @@
 -- Tidy memos: how they stay so, and that a calm one is sealed already.
-use Rattle.std.proofs.Common.{◌≡◌, ◌∙◌, inl, inr, refl, sym, ap, subst, ℕ, zero, suc, Bool, true, false, true≢false, not, ◌&&◌, ◌≤◌, arith, List, [], ◌∷◌, ◌++◌, length, map, set, Option, None, Some, slice_get, is_some}
+use Rattle.std.proofs.Common.{◌≡◌, ◌∙◌, inl, inr, refl, sym, ap, subst, ℕ, zero, suc, Bool, true, false, true≢false, cond, not, ◌&&◌, ◌≤◌, arith, List, [], ◌∷◌, ◌++◌, length, map, set, Option, None, Some, slice_get, is_some}
 use Rattle.std.proofs.lemmas.Option.{none-some, same_Some, slice_get-map}
 use Rattle.std.specs.List.{AllByRecursion, list_all}
-use Rattle.std.specs.Option.{option_map}
+use Rattle.std.specs.Option.{option_and_then, option_map}
 use Rattle.kept_results.specs.declared.memo.Former.{Former}
 use Rattle.kept_results.specs.Ends.{all_undone, restored, sealed, settled, settled_all, stripped, undone_from}
-use Rattle.kept_results.specs.Kept.{is_fresh, is_made, is_marked}
+use Rattle.kept_results.specs.Kept.{alike_but, is_fresh, is_made, is_marked}
 use Rattle.kept_results.specs.Laws.{is_unmarked, unmarked_layer}
-use Rattle.kept_results.specs.Tidy.{AreTidy, StaysCalm, IsTidy, IsMemoAt, has_none_fresh, is_calm}
+use Rattle.kept_results.specs.Tidy.{AreTidy, StaysCalm, IsTidy, IsMemoAt, has_none_fresh, has_none_new, is_calm, is_new, only_touched}
 use Rattle.kept_results.specs.Looking.{with_entry}
 use Rattle.kept_results.specs.declared.memo.Entry.{Entry}
 use Rattle.kept_results.specs.declared.memo.Memo.{Memo}
@@ -18,7 +18,7 @@ use Rattle.kept_results.specs.declared.memo.Memo.TheOpen.{Memo-F}
 use Rattle.kept_results.specs.declared.memo.Memo.TheViews.{out-Memo, out-roll-Memo, roll-Memo, roll-out-Memo}
 use Rattle.kept_results.proofs.Agreement.{added, renewed}
 use Rattle.kept_results.proofs.Counts.{sealed_out, stripped_out}
-use Rattle.kept_results.proofs.Lists.{pushed, set_cases, set_here}
+use Rattle.kept_results.proofs.Lists.{pushed, set_cases, set_here, set_other}
 
 -- ---- two tests
 
@@ -51,13 +51,54 @@ not_fresh_at (x ∷ entries) zero entry h at =
     ap is_fresh (sym (same_Some x entry at)) ∙ not_true (is_fresh x) (first_holds (not (is_fresh x)) (has_none_fresh entries) h)
 not_fresh_at (x ∷ entries) (suc place) entry h at = not_fresh_at entries place entry (second_holds (not (is_fresh x)) (has_none_fresh entries) h) at
 
--- an element with a fresh entry isn't calm
-pub fresh_calms : (layer : Memo-F Memo) (place : ℕ) (entry : Entry) → slice_get layer.entries place ≡ Some entry → is_fresh entry ≡ true → StaysCalm layer
-fresh_calms layer place entry at fresh calm = absurd (true≢false (sym fresh ∙ not_fresh_at layer.entries place entry (calm_entries layer calm) at))
+not_new_at : (entries : List Entry) (place : ℕ) (entry : Entry) → has_none_new entries ≡ true → slice_get entries place ≡ Some entry → is_new entry.origin ≡ false
+not_new_at [] place entry h at = absurd (none-some entry at)
+not_new_at (x ∷ entries) zero entry h at =
+    ap (λ (e : Entry). is_new e.origin) (sym (same_Some x entry at)) ∙ not_true (is_new x.origin) (first_holds (not (is_new x.origin)) (has_none_new entries) h)
+not_new_at (x ∷ entries) (suc place) entry h at = not_new_at entries place entry (second_holds (not (is_new x.origin)) (has_none_new entries) h) at
 
--- a marked one isn't
-pub mark_calms : (layer : Memo-F Memo) → is_marked layer ≡ true → StaysCalm layer
-mark_calms layer mark calm = absurd (true≢false (sym mark ∙ calm_mark layer calm))
+new_made : (origin : Origin) → is_new origin ≡ true → is_made origin ≡ true
+new_made Standing h = h
+new_made Made h = refl
+new_made (Remade was) h = refl
+
+old_not_new : (origin : Origin) → is_made origin ≡ false → is_new origin ≡ false
+old_not_new Standing h = refl
+old_not_new Made h = h
+old_not_new (Remade was) h = refl
+
+only_if : Bool → Option ℕ → Option ℕ
+only_if b found = option_and_then (λ child. cond b (Some child) None) found
+
+pub only_parts : (layer : Memo-F Memo) (child : ℕ) → only_touched layer ≡ Some child → (alike_but layer ≡ Some child) × (has_none_new layer.entries ≡ true)
+unfolding only_if
+only_parts layer child h = by (alike_but layer) (has_none_new layer.entries) h
+  where
+    by : (found : Option ℕ) (b : Bool) → only_if b found ≡ Some child → (found ≡ Some child) × (b ≡ true)
+    by None b h = absurd (none-some child h)
+    by (Some place) true h = (h, refl)
+    by (Some place) false h = absurd (none-some child h)
+
+only_whole : (layer : Memo-F Memo) (child : ℕ) → alike_but layer ≡ Some child → has_none_new layer.entries ≡ true → only_touched layer ≡ Some child
+only_whole layer child alike none =
+    ap (λ (found : Option ℕ). option_and_then (λ place. cond (has_none_new layer.entries) (Some place) None) found) alike
+    ∙ ap (λ (b : Bool). cond b (Some child) None) none
+
+-- an element with an entry that is new isn't calm, and all its children may be touched
+pub new_calms : (layer : Memo-F Memo) (place : ℕ) (entry : Entry) → slice_get layer.entries place ≡ Some entry → is_new entry.origin ≡ true → StaysCalm layer
+new_calms layer place entry at new = record {
+  all = λ calm. absurd (true≢false (sym (new_made entry.origin new) ∙ not_fresh_at layer.entries place entry (calm_entries layer calm) at));
+  others = λ child only. absurd (true≢false (sym new ∙ not_new_at layer.entries place entry (only_parts layer child only).1 at));
+}
+
+-- nor is a marked one
+pub mark_calms : (layer : Memo-F Memo) → is_marked layer ≡ true
+    → ((child : ℕ) → alike_but layer ≡ Some child → (place : ℕ) (below : Memo) → slice_get layer.below place ≡ Some below → (place ≡ child → ⊥) → is_calm (out-Memo below) ≡ true)
+    → StaysCalm layer
+mark_calms layer mark others = record {
+  all = λ calm. absurd (true≢false (sym mark ∙ calm_mark layer calm));
+  others = λ child only. others child (only_parts layer child only).0;
+}
 
 -- ---- memos made of others
 
@@ -81,16 +122,54 @@ pub tidy_renewed : (memo : Memo) (place : ℕ) (old new : Memo) → slice_get (o
 tidy_renewed memo place old new at h f =
     subst (λ (l : Memo-F Memo). AreTidy l.below) (sym (out-roll-Memo (renewed memo place new))) (tidy_set (out-Memo memo).below place new h (f (h place old at)))
 
--- one fresh entry more
-pub tidy_added : (memo : Memo) (more : Entry) → is_fresh more ≡ true → AreTidy (out-Memo memo).below → IsTidy (roll-Memo (added memo more))
-tidy_added memo more fresh h =
-    tidy_made (added memo more) (fresh_calms (added memo more) (length (out-Memo memo).entries) more (pushed (out-Memo memo).entries more) fresh) h
+-- one new entry more
+pub tidy_added : (memo : Memo) (more : Entry) → is_new more.origin ≡ true → AreTidy (out-Memo memo).below → IsTidy (roll-Memo (added memo more))
+tidy_added memo more new h =
+    tidy_made (added memo more) (new_calms (added memo more) (length (out-Memo memo).entries) more (pushed (out-Memo memo).entries more) new) h
 
--- a fresh entry in place of another
-pub tidy_put : (memo : Memo) (place : ℕ) (old new : Entry) → slice_get (out-Memo memo).entries place ≡ Some old → is_fresh new ≡ true → AreTidy (out-Memo memo).below
-    → IsTidy (roll-Memo (with_entry memo place new))
-tidy_put memo place old new at fresh h =
-    tidy_made (with_entry memo place new) (fresh_calms (with_entry memo place new) place new (set_here (out-Memo memo).entries place new old at) fresh) h
+-- where one isn't new, another stands for it, and none is new then, none was
+none_new_set : (entries : List Entry) (place : ℕ) (old entry : Entry) → slice_get entries place ≡ Some old → is_new old.origin ≡ false → has_none_new (set entries place entry) ≡ true
+    → has_none_new entries ≡ true
+none_new_set [] place old entry at was h = refl
+none_new_set (x ∷ entries) zero old entry at was h =
+    both_hold (not (is_new x.origin)) (has_none_new entries) (ap (λ (e : Entry). not (is_new e.origin)) (same_Some x old at) ∙ ap not was)
+    (second_holds (not (is_new entry.origin)) (has_none_new entries) h)
+none_new_set (x ∷ entries) (suc place) old entry at was h =
+    both_hold (not (is_new x.origin)) (has_none_new entries) (first_holds (not (is_new x.origin)) (has_none_new (set entries place entry)) h)
+    (none_new_set entries place old entry at was (second_holds (not (is_new x.origin)) (has_none_new (set entries place entry)) h))
+
+-- ---- an entry is made anew
+
+module _ (memo : Memo) (child : ℕ) (alike : alike_but (out-Memo memo) ≡ Some child) (place : ℕ) (old entry : Entry)
+    (at : slice_get (out-Memo memo).entries place ≡ Some old) (stood : is_fresh old ≡ false) (fresh : is_fresh entry ≡ true) (new : Memo) where
+  abbrev put_over : Memo-F Memo → Memo-F Memo
+  put_over layer = record { former = layer.former; facts = layer.facts; entries = set layer.entries place entry; below = layer.below }
+
+  put_others : StaysCalm (out-Memo memo) → (only : ℕ) → only_touched (put_over (renewed memo child new)) ≡ Some only
+      → (j : ℕ) (below : Memo) → slice_get (set (out-Memo memo).below child new) j ≡ Some below → (j ≡ only → ⊥) → is_calm (out-Memo below) ≡ true
+  put_others h only is j below there other =
+      let parts = only_parts (put_over (renewed memo child new)) only is in
+      let none = none_new_set (out-Memo memo).entries place old entry at (old_not_new old.origin stood) parts.1 in
+      let same : child ≡ only = same_Some child only (sym alike ∙ parts.0) in
+      elim (set_other (out-Memo memo).below child j new below there) [
+        | inl p ↦ absurd (other (p.0 ∙ same))
+        | inr q ↦ h.others only (only_whole (out-Memo memo) only parts.0 none) j below q.1 other
+      ]
+
+  put_calms : StaysCalm (out-Memo memo) → StaysCalm (put_over (renewed memo child new))
+  put_calms h = record {
+    all = λ calm. absurd (true≢false (sym fresh
+        ∙ not_fresh_at (set (out-Memo memo).entries place entry) place entry (calm_entries (put_over (renewed memo child new)) calm) (set_here (out-Memo memo).entries place entry old at)));
+    others = put_others h;
+  }
+
+  abbrev now : Memo
+  now = roll-Memo (renewed memo child new)
+
+  pub tidy_again : IsTidy memo → AreTidy (out-Memo now).below → IsTidy (roll-Memo (with_entry now place entry))
+  tidy_again h below =
+      tidy_made (with_entry now place entry)
+      (subst (λ (l : Memo-F Memo). StaysCalm (put_over l)) (sym (out-roll-Memo (renewed memo child new))) (put_calms (h.at [] memo refl))) below
 
 -- ---- a calm memo is sealed already
 
@@ -138,7 +217,7 @@ calm_sealed = ind-Memo IsSealedCalm (λ x y is tidy calm.
     let below : layer.below ≡ map (λ e. e.0) y.below = ap (λ (l : Memo-F Memo). l.below) (out-roll-Memo x ∙ sym is) in
     let children : AreTidy (map (λ e. e.0) y.below) = subst AreTidy below (tidy_below memo tidy) in
     let calms : (place : ℕ) (kept : Memo) → slice_get (map (λ e. e.0) y.below) place ≡ Some kept → is_calm (out-Memo kept) ≡ true =
-    λ place kept at. tidy.at [] memo refl calm place kept (ap (λ (l : List Memo). slice_get l place) below ∙ at) in
+    λ place kept at. (tidy.at [] memo refl).all calm place kept (ap (λ (l : List Memo). slice_get l place) below ∙ at) in
     let same : map sealed layer.below ≡ layer.below = ap (map sealed) below ∙ all_sealed y.below children calms ∙ sym below in
     let mark = calm_mark layer calm in
     let entries : settled_all (is_marked layer) layer.entries ≡ layer.entries =
@@ -210,7 +289,7 @@ each_holds [] place b h at = absurd (none-some b at)
 each_holds (x ∷ tests) zero b h at = sym (same_Some x b at) ∙ first_holds x (list_all (λ b. b) tests) h
 each_holds (x ∷ tests) (suc place) b h at = each_holds tests place b (second_holds x (list_all (λ b. b) tests) h) at
 
-clean_calm : (memo : Memo) → IsClean memo → is_calm (out-Memo memo) ≡ true
+pub clean_calm : (memo : Memo) → IsClean memo → is_calm (out-Memo memo) ≡ true
 clean_calm memo h =
     let layer : Memo-F Memo = out-Memo memo in
     let entries : all_undone layer.entries ≡ layer.entries = ap (λ (l : Memo-F Memo). l.entries) (plain_parts memo h.plain) in
@@ -218,7 +297,7 @@ clean_calm memo h =
     (first_holds (not (is_marked layer)) (list_all (λ b. b) (map is_unmarked layer.below)) (unmarked_parts memo h.unmarked))
     (none_made layer.entries entries)
 
-clean_below : (memo : Memo) → IsClean memo → (place : ℕ) (below : Memo) → slice_get (out-Memo memo).below place ≡ Some below → IsClean below
+pub clean_below : (memo : Memo) → IsClean memo → (place : ℕ) (below : Memo) → slice_get (out-Memo memo).below place ≡ Some below → IsClean below
 clean_below memo h place below at =
     let memos : List Memo = (out-Memo memo).below in
     let tests = second_holds (not (is_marked (out-Memo memo))) (list_all (λ b. b) (map is_unmarked memos)) (unmarked_parts memo h.unmarked) in
@@ -235,5 +314,9 @@ clean_at (place ∷ path) memo kept h s = clean_at path s.0 kept (clean_below me
 
 pub clean_tidy : (memo : Memo) → is_unmarked memo ≡ true → stripped memo ≡ memo → IsTidy memo
 clean_tidy memo unmarked plain = record {
-  at = λ path kept s _ place below at. clean_calm below (clean_below kept (clean_at path memo kept record { unmarked = unmarked; plain = plain } s) place below at);
+  at = λ path kept s.
+      let clean = clean_at path memo kept record { unmarked = unmarked; plain = plain } s in
+      let calm : (place : ℕ) (below : Memo) → slice_get (out-Memo kept).below place ≡ Some below → is_calm (out-Memo below) ≡ true =
+      λ place below at. clean_calm below (clean_below kept clean place below at) in
+      record { all = λ _. calm; others = λ _ _ place below at _. calm place below at };
 }

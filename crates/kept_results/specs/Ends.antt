@@ -1,4 +1,4 @@
--- How a pass ends: what it made is dropped again, or else what is older.
+-- How a pass ends: what it made is undone, or else what is older is dropped.
 use Rattle.std.specs.Prelude.{ℕ, ◌+◌, Bool, List, [], ◌∷◌, filter, length, map, slice_get, slice_set, None}
 use Rattle.std.specs.List.{flat_map, sum}
 use Rattle.std.specs.Option.{option_map_or}
@@ -32,9 +32,11 @@ undone_from Standing entry = entry ∷ []
 undone_from Made entry = []
 undone_from (Remade was) entry = option_map_or (λ before. restored entry before ∷ []) (slice_get was 0) []
 
+-- a pass makes an entry anew out of one alone, and once: so it holds one thing of before, and nothing stands for it where it holds none
 abbrev pub undone : Entry → List Entry
 undone entry = undone_from entry.origin entry
 
+-- what there was of an element's entries, in order
 abbrev pub all_undone : List Entry → List Entry
 all_undone entries = flat_map undone entries
 
@@ -52,6 +54,7 @@ stripped memo = fold-Memo Memo stripped_layer memo
 
 -- ---- accepted
 
+-- an entry as it stands from then on
 abbrev pub settled : Entry → Entry
 settled entry = record {
   context = entry.context;
@@ -75,9 +78,18 @@ sealed_layer layer = roll-Memo record {
   below = layer.below;
 }
 
--- a memo without older entries, marks and flags
+-- a memo without older entries and marks, of which nothing is fresh
 abbrev pub sealed : Memo → Memo
 sealed memo = fold-Memo Memo sealed_layer memo
+
+-- those below it are sealed, and all else is as it was
+abbrev pub sealed_below : Memo-F Memo → Memo
+sealed_below layer = roll-Memo record {
+  former = layer.former;
+  facts = layer.facts;
+  entries = layer.entries;
+  below = map sealed layer.below;
+}
 
 -- ---- how many
 
@@ -91,6 +103,10 @@ kept_count memo = fold-Memo ℕ live_in memo
 abbrev pub fresh_in : Memo-F ℕ → ℕ
 fresh_in layer = length (filter is_fresh layer.entries) + sum layer.below
 
--- the number of entries that it made
+-- the number of entries that it made, out of nothing or out of others
 abbrev pub fresh_count : Memo → ℕ
 fresh_count memo = fold-Memo ℕ fresh_in memo
+
+-- the number of those that it made of the elements of these memos and of all below them
+abbrev pub fresh_below : List Memo → ℕ
+fresh_below memos = sum (map fresh_count memos)

@@ -47,10 +47,11 @@ is_made Standing = false
 is_made Made = true
 is_made (Remade was) = true
 
+-- such an entry is fresh
 abbrev pub is_fresh : Entry → Bool
 is_fresh entry = is_made entry.origin
 
--- an entry of a marked element that the present pass didn't make is an older one
+-- an entry of a marked element that isn't fresh is an older one
 abbrev pub is_live : Bool → Entry → Bool
 is_live marked entry = not marked || is_fresh entry
 

@@ -27,14 +27,14 @@ unmarked_layer layer = not (is_marked layer) && list_all (λ below. below) layer
 abbrev pub is_unmarked : Memo → Bool
 is_unmarked memo = fold-Memo Bool unmarked_layer memo
 
--- an entry of the sealed memo is one of the memo that is no older one, without its flag
+-- an entry of the sealed memo is one of the memo that is no older one, fresh no more
 pub record WasHeld (path : List ℕ) (memo : Memo) (entry : Entry) : Type 0 where
   pub former : Entry
   pub held : Holds path memo former
   pub is : entry ≡ settled former
 
--- after the seal the state is as before, just the entries that are no older ones are there, and there are no marks
--- and flags
+-- after the seal the state is as before, just the entries that are no older ones are there, there are no marks,
+-- and nothing is fresh
 pub record Seals (m : MetricsValue) (node : Node) (memo : Memo) : Type 0 where
   pub agrees : Agrees m node (sealed memo)
   pub stays : (path : List ℕ) (entry : Entry) → Holds path memo entry → Holds path (sealed memo) (settled entry)

@@ -1,4 +1,4 @@
--- What is found among the entries of an element, and how one more is kept.
+-- What is found among the entries of an element, and how one more is kept, or one is made anew.
 use Rattle.std.specs.Prelude.{◌≡◌, ℕ, ◌<◌, true, false, List, ◌++◌, ◌∷◌, [], length, Some, slice_get, slice_set}
 use Rattle.std.specs.Option.{option_map_or}
 use Rattle.layout_model.specs.declared.context.Context.{Context}
@@ -44,7 +44,8 @@ abbrev pub HasNoEarlier : Memo-F Memo → Context → Type 0
 HasNoEarlier layer context = (child : ℕ) → alike_but layer ≡ Some child → (place : ℕ) (entry : Entry)
     → slice_get layer.entries place ≡ Some entry → CanServe entry context child → ⊥
 
--- an entry has this outcome, and this was asked for it
+-- an entry in a context has this outcome; this was asked for it, and answered in the first wave, and this is said of whether its
+-- element is regular
 pub record IsEntryOf (entry : Entry) (context : Context) (outcome : Outcome) (asked : Asked) : Type 0 where
   pub stores : Stores entry outcome
   pub in_context : entry.context ≡ context
@@ -67,12 +68,17 @@ pub record IsKeptNow (before after : Memo) (context : Context) (outcome : Outcom
 
 -- ---- made anew
 
--- what the entry at a place asked in the first wave, and what was answered
+-- what the entry at a place asked in the first wave
 abbrev pub ones_at : Memo-F Memo → ℕ → List Question
 ones_at layer place = option_map_or (λ entry. entry.ones) (slice_get layer.entries place) []
 
+-- what was answered to that
 abbrev pub one_at : Memo-F Memo → ℕ → List Answer
 one_at layer place = option_map_or (λ entry. entry.one) (slice_get layer.entries place) []
+
+-- the same where the child at a place answers this
+abbrev pub answers_with : Memo → Earlier → Answer → List Answer
+answers_with memo before answer = slice_set (one_at (out-Memo memo) before.entry) before.child answer
 
 -- an entry whose child at a place was asked something else, and answered something else
 abbrev pub turned : Entry → ℕ → Said → Entry
@@ -86,16 +92,16 @@ turned entry child said = record {
   origin = entry.origin;
 }
 
--- with another outcome, it holds what it had before
+-- an entry with another outcome: it holds the one that it had, and what it said of a child before that child was asked again
 abbrev pub remade : Entry → Outcome → ℕ → Said → Entry
-remade entry outcome child said = record {
+remade entry outcome child had = record {
   context = entry.context;
   outcome = outcome;
   ones = entry.ones;
   one = entry.one;
   twos = entry.twos;
   regular = entry.regular;
-  origin = Remade (record { child = child; said = said; outcome = entry.outcome } ∷ []);
+  origin = Remade (record { child = child; said = had; outcome = entry.outcome } ∷ []);
 }
 
 -- of the child at a place an entry has this question, and this answer to it

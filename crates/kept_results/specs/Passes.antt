@@ -1,4 +1,4 @@
--- What a pass over a tree does: it adds layouts that weren't kept, each of them once.
+-- What a pass over a tree does: it makes layouts that weren't kept, each of them once.
 use Rattle.std.specs.Prelude.{◌≡◌, ⊤, ℕ, ◌+◌, Bool, true, List, [], ◌∷◌, length, Some, slice_get}
 use Rattle.std.specs.List.{AllByRecursion, Contains}
 use Rattle.font_metrics.specs.Metrics.{MetricsValue}
@@ -46,8 +46,8 @@ HasNoRepeat [] = ⊤
 HasNoRepeat (pair ∷ pairs) = AllByRecursion (λ other. pair ≡ other → ⊥) pairs × HasNoRepeat pairs
 
 -- a pass, with the steps that were counted before it and after it, where what it was for needs some pairs. It keeps
--- the state and all that was kept, and what it adds is fresh. Its steps are pairs that are needed and weren't kept, none
--- twice. Where it is done they are kept, and nothing else is added
+-- the state and all that was kept, and undone it leaves no trace. Its steps are pairs that are needed and weren't kept, none
+-- twice. Where it is done they are kept, and nothing else is kept more
 pub record Passes (m : MetricsValue) (node : Node) (needed : Pair → Type 0) (before after : Memo) (from to : ℕ) (done : Bool) : Type 0 where
   pub agrees : Agrees m node after
   pub same : stripped after ≡ stripped before

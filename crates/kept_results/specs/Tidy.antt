@@ -1,9 +1,12 @@
 -- Where the end of a pass may stop: what the edit and the pass left alone.
-use Rattle.std.specs.Prelude.{◌≡◌, ℕ, Bool, true, not, ◌&&◌, List, [], ◌∷◌, Some, slice_get}
+use Rattle.std.specs.Prelude.{◌≡◌, ℕ, Bool, true, false, cond, not, ◌&&◌, List, [], ◌∷◌, Option, Some, None, slice_get}
 use Rattle.std.specs.List.{list_all}
-use Rattle.kept_results.specs.Kept.{is_fresh, is_marked}
+use Rattle.std.specs.Option.{option_and_then}
+use Rattle.kept_results.specs.Kept.{alike_but, is_fresh, is_marked}
 use Rattle.kept_results.specs.declared.memo.Entry.{Entry}
 use Rattle.kept_results.specs.declared.memo.Memo.{Memo}
+use Rattle.kept_results.specs.declared.memo.Origin.{Origin}
+use Rattle.kept_results.specs.declared.memo.Origin.TheVariants.{Made, Remade, Standing}
 use Rattle.kept_results.specs.declared.memo.Memo.TheOpen.{Memo-F}
 use Rattle.kept_results.specs.declared.memo.Memo.TheViews.{out-Memo}
 
@@ -14,9 +17,25 @@ has_none_fresh entries = list_all (λ entry. not (is_fresh entry)) entries
 abbrev pub is_calm : {X : Type 0} → Memo-F X → Bool
 is_calm layer = not (is_marked layer) && has_none_fresh layer.entries
 
--- where an element is calm, so are its children
-abbrev pub StaysCalm : Memo-F Memo → Type 0
-StaysCalm layer = is_calm layer ≡ true → (place : ℕ) (below : Memo) → slice_get layer.below place ≡ Some below → is_calm (out-Memo below) ≡ true
+-- the pass made an entry, and not out of one that stood
+abbrev pub is_new : Origin → Bool
+is_new Standing = false
+is_new Made = true
+is_new (Remade was) = false
+
+abbrev pub has_none_new : List Entry → Bool
+has_none_new entries = list_all (λ entry. not (is_new entry.origin)) entries
+
+-- the only child of an element that the edit and the pass may not have left alone, where that is known: layout sees the same of
+-- the element as before the edit, but for this child, and the pass made its entries out of others alone
+abbrev pub only_touched : {X : Type 0} → Memo-F X → Option ℕ
+only_touched layer = option_and_then (λ child. cond (has_none_new layer.entries) (Some child) None) (alike_but layer)
+
+-- where an element is calm, so are its children; and where but one may not have been left alone, the others are calm
+pub record StaysCalm (layer : Memo-F Memo) : Type 0 where
+  pub all : is_calm layer ≡ true → (place : ℕ) (below : Memo) → slice_get layer.below place ≡ Some below → is_calm (out-Memo below) ≡ true
+  pub others : (child : ℕ) → only_touched layer ≡ Some child → (place : ℕ) (below : Memo) → slice_get layer.below place ≡ Some below → (place ≡ child → ⊥)
+      → is_calm (out-Memo below) ≡ true
 
 -- an element's memo, by the places of children down to it
 abbrev pub IsMemoAt : List ℕ → Memo → Memo → Type 0

@@ -1,9 +1,10 @@
-ghost use Rattle.std.specs.Prelude.{◌≡◌, ◌-◌, ◌^◌, filter, length, min, slice_get};
-ghost use Rattle.kept_results.specs.Ends.{all_undone, fresh_count, sealed, settled, settled_all, stripped};
+ghost use Rattle.std.specs.Prelude.{◌≡◌, ◌-◌, ◌^◌, Some, filter, length, min, slice_get};
+ghost use Rattle.kept_results.specs.Ends.{all_undone, fresh_below, fresh_count, sealed, sealed_below, settled, settled_all, stripped};
 ghost use Rattle.kept_results.specs.Kept.{is_fresh};
-ghost use Rattle.kept_results.specs.Tidy.{IsTidy};
+ghost use Rattle.kept_results.specs.Tidy.{AreTidy, IsTidy, only_touched};
+ghost use Rattle.kept_results.specs.declared.memo.Memo.TheViews.{out-Memo};
 
-use crate::entries::{is_calm, is_live, is_marked};
+use crate::entries::{is_calm, is_live, is_marked, only_touched};
 use crate::memo::{Before, Entry, Memo, Origin};
 use crate::remaking::restore;
 use fixed_units::List;
@@ -20,9 +21,9 @@ pub fn undo_pass(memo: &mut Memo)
     undo_entries(&mut memo.entries);
 }
 
-/// Ends a pass that was done: older entries are dropped, and marks and flags are cleared. It goes only
-/// where the edit and the pass went, and takes no memory. It says how many entries the pass made, and
-/// 2^64 - 1 where there are more.
+/// Ends a pass that was done: older entries are dropped, and marks are cleared. It goes only where the edit
+/// and the pass went, and takes no memory. It says how many entries the pass made, and 2^64 - 1 where there
+/// are more.
 #[cycle(seal)]
 pub fn seal(memo: &mut Memo) -> usize
     requires tidy { IsTidy memo.old }
@@ -41,13 +42,53 @@ fn seal_through(memo: &mut Memo) -> usize
     ensures sealed { memo.new ≡ sealed memo.old }
     ensures made { result ≡ min (fresh_count memo.old) (2 ^ 64 - 1) }
 {
-    let mut made = count_fresh(memo.entries.as_slice());
-    for at in 0..memo.below.len() {
-        made = made.saturating_add(seal(memo.below.at_mut(at)));
-    }
+    let own = count_fresh(memo.entries.as_slice());
+    let below = seal_below(memo);
     let marked = is_marked(memo);
     drop_older(&mut memo.entries, marked);
     memo.former = None;
+    own.saturating_add(below)
+}
+
+/// Seals what is below an element: of its children the one alone that the pass asked, where that is known.
+#[cycle(seal)]
+fn seal_below(memo: &mut Memo) -> usize
+    requires tidy { IsTidy memo.old }
+    ensures sealed { memo.new ≡ sealed_below (out-Memo memo.old) }
+    ensures made { result ≡ min (fresh_below (out-Memo memo.old).below) (2 ^ 64 - 1) }
+{
+    match only_touched(memo) {
+        Some(child) => seal_only(memo, child),
+        None => seal_all(memo),
+    }
+}
+
+/// Seals a child of an element. The others are sealed already.
+#[cycle(seal)]
+fn seal_only(memo: &mut Memo, child: usize) -> usize
+    requires tidy { IsTidy memo.old }
+    requires only { only_touched (out-Memo memo.old) ≡ Some child }
+    ensures sealed { memo.new ≡ sealed_below (out-Memo memo.old) }
+    ensures made { result ≡ min (fresh_below (out-Memo memo.old).below) (2 ^ 64 - 1) }
+{
+    if child < memo.below.len() {
+        seal(memo.below.at_mut(child))
+    } else {
+        0
+    }
+}
+
+/// Seals each child of an element.
+#[cycle(seal)]
+fn seal_all(memo: &mut Memo) -> usize
+    requires tidy { AreTidy (out-Memo memo.old).below }
+    ensures sealed { memo.new ≡ sealed_below (out-Memo memo.old) }
+    ensures made { result ≡ min (fresh_below (out-Memo memo.old).below) (2 ^ 64 - 1) }
+{
+    let mut made = 0usize;
+    for at in 0..memo.below.len() {
+        made = made.saturating_add(seal(memo.below.at_mut(at)));
+    }
     made
 }
 
@@ -102,7 +143,7 @@ fn take_origin(entry: &mut Entry) -> Origin
     mem::replace(&mut entry.origin, Origin::Standing)
 }
 
-/// Drops the older entries, and clears the flags of the others.
+/// Drops the older entries. The others stand from then on.
 fn drop_older(entries: &mut List<Entry>, marked: bool)
     ensures { entries.new ≡ settled_all marked entries.old }
 {

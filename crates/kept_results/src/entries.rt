@@ -1,7 +1,7 @@
 ghost use Rattle.std.specs.Prelude.{◌≡◌, ◌++◌, ◌∷◌, [], true, false, IfOk, IfSome, IfNone, OnErr, OnOk, map};
 ghost use Rattle.kept_results.specs.Kept.{IsMissing, is_live, is_marked};
 ghost use Rattle.kept_results.specs.Looking.{HasAnswer, IsKeptNow, own_facts};
-ghost use Rattle.kept_results.specs.Tidy.{has_none_fresh, is_calm};
+ghost use Rattle.kept_results.specs.Tidy.{has_none_fresh, has_none_new, is_calm, only_touched};
 ghost use Rattle.kept_results.specs.declared.memo.Memo.TheViews.{out-Memo};
 
 use crate::contexts::{copy_of as copy_of_context, is_same};
@@ -36,6 +36,31 @@ fn has_none_fresh(entries: &[Entry]) -> bool
         }
     }
     true
+}
+
+/// Did the present pass make none of these entries but out of others?
+fn has_none_new(entries: &[Entry]) -> bool
+    ensures { result ≡ has_none_new entries.now }
+{
+    for entry in entries {
+        if entry.is_new() {
+            return false;
+        }
+    }
+    true
+}
+
+/// The only child of an element that the present edit and the present pass may not have left alone, where
+/// that is known.
+pub fn only_touched(memo: &Memo) -> Option<usize>
+    ensures { result ≡ only_touched (out-Memo memo.now) }
+{
+    let child = memo.former?.alike_but?;
+    if has_none_new(memo.entries.as_slice()) {
+        Some(child)
+    } else {
+        None
+    }
 }
 
 /// Whether an entry is no older one.

@@ -19,7 +19,7 @@ mod earlier; // what a pass takes over from before the edit
 mod ends; // undo_pass, seal
 mod entries; // one element's entries
 pub mod laws; // what holds of kept layouts
-mod memo; // Entry, Former, Memo
+mod memo; // Memo, Former; Entry, and what a pass did to it: Origin, Before, Said
 mod relay; // a pass over an element
 mod remaking; // an entry that a pass makes anew, and what it was
 mod whole_view; // a view of an element that has all its children in flow

@@ -1,5 +1,6 @@
 ghost use Rattle.std.specs.Prelude.{◌≡◌};
 ghost use Rattle.kept_results.specs.Kept.{is_fresh};
+ghost use Rattle.kept_results.specs.Tidy.{is_new};
 
 use embellished::Facts;
 use fixed_units::List;
@@ -52,11 +53,18 @@ pub struct Said {
 }
 
 impl Entry {
-    /// Whether the present pass made it.
+    /// Whether the present pass made it, out of nothing or out of one that stood.
     pub fn is_fresh(&self) -> bool
         ensures { result ≡ is_fresh self.now }
     {
         !matches!(self.origin, Origin::Standing)
+    }
+
+    /// Whether the present pass made it, and not out of one that stood.
+    pub fn is_new(&self) -> bool
+        ensures { result ≡ is_new self.now.origin }
+    {
+        matches!(self.origin, Origin::Made)
     }
 }
 

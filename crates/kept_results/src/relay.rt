@@ -28,7 +28,7 @@ use std::sync::ledger::Ledger;
 /// The answer of an element in a context, from what is kept of it and of all below it; what isn't
 /// kept is computed, and kept from then on. Each layout that is computed ticks a step. It is refused
 /// with `Range` exactly where a number of a layout that this one needs can't be stored; what was made
-/// until then stays, fresh.
+/// until then stays.
 #[cycle(relay)]
 pub fn relay_element<L: Ledger>(
     alloc: Global,

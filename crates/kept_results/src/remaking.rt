@@ -8,7 +8,7 @@ ghost use Rattle.layout_model.specs.Questions.{first};
 ghost use Rattle.layout_model.specs.Range.{outcome_fits};
 ghost use Rattle.child_questions.specs.Surveys.{has_one_wave, survey_of};
 ghost use Rattle.kept_results.specs.Ends.{restored};
-ghost use Rattle.kept_results.specs.Looking.{HasSaid, IsMadeAgain, one_at, ones_at, remade, turned};
+ghost use Rattle.kept_results.specs.Looking.{HasSaid, IsMadeAgain, answers_with, one_at, ones_at, remade, turned};
 ghost use Rattle.kept_results.specs.Regular.{IsShownBy};
 ghost use Rattle.kept_results.specs.declared.memo.Memo.TheViews.{out-Memo};
 
@@ -44,15 +44,15 @@ pub fn make_again<L: Ledger>(
     requires size { size_of metrics.now context.now.style ≤ℤ pos (2 ^ 20) }
     requires one_wave { has_one_wave (survey_of metrics.now (seen_of node.now) context.now) ≡ true }
     requires ones { slice_set (ones_at (out-Memo memo.old) before.entry) before.child said.asked ≡ first metrics.now (seen_of node.now) context.now }
-    requires stored { AreAnswers (slice_set (one_at (out-Memo memo.old) before.entry) before.child said.answer) }
+    requires stored { AreAnswers (answers_with memo.old before said.answer) }
     ensures ok { IfOk result (λ answer.
-        answer ≡ (equation metrics.now (seen_of node.now) context.now (slice_set (one_at (out-Memo memo.old) before.entry) before.child said.answer) []).answer) }
+        answer ≡ (equation metrics.now (seen_of node.now) context.now (answers_with memo.old before said.answer) []).answer) }
     ensures fit { OnOk result
-        (outcome_fits (equation metrics.now (seen_of node.now) context.now (slice_set (one_at (out-Memo memo.old) before.entry) before.child said.answer) []) ≡ true) }
+        (outcome_fits (equation metrics.now (seen_of node.now) context.now (answers_with memo.old before said.answer) []) ≡ true) }
     ensures range { result ≡ Err Range →
-        outcome_fits (equation metrics.now (seen_of node.now) context.now (slice_set (one_at (out-Memo memo.old) before.entry) before.child said.answer) []) ≡ false }
+        outcome_fits (equation metrics.now (seen_of node.now) context.now (answers_with memo.old before said.answer) []) ≡ false }
     ensures made { OnOk result (IsMadeAgain memo.old memo.new before
-        (equation metrics.now (seen_of node.now) context.now (slice_set (one_at (out-Memo memo.old) before.entry) before.child said.answer) []) said) }
+        (equation metrics.now (seen_of node.now) context.now (answers_with memo.old before said.answer) []) said) }
     ensures unchanged { OnErr result (memo.new ≡ memo.old) }
     ensures step { steps.new ≡ steps.old + 1 }
 {

@@ -74,7 +74,7 @@ mapped_was f (x ∷ xs) (suc i) y h = mapped_was f xs i y h
 marked_calms : (path : List ℕ) (memo kept : Memo) → IsMemoAt path (all_marked memo) kept → StaysCalm (out-Memo kept)
 marked_calms [] memo kept s =
     subst (λ (z : Memo). StaysCalm (out-Memo z)) (sym s)
-    (subst StaysCalm (sym (out_marked memo)) (mark_calms (marked_over (out-Memo memo)) refl))
+    (subst StaysCalm (sym (out_marked memo)) (mark_calms (marked_over (out-Memo memo)) refl (λ child alike. absurd (none-some child alike))))
 marked_calms (place ∷ path) memo kept s =
     let was = mapped_was all_marked (out-Memo memo).below place s.0 (ap (λ (l : Memo-F Memo). slice_get l.below place) (sym (out_marked memo)) ∙ s.1) in
     marked_calms path was.0 kept (subst (λ (z : Memo). IsMemoAt path z kept) was.2 s.2)

@@ -28,7 +28,7 @@ use Rattle.kept_results.specs.declared.memo.Memo.TheViews.{out-Memo, out-roll-Me
 use Rattle.kept_results.proofs.Agreement.{agrees_child, agrees_made, missing_kept}
 use Rattle.kept_results.proofs.Lists.{all_then, one_place, set_cases, set_here, still_cases}
 use Rattle.kept_results.proofs.Passing.{fresh_live}
-use Rattle.kept_results.proofs.Tidying.{fresh_calms, tidy_below, tidy_made, tidy_set}
+use Rattle.kept_results.proofs.Tidying.{new_calms, tidy_below, tidy_made, tidy_set}
 use Rattle.kept_results.proofs.Turns.{facts_known}
 use Rattle.kept_sweep.specs.Flagged.{AreFlagged, BelowAgree, IsFlagged, StandsAt, cleared}
 use Rattle.kept_sweep.proofs.Clearing.{apart_any, apart_settled, as_many_cleared, cleared_out, cleared_roll, cleared_set, out_cleared, same_known, settled_set, sound_settled, stands_cleared}
@@ -333,7 +333,7 @@ module _ (m : MetricsValue) (node : Node) (memo : Memo) (context : Context) (pla
           has = subst (λ (l : Memo-F Memo). HasEntry l (fresh entry)) (sym out) record { place = place; at = set_here entries place (fresh entry) entry at; live = live_now };
           in_context = is;
         };
-        tidy = λ x. tidy_made layer (fresh_calms layer place (fresh entry) (set_here entries place (fresh entry) entry at) refl) (need.tidy (tidy_below memo x));
+        tidy = λ x. tidy_made layer (new_calms layer place (fresh entry) (set_here entries place (fresh entry) entry at) refl) (need.tidy (tidy_below memo x));
       }
 
 -- ---- while parts of a memo are lent

@@ -28,8 +28,8 @@ pub fn mark_all(memo: &mut Memo)
     });
 }
 
-/// Flags the entry of an element in a context, and all that its layout needs below it. What is
-/// flagged already isn't gone through again. `metrics` are those of the layouts that are kept; none
+/// Flags the entry of an element in a context, and all that its layout needs below it: they count as made
+/// by a pass, so that the seal keeps them. What is flagged already isn't gone through again. `metrics` are those of the layouts that are kept; none
 /// of their numbers is read.
 #[cycle(flag)]
 pub fn flag_needed(node: &Node, memo: &mut Memo, context: &Context, metrics: &Metrics)

@@ -47,7 +47,8 @@ followed root memo now way before other back known taken room of_way k roomy is 
           (subst (λ (n : Node). IsReadyFor before.metrics n (changed_memo other known way.path memo)) (sym before.gives)
           (change_law before.metrics before.old memo before.change other way.path known before.ready before.fits same (subst (λ (n : Node). KnownOn known way.path n memo) before.gives k.on)));
       tidy = subst IsTidy (sym is)
-          (changed_is_tidy other known way.path memo before.unmarked before.ready.plain fits (puts_tidy before.metrics of_way.element way.place other of_way.is));
+          (changed_is_tidy before.metrics before.old before.change other known way.path memo before.unmarked before.ready before.fits
+          (subst (λ (n : Node). KnownOn known way.path n memo) before.gives k.on) fits (puts_tidy before.metrics of_way.element way.place other of_way.is));
       fits = undo_fits way.path memo now other back known taken room is took made fits roomy;
       gives = undone way.path memo now other back known taken room is took made fits before.unmarked;
       stays = λ from to entry came held.

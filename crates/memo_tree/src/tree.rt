@@ -196,7 +196,7 @@ impl MemoTree {
         Ok(())
     }
 
-    /// Takes a pass back: what it made is dropped. It takes no memory.
+    /// Takes a pass back: what it made is dropped, and what it made anew is what it was. It takes no memory.
     pub fn undo_pass(&mut self)
         requires stopped { IsIn Stopped self.old }
         ensures tree { self.new.tree ≡ self.old.tree }

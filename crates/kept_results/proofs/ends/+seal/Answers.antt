@@ -1,9 +1,9 @@
-use Rattle.std.proofs.Common.{◌≡◌, ◌∙◌, ◌<◌, sym, ap, Bool, arith, length}
+use Rattle.std.proofs.Common.{◌≡◌, ◌∙◌, ◌<◌, ◌≤◌, sym, ap, Bool, arith, length}
 use Rattle.std.proofs.lemmas.List.{take_all}
-use Rattle.kept_results.specs.Ends.{sealed, settled_all}
+use Rattle.kept_results.specs.Ends.{fresh_below, sealed, settled_all}
 use Rattle.kept_results.specs.declared.memo.Memo.TheViews.{out-Memo, size-Memo}
-use Rattle.kept_results.proofs.Made.{fresh_below, fresh_more, fresh_out, none_calm}
-use Rattle.kept_results.proofs.Renewing.{next_was, renewed_more, sealed_end, smaller}
+use Rattle.kept_results.proofs.Made.{fresh_more, fresh_out, none_calm, only_counted, only_sealed, past_counted, past_sealed}
+use Rattle.kept_results.proofs.Renewing.{next_was, renewed_more, sealed_all, sealed_end, smaller}
 use Rattle.kept_results.proofs.Tidying.{calm_sealed, tidy_below}
 use Rattle.kept_results.proofs.ends.+seal.Goals as goal
 
@@ -15,14 +15,16 @@ seal-returns-then-is_calm-clause-made t c =
     let none = none_calm c.args.memo.now c.requires.tidy (sym c.is_calm.ensures ∙ c.if-is_calm.true) in
     omega (arith, none)
 
-pub seal_through-seal-requires : goal.seal_through-seal-requires
-seal_through-seal-requires t c =
+-- ---- each child
+
+pub seal_all-seal-requires : goal.seal_all-seal-requires
+seal_all-seal-requires t c =
     let was = next_was sealed c.args.memo.now c.loop-at.memo c.loop-at.at c.at_mut.result.now c.loop-at.invariant.renewed c.at_mut.ensures.value in
     let falls : size-Memo c.at_mut.result.now < size-Memo c.args.memo.now = smaller c.args.memo.now c.loop-at.at c.at_mut.result.now was in
-    (omega arith, tidy_below c.args.memo.now c.requires.tidy c.loop-at.at c.at_mut.result.now was)
+    (omega arith, c.requires.tidy c.loop-at.at c.at_mut.result.now was)
 
-pub seal_through-loop-at-preserved : goal.seal_through-loop-at-preserved
-seal_through-loop-at-preserved t c =
+pub seal_all-loop-at-preserved : goal.seal_all-loop-at-preserved
+seal_all-loop-at-preserved t c =
     let was = next_was sealed c.args.memo.now c.loop-at.memo c.loop-at.at c.at_mut.result.now c.loop-at.invariant.renewed c.at_mut.ensures.value in
     let more = fresh_more (out-Memo c.args.memo.now).below c.loop-at.at c.at_mut.result.now was in
     record {
@@ -30,14 +32,43 @@ seal_through-loop-at-preserved t c =
       counted = omega (arith, more, c.loop-at.invariant.counted, c.seal.ensures.made, c.saturating_add-made.ensures);
     }
 
-pub seal_through-returns-clause-sealed : goal.seal_through-returns-clause-sealed
-seal_through-returns-clause-sealed t c =
+pub seal_all-returns-clause-sealed : goal.seal_all-returns-clause-sealed
+seal_all-returns-clause-sealed t c =
     let all : length (out-Memo c.args.memo.now).below ≡ c.loop-at.at = omega arith in
-    sealed_end c.args.memo.now c.loop-at.memo c.loop-at.at c.drop_older.new.entries c.loop-at.invariant.renewed all
-    (c.drop_older.ensures ∙ ap (λ (b : Bool). settled_all b (out-Memo c.loop-at.memo).entries) c.is_marked-marked.ensures)
+    sealed_all c.args.memo.now c.loop-at.memo c.loop-at.at c.loop-at.invariant.renewed all
 
-pub seal_through-returns-clause-made : goal.seal_through-returns-clause-made
-seal_through-returns-clause-made t c =
+pub seal_all-returns-clause-made : goal.seal_all-returns-clause-made
+seal_all-returns-clause-made t c =
     let memos = (out-Memo c.args.memo.now).below in
     let all = ap fresh_below (take_all c.loop-at.at memos (omega arith)) in
-    omega (arith, all, fresh_out c.args.memo.now, c.loop-at.invariant.counted)
+    omega (arith, all, c.loop-at.invariant.counted)
+
+-- ---- one child, or each
+
+pub seal_below-seal_all-requires : goal.seal_below-seal_all-requires
+seal_below-seal_all-requires t c = (omega arith, tidy_below c.args.memo.now c.requires.tidy)
+
+pub seal_only-seal-requires : goal.seal_only-seal-requires
+seal_only-seal-requires t c =
+    let falls : size-Memo c.at_mut.result.now < size-Memo c.args.memo.now = smaller c.args.memo.now c.args.child c.at_mut.result.now c.at_mut.ensures.value in
+    (omega arith, tidy_below c.args.memo.now c.requires.tidy c.args.child c.at_mut.result.now c.at_mut.ensures.value)
+
+pub seal_only-returns-then-child-len-clause-sealed : goal.seal_only-returns-then-child-len-clause-sealed
+seal_only-returns-then-child-len-clause-sealed t c =
+    only_sealed c.args.memo.now c.args.child c.at_mut.result.now c.seal.new.memo c.requires.tidy c.requires.only c.at_mut.ensures.value c.seal.ensures.sealed
+
+pub seal_only-returns-then-child-len-clause-made : goal.seal_only-returns-then-child-len-clause-made
+seal_only-returns-then-child-len-clause-made t c =
+    let counted = only_counted c.args.memo.now c.args.child c.at_mut.result.now c.requires.tidy c.requires.only c.at_mut.ensures.value in
+    omega (arith, counted, c.seal.ensures.made)
+
+pub seal_only-returns-else-child-len-clause-sealed : goal.seal_only-returns-else-child-len-clause-sealed
+seal_only-returns-else-child-len-clause-sealed t c =
+    let past : length (out-Memo c.args.memo.now).below ≤ c.args.child = omega arith in
+    past_sealed c.args.memo.now c.args.child c.requires.tidy c.requires.only past
+
+pub seal_only-returns-else-child-len-clause-made : goal.seal_only-returns-else-child-len-clause-made
+seal_only-returns-else-child-len-clause-made t c =
+    let past : length (out-Memo c.args.memo.now).below ≤ c.args.child = omega arith in
+    let none = past_counted c.args.memo.now c.args.child c.requires.tidy c.requires.only past in
+    omega (arith, none)

@@ -22,7 +22,7 @@ use Rattle.kept_results.specs.Kept.{IsKept, IsMissing, NamesKept, is_made, is_ma
 use Rattle.kept_results.specs.Looking.{HasAnswer, one_at, own_facts}
 use Rattle.kept_results.specs.Passes.{AnswersNeed, Needs, Pair, Passes}
 use Rattle.kept_results.specs.Regular.{IsRegular, restyled, restyled_at}
-use Rattle.kept_results.specs.Tidy.{IsTidy}
+use Rattle.kept_results.specs.Tidy.{IsTidy, is_new}
 use Rattle.kept_results.specs.declared.memo.Memo.{Memo}
 use Rattle.kept_results.specs.declared.memo.Memo.TheViews.{out-Memo}
 use Rattle.kept_results.proofs.Again.{child_unfit, fit, first_again, goes, kept_again, laid, near_below, near_child, near_entry, now, one_now, ones_now, passed_all, passed_child, proper, read_entry, shown_by, stays, step_only, still_regular, still_sized, stored, tidied_again, unfit, was_here, was_near}
@@ -464,7 +464,7 @@ relay_anew-returns-clause-tidy g t c =
     λ h.
     let kept = (c.in_ok-keep.ensures {u = tt}).kept in
     let ones = (c.in_ok-one.ensures {u = tt}).tidy (tidy_below c.args.memo.now h) in
-    subst IsTidy (sym kept.added) (tidy_added c.relay_all-2.new.memo kept.entry (ap is_made kept.made) ((c.in_ok-two.ensures {u = tt}).tidy ones))
+    subst IsTidy (sym kept.added) (tidy_added c.relay_all-2.new.memo kept.entry (ap is_new kept.made) ((c.in_ok-two.ensures {u = tt}).tidy ones))
 
 pub relay_anew-returns-clause-ok : goal.relay_anew-returns-clause-ok
 relay_anew-returns-clause-ok g t c =
@@ -867,7 +867,7 @@ relay_again-returns-clause-tidy g t c =
     let b = c.requires.before in
     let new = c.relay_element.new.memo in
     on_both c.make_again.result c.make_again.ensures.made c.make_again.ensures.fit
-    (λ made fits tidy. tidied_again m node memo context before h b new c.make_again.new.memo _ _ made
+    (λ made fits tidy. tidied_again m node memo context before h b new c.make_again.new.memo _ _ made tidy
     (tidy_renewed memo before.child c.at_mut-below.result.now new c.at_mut-below.ensures.value (tidy_below memo tidy) (c.in_ok-answer.ensures {u = tt}).tidy))
 
 pub relay_again-returns-clause-ok : goal.relay_again-returns-clause-ok
