@@ -49,6 +49,7 @@ impl<'a> Line<'a> {
     }
 }
 
+/// Are these the same word?
 pub fn is_same(word: &str, other: &str) -> bool {
     word == other
 }

@@ -107,6 +107,7 @@ impl<'a, I: Inputs + Drop, K: Kinds> Session<'a, I, K> {
     }
 }
 
+/// What a line says, where it is text.
 fn read_line(line: &[u8]) -> Result<Line<'_>, Fault> {
     let text = str::from_utf8(line).map_err(|_| Fault::NotText)?;
     Line::of_text(text)

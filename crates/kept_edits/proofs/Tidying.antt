@@ -102,9 +102,10 @@ names_way m (place ∷ path) node memo change known h fits is =
     ap (λ (o : Option Node). option_map_or (λ z. node_of (head_of node) (set nodes place (after m change path z))) o node) c.1 in
     let known_made = subst (λ (n : Node). KnownOn known (place ∷ path) n memo) node_is is in
     let there : slice_get (out-Node made).children place ≡ Some new =
-    ap (λ (z : Node-F Node). slice_get z.children place) (out-roll-Node record { head = head_of node; children = set nodes place new }) ∙ set_here nodes place new child c.1 in
-    ((λ own but at alike. (known_made.3 but (ap (λ (o : Renewal). o.alike_but) (same_Some known_made.0 own (sym known_made.1 ∙ at)) ∙ alike)).on_the_way),
-    names_way m path child kept change known (pairs.each place child kept c.1 k.1) c.2 (known_made.4 new kept there k.1))
+    ap (λ (z : Node-F Node). slice_get z.children place) (out-roll-Node record { head = head_of node; children = set nodes place new }) ∙ set_here nodes place new child c.1 in (
+      (λ own but at alike. (known_made.3 but (ap (λ (o : Renewal). o.alike_but) (same_Some known_made.0 own (sym known_made.1 ∙ at)) ∙ alike)).on_the_way),
+      names_way m path child kept change known (pairs.each place child kept c.1 k.1) c.2 (known_made.4 new kept there k.1),
+    )
 
 -- before an edit a memo has no marks, and nothing of it is fresh
 pub changed_is_tidy : (m : MetricsValue) (node : Node) (change : Change) (other : MemoChange) (known : List Renewal) (path : List ℕ) (memo : Memo) → is_unmarked memo ≡ true

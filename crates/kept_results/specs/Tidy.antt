@@ -17,7 +17,7 @@ has_none_fresh entries = list_all (λ entry. not (is_fresh entry)) entries
 abbrev pub is_calm : {X : Type 0} → Memo-F X → Bool
 is_calm layer = not (is_marked layer) && has_none_fresh layer.entries
 
--- the pass made an entry, and not out of one that stood
+-- the pass made an entry, and not out of one that stood before it
 abbrev pub is_new : Origin → Bool
 is_new Standing = false
 is_new Made = true
@@ -42,7 +42,7 @@ abbrev pub IsMemoAt : List ℕ → Memo → Memo → Type 0
 IsMemoAt [] memo kept = kept ≡ memo
 IsMemoAt (place ∷ path) memo kept = (below : Memo) × (slice_get (out-Memo memo).below place ≡ Some below) × IsMemoAt path below kept
 
--- this holds of each element: so nothing below a calm element is marked or fresh
+-- this holds of each element: so nothing below a calm element is marked or fresh, nor below a child that was left alone
 pub record IsTidy (memo : Memo) : Type 0 where
   pub at : (path : List ℕ) (kept : Memo) → IsMemoAt path memo kept → StaysCalm (out-Memo kept)
 

@@ -1,9 +1,9 @@
-use Rattle.std.proofs.Common.{◌≡◌, ◌∙◌, ◌<◌, ◌≤◌, sym, ap, Bool, arith, length}
+use Rattle.std.proofs.Common.{◌≡◌, ◌∙◌, ◌<◌, ◌≤◌, sym, ap, arith, length}
 use Rattle.std.proofs.lemmas.List.{take_all}
-use Rattle.kept_results.specs.Ends.{fresh_below, sealed, settled_all}
+use Rattle.kept_results.specs.Ends.{fresh_below, sealed}
 use Rattle.kept_results.specs.declared.memo.Memo.TheViews.{out-Memo, size-Memo}
-use Rattle.kept_results.proofs.Made.{fresh_more, fresh_out, none_calm, only_counted, only_sealed, past_counted, past_sealed}
-use Rattle.kept_results.proofs.Renewing.{next_was, renewed_more, sealed_all, sealed_end, smaller}
+use Rattle.kept_results.proofs.Made.{fresh_more, none_calm, only_counted, only_sealed, past_counted, past_sealed}
+use Rattle.kept_results.proofs.Renewing.{next_was, renewed_more, sealed_all, smaller}
 use Rattle.kept_results.proofs.Tidying.{calm_sealed, tidy_below}
 use Rattle.kept_results.proofs.ends.+seal.Goals as goal
 
