@@ -1,5 +1,5 @@
 -- Changed memos are tidy: only the elements on the way are marked, each names its child on the way or none, and nothing is fresh.
-use Rattle.std.proofs.Common.{◌≡◌, ◌∙◌, inl, inr, refl, sym, ap, subst, ℕ, zero, suc, ◌<◌, arith, true, List, [], ◌∷◌, get_or, length, set, Option, Some, slice_get}
+use Rattle.std.proofs.Common.{◌≡◌, ◌∙◌, inl, inr, refl, sym, ap, subst, ℕ, zero, suc, arith, true, List, [], ◌∷◌, get_or, length, set, Option, Some, slice_get}
 use Rattle.std.proofs.lemmas.Option.{none-some, same_Some, slice_get_within}
 use Rattle.std.specs.Option.{option_map_or}
 use Rattle.font_metrics.specs.Metrics.{MetricsValue}

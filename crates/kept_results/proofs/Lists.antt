@@ -1,5 +1,5 @@
 -- Lists of which one item is set, or that have one item more.
-use Rattle.std.proofs.Common.{◌≡◌, ◌∙◌, ◌⊎◌, inl, inr, refl, sym, ap, subst, ℕ, zero, suc, ◌+◌, ◌<◌, ◌≤◌, arith, List, [], ◌∷◌, ◌++◌, length, map, set, take, get_or, Some, slice_get}
+use Rattle.std.proofs.Common.{◌≡◌, ◌∙◌, ◌⊎◌, inl, inr, refl, sym, ap, subst, ℕ, zero, suc, ◌+◌, ◌<◌, arith, List, [], ◌∷◌, ◌++◌, length, map, set, take, get_or, Some, slice_get}
 use Rattle.std.proofs.lemmas.List.{take_more}
 use Rattle.std.proofs.lemmas.Option.{none-some, same_Some}
 use Rattle.std.specs.List.{AllByRecursion}
@@ -47,12 +47,6 @@ module _ {X : Type 0} where
   set_here [] i x y h = absurd (none-some y h)
   set_here (z ∷ xs) zero x y h = refl
   set_here (z ∷ xs) (suc i) x y h = set_here xs i x y h
-
-  -- past the end nothing is set
-  pub set_past : (xs : List X) (i : ℕ) (x : X) → length xs ≤ i → set xs i x ≡ xs
-  set_past [] i x l = refl
-  set_past (z ∷ xs) zero x l = absurd (omega (arith, l))
-  set_past (z ∷ xs) (suc i) x l = ap (λ (ys : List X). z ∷ ys) (set_past xs i x (omega (arith, l)))
 
   pub set_twice : (xs : List X) (i : ℕ) (x y : X) → set (set xs i x) i y ≡ set xs i y
   set_twice [] i x y = refl

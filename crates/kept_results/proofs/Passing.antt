@@ -6,7 +6,7 @@ use Rattle.font_metrics.specs.Metrics.{MetricsValue}
 use Rattle.math_tree.specs.declared.node.Node.{Node}
 use Rattle.math_tree.specs.declared.node.Node.TheViews.{out-Node}
 use Rattle.layout_model.specs.declared.context.Context.{Context}
-use Rattle.kept_results.specs.Kept.{Agrees, Holds, HoldsIn, IsMissing, IsSound, is_fresh, is_live, is_made, is_marked}
+use Rattle.kept_results.specs.Kept.{Agrees, Holds, HoldsIn, IsMissing, IsSound, is_fresh, is_live, is_fresh_from, is_marked}
 use Rattle.kept_results.specs.Ends.{undone}
 use Rattle.kept_results.specs.Looking.{with_entry}
 use Rattle.kept_results.specs.Passes.{HasNoRepeat, IsPairKept, IsPairMissing, Pair, Passes}
@@ -159,7 +159,7 @@ module _ (m : MetricsValue) where
       → IsSound m node (out-Memo memo).below more → IsMissing (is_marked (out-Memo memo)) context (out-Memo memo).entries → more.context ≡ context → more.origin ≡ Made
       → needed (pair_at [] context) → to ≡ from + 1 → Passes m node needed memo (roll-Memo (added memo more)) from to true
   passes_added node needed memo more context from to h sound missing is made need step =
-      let fresh : is_fresh more ≡ true = ap is_made made in
+      let fresh : is_fresh more ≡ true = ap is_fresh_from made in
       let live = fresh_live (is_marked (out-Memo memo)) more fresh in
       record {
         agrees = agrees_added m node memo more h sound (subst (λ (x : Context). IsMissing (is_marked (out-Memo memo)) x (out-Memo memo).entries) (sym is) missing) fresh;

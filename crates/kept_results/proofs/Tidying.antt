@@ -5,7 +5,7 @@ use Rattle.std.specs.List.{AllByRecursion, list_all}
 use Rattle.std.specs.Option.{option_and_then, option_map}
 use Rattle.kept_results.specs.declared.memo.Former.{Former}
 use Rattle.kept_results.specs.Ends.{all_undone, restored, sealed, settled, settled_all, stripped, undone_from}
-use Rattle.kept_results.specs.Kept.{alike_but, is_fresh, is_made, is_marked}
+use Rattle.kept_results.specs.Kept.{alike_but, is_fresh, is_fresh_from, is_marked}
 use Rattle.kept_results.specs.Laws.{is_unmarked, unmarked_layer}
 use Rattle.kept_results.specs.Tidy.{AreTidy, StaysCalm, IsTidy, IsMemoAt, has_none_fresh, has_none_new, is_calm, is_new, only_touched}
 use Rattle.kept_results.specs.Looking.{with_entry}
@@ -57,12 +57,12 @@ not_new_at (x ∷ entries) zero entry h at =
     ap (λ (e : Entry). is_new e.origin) (sym (same_Some x entry at)) ∙ not_true (is_new x.origin) (first_holds (not (is_new x.origin)) (has_none_new entries) h)
 not_new_at (x ∷ entries) (suc place) entry h at = not_new_at entries place entry (second_holds (not (is_new x.origin)) (has_none_new entries) h) at
 
-new_made : (origin : Origin) → is_new origin ≡ true → is_made origin ≡ true
+new_made : (origin : Origin) → is_new origin ≡ true → is_fresh_from origin ≡ true
 new_made Standing h = h
 new_made Made h = refl
 new_made (Remade was) h = refl
 
-old_not_new : (origin : Origin) → is_made origin ≡ false → is_new origin ≡ false
+old_not_new : (origin : Origin) → is_fresh_from origin ≡ false → is_new origin ≡ false
 old_not_new Standing h = refl
 old_not_new Made h = h
 old_not_new (Remade was) h = refl
@@ -173,7 +173,7 @@ module _ (memo : Memo) (child : ℕ) (alike : alike_but (out-Memo memo) ≡ Some
 
 -- ---- a calm memo is sealed already
 
-pub stands : (origin : Origin) → is_made origin ≡ false → origin ≡ Standing
+pub stands : (origin : Origin) → is_fresh_from origin ≡ false → origin ≡ Standing
 stands Standing h = refl
 stands Made h = absurd (true≢false h)
 stands (Remade was) h = absurd (true≢false h)
@@ -253,12 +253,12 @@ none_made [] h = refl
 none_made (x ∷ entries) h = by (none_made entries) x.origin refl h
   where
     by : (all_undone entries ≡ entries → has_none_fresh entries ≡ true) → (origin : Origin) → x.origin ≡ origin → undone_from origin x ++ all_undone entries ≡ x ∷ entries → (not (is_fresh x) && has_none_fresh entries) ≡ true
-    by rest Standing e k = both_hold (not (is_fresh x)) (has_none_fresh entries) (ap (λ (o : Origin). not (is_made o)) e) (rest (ap tail_of k))
+    by rest Standing e k = both_hold (not (is_fresh x)) (has_none_fresh entries) (ap (λ (o : Origin). not (is_fresh_from o)) e) (rest (ap tail_of k))
     by rest Made e k = let l = fewer entries in absurd (omega (arith, l, ap length k))
     by rest (Remade []) e k = let l = fewer entries in absurd (omega (arith, l, ap length k))
     by rest (Remade (before ∷ was)) e k =
         let same : restored x before ≡ x = same_Some (restored x before) x (ap (λ (l : List Entry). slice_get l 0) k) in
-        absurd (true≢false (sym (ap is_fresh same ∙ ap is_made e)))
+        absurd (true≢false (sym (ap is_fresh same ∙ ap is_fresh_from e)))
 
 pub none_each : (entries : List Entry) → has_none_fresh entries ≡ true → AllByRecursion (λ entry. is_fresh entry ≡ false) entries
 none_each [] h = tt

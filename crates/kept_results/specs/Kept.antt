@@ -41,15 +41,15 @@ is_marked layer = is_some layer.former
 abbrev pub alike_but : {X : Type 0} → Memo-F X → Option ℕ
 alike_but layer = option_and_then (λ former. former.alike_but) layer.former
 
--- the present pass made an entry, or made it anew out of one that stood
-abbrev pub is_made : Origin → Bool
-is_made Standing = false
-is_made Made = true
-is_made (Remade was) = true
+-- the present pass made an entry, or made it anew out of one that stood: by how it stands to that
+abbrev pub is_fresh_from : Origin → Bool
+is_fresh_from Standing = false
+is_fresh_from Made = true
+is_fresh_from (Remade was) = true
 
 -- such an entry is fresh
 abbrev pub is_fresh : Entry → Bool
-is_fresh entry = is_made entry.origin
+is_fresh entry = is_fresh_from entry.origin
 
 -- an entry of a marked element that isn't fresh is an older one
 abbrev pub is_live : Bool → Entry → Bool

@@ -68,7 +68,7 @@ pub record IsKeptNow (before after : Memo) (context : Context) (outcome : Outcom
 
 -- ---- made anew
 
--- what the entry at a place asked in the first wave
+-- what the entry at a place asked in the first wave; nothing where there is none
 abbrev pub ones_at : Memo-F Memo → ℕ → List Question
 ones_at layer place = option_map_or (λ entry. entry.ones) (slice_get layer.entries place) []
 
@@ -80,7 +80,7 @@ one_at layer place = option_map_or (λ entry. entry.one) (slice_get layer.entrie
 abbrev pub answers_with : Memo → Earlier → Answer → List Answer
 answers_with memo before answer = slice_set (one_at (out-Memo memo) before.entry) before.child answer
 
--- an entry whose child at a place was asked something else, and answered something else
+-- an entry that says of the child at a place that it was asked and answered this
 abbrev pub turned : Entry → ℕ → Said → Entry
 turned entry child said = record {
   context = entry.context;

@@ -47,7 +47,7 @@ HasNoRepeat (pair ∷ pairs) = AllByRecursion (λ other. pair ≡ other → ⊥)
 
 -- a pass, with the steps that were counted before it and after it, where what it was for needs some pairs. It keeps
 -- the state and all that was kept, and undone it leaves no trace. Its steps are pairs that are needed and weren't kept, none
--- twice. Where it is done they are kept, and nothing else is kept more
+-- twice. Where it is done they are kept, and nothing more is kept
 pub record Passes (m : MetricsValue) (node : Node) (needed : Pair → Type 0) (before after : Memo) (from to : ℕ) (done : Bool) : Type 0 where
   pub agrees : Agrees m node after
   pub same : stripped after ≡ stripped before

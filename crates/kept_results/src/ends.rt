@@ -21,9 +21,9 @@ pub fn undo_pass(memo: &mut Memo)
     undo_entries(&mut memo.entries);
 }
 
-/// Ends a pass that was done: older entries are dropped, and marks are cleared. It goes only where the edit
-/// and the pass went, and takes no memory. It says how many entries the pass made, and 2^64 - 1 where there
-/// are more.
+/// Ends a pass that was done: older entries are dropped, marks are cleared, and what the pass made stands
+/// from then on. It goes only where the edit and the pass went, and takes no memory. It says how many
+/// entries the pass made, out of others too, and 2^64 - 1 where there are more.
 #[cycle(seal)]
 pub fn seal(memo: &mut Memo) -> usize
     requires tidy { IsTidy memo.old }
@@ -117,6 +117,7 @@ fn undo_entries(entries: &mut List<Entry>)
             Origin::Made => drop(entries.remove(at)),
             Origin::Remade(was) => match first_of(was) {
                 Some(before) => restore(entries.at_mut(at), before),
+                // (an entry that was made anew holds what it was)
                 None => drop(entries.remove(at)),
             },
         }

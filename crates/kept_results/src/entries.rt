@@ -1,4 +1,4 @@
-ghost use Rattle.std.specs.Prelude.{◌≡◌, ◌++◌, ◌∷◌, [], true, false, IfOk, IfSome, IfNone, OnErr, OnOk, map};
+ghost use Rattle.std.specs.Prelude.{◌≡◌, true, false, IfOk, IfSome, IfNone, OnErr, OnOk, map};
 ghost use Rattle.kept_results.specs.Kept.{IsMissing, is_live, is_marked};
 ghost use Rattle.kept_results.specs.Looking.{HasAnswer, IsKeptNow, own_facts};
 ghost use Rattle.kept_results.specs.Tidy.{has_none_fresh, has_none_new, is_calm, only_touched};
@@ -50,8 +50,8 @@ fn has_none_new(entries: &[Entry]) -> bool
     true
 }
 
-/// The only child of an element that the present edit and the present pass may not have left alone, where
-/// that is known.
+/// The child that an element's mark names, where the present pass made no entry of the element but out of
+/// others: in a tidy memo the present edit and the pass left its other children alone.
 pub fn only_touched(memo: &Memo) -> Option<usize>
     ensures { result ≡ only_touched (out-Memo memo.now) }
 {

@@ -4,7 +4,7 @@
 //! that element was laid out, so that a later layout computes only what an edit changed. An edit
 //! marks the elements on the way to it; what a marked element keeps from before doesn't count. But where
 //! layout sees the same of it as then, except for one child, and all its children are asked alike, its
-//! questions and what the other children answered are taken over.
+//! questions and what the other children answered are taken over: such an entry is made anew where it stands.
 //!
 //! - Models: this project's own; MathML Core says nothing of it.
 //! - Proved: a pass gives the layout exactly, computes nothing that is kept, and nothing twice, and can

@@ -31,8 +31,8 @@ pub enum Origin {
     Standing,
     /// The pass made it.
     Made,
-    /// The pass made it out of one that stood, of which this was otherwise: one item, on the heap, so that
-    /// no other entry is larger for it.
+    /// The pass made it out of one that stood, of which this was otherwise: one item, on the heap, so that an
+    /// entry is larger by a list alone.
     Remade(List<Before>),
 }
 
@@ -41,14 +41,18 @@ pub enum Origin {
 pub struct Before {
     /// The place of the child that was asked again.
     pub child: usize,
+    /// What that child was asked, and answered.
     pub said: Said,
+    /// The outcome over that.
     pub outcome: Outcome,
 }
 
 /// What a child was asked, and what it answered.
 #[derive(Debug, Drop)]
 pub struct Said {
+    /// The question of the first wave.
     pub asked: Question,
+    /// The answer to it.
     pub answer: Answer,
 }
 
@@ -61,7 +65,7 @@ impl Entry {
     }
 
     /// Whether the present pass made it, and not out of one that stood.
-    pub fn is_new(&self) -> bool
+    pub(crate) fn is_new(&self) -> bool
         ensures { result ≡ is_new self.now.origin }
     {
         matches!(self.origin, Origin::Made)

@@ -103,7 +103,8 @@ fn relay_anew<L: Ledger>(
 }
 
 /// The same, where an entry of before the edit tells what the element asks, and only its child on the way to
-/// the edit may answer something else: no other child is asked, and no entry of one is looked for.
+/// the edit may answer something else: no other child is asked, and no entry of one is looked for. The entry
+/// is made anew where it stands.
 #[cycle(relay)]
 #[inline(never)]
 fn relay_again<L: Ledger>(

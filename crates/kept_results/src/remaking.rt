@@ -25,7 +25,8 @@ use std::mem;
 use std::sync::ledger::Ledger;
 
 /// Makes an entry of before the edit anew, of which the child on the way was asked and answered this since.
-/// It takes one step. The entry's questions and answers stay where they are, but for that child's.
+/// It takes one step. The entry's questions and answers stay where they are, but for that child's. Where it
+/// is refused, the entry is as it was.
 pub fn make_again<L: Ledger>(
     alloc: Global,
     node: &Node,
@@ -84,7 +85,7 @@ struct LaidAgain {
     room: Room<Before>,
 }
 
-/// The layout over the questions and answers of an entry.
+/// The layout over the questions and answers of an entry. It takes one step.
 fn lay_again<L: Ledger>(
     alloc: Global,
     node: &Node,

@@ -1,5 +1,5 @@
 -- What is left when all is marked, what is needed is flagged, and the memo is sealed.
-use Rattle.std.proofs.Common.{◌≡◌, ◌∙◌, inl, inr, refl, sym, ap, subst, ℕ, zero, suc, Bool, true, false, cond, not, ◌&&◌, List, [], ◌∷◌, filter, map, None, Option, Some, is_some, slice_get}
+use Rattle.std.proofs.Common.{◌≡◌, ◌∙◌, inl, inr, refl, sym, ap, subst, ℕ, suc, Bool, true, false, not, ◌&&◌, List, [], ◌∷◌, map, None, Option, Some, is_some, slice_get}
 use Rattle.std.proofs.lemmas.List.{length-map}
 use Rattle.std.proofs.lemmas.Option.{none-some, same_Some, slice_get-map}
 use Rattle.std.specs.List.{AllByRecursion, list_all}
@@ -37,19 +37,6 @@ by_below P step = ind-Memo P (λ x y is.
     step (roll-Memo x) (subst (AllByRecursion P) (sym below) (all_first P y.below)))
 
 -- ---- memos without flags
-
-passes_at : {X : Type 0} (test : X → Bool) (xs : List X) (i : ℕ) (x : X) → slice_get (filter test xs) i ≡ Some x → test x ≡ true
-passes_at test [] i x h = absurd (none-some x h)
-passes_at {X} test (y ∷ xs) i x h = by (passes_at test xs) (test y) refl i h
-  where
-    by : ((n : ℕ) (z : X) → slice_get (filter test xs) n ≡ Some z → test z ≡ true) → (b : Bool) → test y ≡ b → (n : ℕ) → slice_get (cond b (y ∷ filter test xs) (filter test xs)) n ≡ Some x → test x ≡ true
-    by later true e zero k = ap test (sym (same_Some y x k)) ∙ e
-    by later true e (suc n) k = later n x k
-    by later false e n k = later n x k
-
-is_false : (b : Bool) → not b ≡ true → b ≡ false
-is_false true h = let g : false ≡ true = h in cc
-is_false false h = refl
 
 is_none : (former : Option Former) → not (is_some former) ≡ true → former ≡ None
 is_none None h = refl

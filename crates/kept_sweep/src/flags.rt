@@ -1,4 +1,4 @@
-ghost use Rattle.std.specs.Prelude.{◌≡◌, ◌++◌, length, map, true, false, IfSome, IfNone};
+ghost use Rattle.std.specs.Prelude.{◌≡◌, ◌++◌, map, true, false, IfSome, IfNone};
 ghost use Rattle.std.specs.List.{AllByRecursion};
 ghost use Rattle.math_tree.specs.declared.node.Node.TheViews.{out-Node};
 ghost use Rattle.embellished.specs.Facts.{facts};
@@ -29,8 +29,8 @@ pub fn mark_all(memo: &mut Memo)
 }
 
 /// Flags the entry of an element in a context, and all that its layout needs below it: they count as made
-/// by a pass, so that the seal keeps them. What is flagged already isn't gone through again. `metrics` are those of the layouts that are kept; none
-/// of their numbers is read.
+/// by a pass, so that the seal keeps them. What is flagged already isn't gone through again. `metrics` are
+/// those of the layouts that are kept; none of their numbers is read.
 #[cycle(flag)]
 pub fn flag_needed(node: &Node, memo: &mut Memo, context: &Context, metrics: &Metrics)
     requires agrees { Agrees metrics.now node.now memo.old }

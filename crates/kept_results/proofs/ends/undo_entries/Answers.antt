@@ -3,7 +3,7 @@ use Rattle.std.proofs.lemmas.Option.{get_or_from_slice_get, same_Some}
 use Rattle.kept_results.specs.Ends.{all_undone, restored, settled}
 use Rattle.kept_results.specs.declared.memo.Entry.{Entry}
 use Rattle.kept_results.proofs.Dropping.{Dropped, made_out, remade_in, remade_out, remove_set, standing_in}
-use Rattle.kept_results.specs.Kept.{is_made}
+use Rattle.kept_results.specs.Kept.{is_fresh_from}
 use Rattle.kept_results.proofs.Lists.{set_here, set_same, set_twice}
 use Rattle.kept_results.proofs.Tidying.{settled_same}
 use Rattle.kept_results.proofs.ends.undo_entries.Goals.{in-Made, in-Standing, in-Remade+in-None, in-Remade+in-Some}
@@ -28,7 +28,7 @@ loop-step-preserved c =
     (elim c.match-take_origin.branch [
       | in-Standing w ↦
           let stood = sym origin ∙ w.in-Standing.is in
-          let same : settled x ≡ x = settled_same x (ap is_made stood) in
+          let same : settled x ≡ x = settled_same x (ap is_fresh_from stood) in
           subst (λ (l : List Entry). Dropped all_undone before l at)
           (sym (w.entries-is ∙ mid ∙ ap (set now at) same ∙ set_same now at x c.at_mut.ensures.value))
           (standing_in before now (count - step) at e x is old stood)

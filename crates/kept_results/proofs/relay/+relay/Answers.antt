@@ -18,7 +18,7 @@ use Rattle.layout_core.proofs.Fits.{answers_are, range_is}
 use Rattle.layout_core.proofs.Waves.{all_fit, broken, fit_more}
 use Rattle.layout_core.proofs.Whole.{answers_all, ones_false, range_waves, size_false, twos_false}
 use Rattle.kept_results.specs.Contexts.{IsProper}
-use Rattle.kept_results.specs.Kept.{IsKept, IsMissing, NamesKept, is_made, is_marked}
+use Rattle.kept_results.specs.Kept.{IsKept, IsMissing, NamesKept, is_fresh_from, is_marked}
 use Rattle.kept_results.specs.Looking.{HasAnswer, one_at, own_facts}
 use Rattle.kept_results.specs.Passes.{AnswersNeed, Needs, Pair, Passes}
 use Rattle.kept_results.specs.Regular.{IsRegular, restyled, restyled_at}
@@ -455,7 +455,7 @@ relay_anew-returns-clause-passed g t c =
 pub relay_anew-returns-clause-kept : goal.relay_anew-returns-clause-kept
 relay_anew-returns-clause-kept g t c =
     let kept = (c.in_ok-keep.ensures {u = tt}).kept in
-    let live = fresh_live (is_marked (out-Memo c.relay_all-2.new.memo)) kept.entry (ap is_made kept.made) in
+    let live = fresh_live (is_marked (out-Memo c.relay_all-2.new.memo)) kept.entry (ap is_fresh_from kept.made) in
     subst (λ (memo : Memo). IsKept (out-Memo memo) c.args.context.now) (sym kept.added)
     record { entry = kept.entry; has = has_added c.relay_all-2.new.memo kept.entry live; in_context = kept.holds.in_context }
 
