@@ -25,8 +25,8 @@ use std::sync::ledger::Ledger;
 use style_scope::root_style;
 
 /// Lays out a tree, every element afresh. It is refused with `Range` exactly where a number of a
-/// layout that is made on the way can't be stored. `finish` ticks a step for each layout that is made;
-/// how many those are is no clause.
+/// layout that is made on the way can't be stored. Each layout that is made takes one step, and nothing
+/// else takes any.
 pub fn lay_fresh<L: Ledger>(
     alloc: Global,
     tree: &Tree,
@@ -34,6 +34,7 @@ pub fn lay_fresh<L: Ledger>(
     steps: &mut Steps<L>,
 ) -> Result<Laid, LayRefusal>
     ensures ok { IfOk result (λ all. all ≡ laid_tree metrics.now tree.now) }
+    ensures steps { OnOk result (steps.new ≡ steps.old + length (tree_visits metrics.now tree.now)) }
     ensures fit { OnOk result (is_tree_in_range metrics.now tree.now ≡ true) }
     ensures range { result ≡ Err Range → is_tree_in_range metrics.now tree.now ≡ false }
 {
@@ -61,6 +62,7 @@ fn lay_element<L: Ledger>(
     requires few { element_count node.now ≤ 65_536 }
     requires context { IsContext context.now }
     ensures ok { IfOk result (λ all. all ≡ laid metrics.now node.now context.now) }
+    ensures steps { OnOk result (steps.new ≡ steps.old + length (visits metrics.now node.now context.now)) }
     ensures fit { OnOk result (in_range metrics.now node.now context.now ≡ true) }
     ensures range { result ≡ Err Range → in_range metrics.now node.now context.now ≡ false }
 {
@@ -99,6 +101,7 @@ fn ask_all<L: Ledger>(
     requires styles { All HasStyle asks.now }
     requires stretches { All IsQuestionStored asks.now }
     ensures ok { IfOk result (λ answers. answers ≡ map (answer_of metrics.now node.now) asks.now) }
+    ensures steps { OnOk result (steps.new ≡ steps.old + length (flat_map (visits_below metrics.now node.now) asks.now)) }
     ensures slots { OnOk result (slots.new.items ≡ with_laid metrics.now node.now asks.now slots.old.items) }
     ensures fit { OnOk result (list_all (visit_fits metrics.now) (flat_map (visits_below metrics.now node.now) asks.now) ≡ true) }
     ensures range { result ≡ Err Range →
