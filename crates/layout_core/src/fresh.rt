@@ -1,4 +1,4 @@
-ghost use Rattle.std.specs.Prelude.{◌≡◌, ◌≤◌, length, map, true, false, IfOk, OnOk, Err};
+ghost use Rattle.std.specs.Prelude.{◌≡◌, ◌+◌, ◌≤◌, length, map, true, false, IfOk, OnOk, Err};
 ghost use Rattle.std.specs.List.{All, flat_map, list_all};
 ghost use Rattle.fixed_units.specs.declared.refusal.LayRefusal.TheVariants.{Range};
 ghost use Rattle.math_tree.specs.Trees.{element_count};
@@ -6,9 +6,10 @@ ghost use Rattle.embellished.specs.Known.{known_of};
 ghost use Rattle.embellished.specs.Seen.{seen_of};
 ghost use Rattle.layout_model.specs.Fits.{HasStyle, IsContext};
 ghost use Rattle.layout_model.specs.Laws.{answer_of, visits_below};
-ghost use Rattle.layout_model.specs.Layout.{in_range, is_tree_in_range, laid, laid_tree, visit_fits};
+ghost use Rattle.layout_model.specs.Layout.{in_range, is_tree_in_range, laid, laid_tree, visit_fits, visits};
 ghost use Rattle.layout_model.specs.Questions.{IsBelow};
 ghost use Rattle.layout_model.proofs.Asked.{IsQuestionStored};
+ghost use Rattle.layout_core.specs.Made.{made_afresh};
 ghost use Rattle.layout_core.specs.Slots.{with_laid};
 
 use crate::slots::{empty_slots, filled};
@@ -34,7 +35,7 @@ pub fn lay_fresh<L: Ledger>(
     steps: &mut Steps<L>,
 ) -> Result<Laid, LayRefusal>
     ensures ok { IfOk result (λ all. all ≡ laid_tree metrics.now tree.now) }
-    ensures steps { OnOk result (steps.new ≡ steps.old + length (tree_visits metrics.now tree.now)) }
+    ensures steps { OnOk result (steps.new ≡ steps.old + made_afresh metrics.now tree.now) }
     ensures fit { OnOk result (is_tree_in_range metrics.now tree.now ≡ true) }
     ensures range { result ≡ Err Range → is_tree_in_range metrics.now tree.now ≡ false }
 {

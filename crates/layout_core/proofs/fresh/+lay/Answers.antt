@@ -19,8 +19,8 @@ use Rattle.layout_model.specs.declared.outcome.Answer.{Answer}
 use Rattle.layout_model.proofs.Asked.{IsQuestionStored}
 use Rattle.layout_core.proofs.Children.{child_of, few_below, few_children, in_flow, item_of, known_at, known_below, near, smaller}
 use Rattle.layout_core.proofs.Fits.{answers_are, range_is}
-use Rattle.layout_core.proofs.Waves.{all_fit, as_many_places, broken, fit_more, kept_more, kept_none, told_more}
-use Rattle.layout_core.proofs.Whole.{and_true, answers_all, fits_true, first_false, laid_waves, lay_waves, ones_below, ones_false, ones_stored, outcome_false, range_waves, size_false, twos_below, twos_false, twos_stored}
+use Rattle.layout_core.proofs.Waves.{all_fit, as_many_places, broken, count_more, fit_more, kept_more, kept_none, told_more}
+use Rattle.layout_core.proofs.Whole.{and_true, answers_all, fits_true, first_false, laid_waves, lay_waves, ones_below, ones_false, ones_stored, outcome_false, range_waves, size_false, twos_below, twos_false, twos_stored, visits_waves}
 use Rattle.layout_core.proofs.fresh.+lay.Goals as goal
 
 -- ---- one question after another
@@ -28,6 +28,7 @@ use Rattle.layout_core.proofs.fresh.+lay.Goals as goal
 pub ask_all-loop-asked-init : goal.ask_all-loop-asked-init
 ask_all-loop-asked-init g t c = record {
   told = c.in_ok-answers.ensures {u = tt};
+  count = omega arith;
   kept = sym (kept_none c.args.metrics.now c.args.node.now c.args.slots.now.items);
   fit = refl;
 }
@@ -86,6 +87,7 @@ ask_all-loop-asked-preserved g t c =
     let pushed = (c.in_ok-push.ensures {u = tt}).ok ∙ ap (λ (a : Answer). c.loop-asked.answers ++ a ∷ []) (c.in_ok-copy_of.ensures {u = tt}) in
     record {
       told = told_more m node items i q kid c.loop-asked-test.true c.asked-item.is at c.loop-asked.answers c.push.new.self c.in_ok-laid.laid c.loop-asked.invariant.told made.ok pushed;
+      count = count_more m node items i q kid c.loop-asked-test.true c.asked-item.is at _ _ _ c.loop-asked.invariant.count made.steps;
       kept = kept_more m node items i q kid c.loop-asked-test.true c.asked-item.is at c.args.slots.now.items c.loop-asked.slots.items _ c.in_ok-laid.laid c.loop-asked.invariant.kept made.ok refl;
       fit = fit_more m node items i q kid c.loop-asked-test.true c.asked-item.is at c.loop-asked.invariant.fit made.fit;
     }
@@ -225,6 +227,16 @@ lay_element-returns-clause-ok g t c =
     ap (λ (kids : List Laid). roll-Laid record { head = c.in_ok-copy.field-0; outcome = c.in_ok-outcome.outcome; kids = kids }) (c.in_ok-filled.ensures {u = tt})
     ∙ laid_waves m node _ c.args.context.now shown c.in_ok-ones.ones o c.in_ok-one.one one.ok c.in_ok-twos.twos w c.in_ok-copy.field-0 c.in_ok-outcome.outcome _
     c.in_ok-slots.slots.items c.kids.result (c.in_ok-copy.ensures {u = tt}) made (c.in_ok-slots.ensures {u = tt}) count kept
+
+pub lay_element-returns-clause-steps : goal.lay_element-returns-clause-steps
+lay_element-returns-clause-steps g t c =
+    let m = c.args.metrics.now in
+    let shown = c.in_ok-view.ensures {u = tt} in
+    let o = (c.in_ok-ones.ensures {u = tt}).ok in
+    let one = (c.in_ok-one.ensures {u = tt}) in
+    let two = (c.in_ok-two.ensures {u = tt}) in
+    let all = visits_waves m c.args.node.now _ c.args.context.now shown c.in_ok-ones.ones o c.in_ok-one.one one.ok c.in_ok-twos.twos (c.in_ok-twos.ensures {u = tt}).value in
+    omega (arith, all, one.steps, two.steps, c.finish.ensures.step)
 
 pub lay_element-returns-clause-fit : goal.lay_element-returns-clause-fit
 lay_element-returns-clause-fit g t c =
