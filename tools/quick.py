@@ -13,9 +13,9 @@ As many run at a time as there are processors, or N; each needs up to 1.5 GB of 
 does is told. The last line is 'N passed, M failed', which counts each program as one, and the tests of the tools as one; the
 status is 0 where none failed, else 1. It needs the kit's `rt`, and leaves no file.
 
-`rt try` by itself optimizes nothing and checks each access of memory, and some programs then run for ten minutes. So it is
-called in a folder of links to the kit, where clang is called with other words: the program is optimized, and its accesses of
-memory aren't checked. Overflows, indices and the like still are. --checked calls `rt try` as it is.
+`rt try` by itself optimizes nothing and checks each access of memory, and a program may then run for more than six minutes. So
+it is called in a folder of links to the kit, where clang is called with other words: the program is optimized, and its
+accesses of memory aren't checked. Overflows, indices and the like still are. --checked calls `rt try` as it is.
 """
 
 import argparse
@@ -37,8 +37,9 @@ CRATES = TOP / "crates"
 LIMITS = ["--steps", "1", "--seconds", "1800"]
 # The last line of `rt try` where the program ended by itself.
 ENDED = re.compile(r"^run=ended status=(\d+) .*\n\Z", re.MULTILINE)
-# How many lines of a run that failed are told, and how many characters of a line that differs.
-LINES, WIDTH = 20, 160
+# How many of the last lines of a run that failed are told; and of a line that differs, how many bytes, and how many of them
+# stand before the difference.
+LINES, WIDTH, BEFORE = 20, 120, 40
 
 # What stands in the place of clang: the same words, but for how far it optimizes and what it checks.
 CLANG = """#!/bin/sh
@@ -60,7 +61,7 @@ def main():
     parser = argparse.ArgumentParser(prog="quick", description=__doc__, formatter_class=argparse.RawDescriptionHelpFormatter)
     parser.add_argument("names", metavar="NAME", nargs="*", help="a program; where left out, all and the tests of the tools")
     parser.add_argument("--jobs", metavar="N", type=int, default=processors(), help="how many run at a time (here %(default)s)")
-    parser.add_argument("--checked", action="store_true", help="check each access of memory too, which takes ten times as long")
+    parser.add_argument("--checked", action="store_true", help="check each access of memory too, which takes much longer")
     words = parser.parse_args()
     signal.signal(signal.SIGTERM, lambda number, _: sys.exit(128 + number))
     names = program_names()
@@ -198,12 +199,15 @@ class Check:
         if self.child.poll() is None:
             return False
         self.seconds = time.monotonic() - self.began
+        self.written, self.told = content(self.out), content(self.errors).decode("utf-8", "replace")
         return True
 
     def stop(self):
         """Ends it before its time; `rt` then removes what it made."""
         self.child.terminate()
         self.child.wait()
+        self.out.close()
+        self.errors.close()
 
 
 class Program(Check):
@@ -221,11 +225,10 @@ class Program(Check):
 
     def faults(self):
         """What isn't as it is stored, a line each."""
-        errors = content(self.errors).decode("utf-8", "replace")
-        ended = ENDED.search(errors)
+        ended = ENDED.search(self.told)
         if not ended:
-            return [f"{self.name}: no answer:", *errors.splitlines()[-LINES:]]
-        faults = difference(stored(self.name, "stdout"), content(self.out))
+            return [f"{self.name}: no answer:", *self.told.splitlines()[-LINES:]]
+        faults = difference(stored(self.name, "stdout"), self.written)
         wanted = int(stored(self.name, "status") or 0)
         if int(ended[1]) != wanted:
             faults.append(f"ended with status {ended[1]}, and has to with {wanted}")
@@ -245,11 +248,13 @@ class ToolTests(Check):
     def faults(self):
         if self.child.returncode == 0:
             return []
-        told = (content(self.errors) + content(self.out)).decode("utf-8", "replace")
-        return [f"{self.name}: failed:", *told.splitlines()[-LINES:]]
+        return [f"{self.name}: failed:", *self.told.splitlines()[-LINES:], *self.lines()[-LINES:]]
 
     def praise(self):
-        return content(self.out).decode("utf-8", "replace").splitlines()[-1]
+        return self.lines()[-1]
+
+    def lines(self):
+        return self.written.decode("utf-8", "replace").splitlines()
 
 
 def python():
@@ -260,25 +265,34 @@ def python():
 
 
 def content(file):
-    """All bytes of a temporary file."""
-    file.seek(0)
-    return file.read()
+    """All bytes of a temporary file, which is closed."""
+    with file:
+        file.seek(0)
+        return file.read()
 
 
 def difference(wanted, written):
-    """The first line in which two outputs differ, if one does."""
+    """The first line in which two outputs differ, if one does, from a little before the place."""
     if wanted == written:
         return []
-    theirs, ours = wanted.split(b"\n"), written.split(b"\n")
-    place = next((n for n, (a, b) in enumerate(zip(theirs, ours)) if a != b), min(len(theirs), len(ours)))
-    here = [shown(lines[place]) if place < len(lines) else "no line" for lines in (theirs, ours)]
-    return [f"line {place + 1} of its stdout is {here[0]}", f"line {place + 1} that it wrote is {here[1]}"]
+    lines = [output.split(b"\n") for output in (wanted, written)]
+    row = first_difference(*lines)
+    theirs, ours = (each[row] if row < len(each) else None for each in lines)
+    place = max(first_difference(theirs or b"", ours or b"") - BEFORE, 0)
+    return [f"line {row + 1} of its stdout: {shown(theirs, place)}", f"line {row + 1} that it wrote: {shown(ours, place)}"]
 
 
-def shown(line):
-    """A line as it is told, cut where it is long."""
-    text = line.decode("utf-8", "replace")
-    return repr(text if len(text) <= WIDTH else text[:WIDTH] + "...")
+def first_difference(one, other):
+    """The place of the first difference of two rows, which is the end of the shorter one where that begins the other."""
+    return next((n for n, (a, b) in enumerate(zip(one, other)) if a != b), min(len(one), len(other)))
+
+
+def shown(line, place):
+    """A line as it is told, from a place on, and cut where it is long."""
+    if line is None:
+        return "no such line"
+    cut = line[place:place + WIDTH].decode("utf-8", "replace")
+    return "..." * (place > 0) + repr(cut) + "..." * (len(line) > place + WIDTH)
 
 
 if __name__ == "__main__":
