@@ -15,7 +15,8 @@ status is 0 where none failed, else 1. It needs the kit's `rt`, and leaves no fi
 
 `rt try` by itself optimizes nothing and checks each access of memory, and a program may then run for more than six minutes. So
 it is called in a folder of links to the kit, where clang is called with other words: the program is optimized, and its
-accesses of memory aren't checked. Overflows, indices and the like still are. --checked calls `rt try` as it is.
+accesses of memory aren't checked. Overflows, indices and the like still are. --checked calls `rt try` as it is, which also
+tells the place at which a program stopped.
 """
 
 import argparse
@@ -61,7 +62,7 @@ def main():
     parser = argparse.ArgumentParser(prog="quick", description=__doc__, formatter_class=argparse.RawDescriptionHelpFormatter)
     parser.add_argument("names", metavar="NAME", nargs="*", help="a program; where left out, all and the tests of the tools")
     parser.add_argument("--jobs", metavar="N", type=int, default=processors(), help="how many run at a time (here %(default)s)")
-    parser.add_argument("--checked", action="store_true", help="check each access of memory too, which takes much longer")
+    parser.add_argument("--checked", action="store_true", help="call rt try as it is, which takes much longer")
     words = parser.parse_args()
     signal.signal(signal.SIGTERM, lambda number, _: sys.exit(128 + number))
     names = program_names()
