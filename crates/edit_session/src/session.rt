@@ -105,6 +105,8 @@ impl Session {
         let reversal = self.layouts.change(alloc, edit)?;
         match self.layouts.relay(alloc, steps) {
             Ok(()) => {
+                // Dropped by a call, so that the proof doesn't go through all parts.
+                drop(reversal);
                 let made = self.layouts.seal();
                 self.drop_in_time(made);
                 Ok(())

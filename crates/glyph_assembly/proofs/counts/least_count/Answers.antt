@@ -14,6 +14,31 @@ first_is c = by (nat_eq c.args.sums.now.fixed_count 0) refl c.from-first.ensures
     by true e is = inl (eqb-true _ _ e, is)
     by false e is = inr (omega (arith, eqb-false _ _ e), is)
 
+pub overflow_mul-gain : goal.overflow_mul-gain
+overflow_mul-gain c =
+    let p : c.args.sums.now.overlap * c.args.sums.now.extender_count ≤ 2 ^ 32 * 16 = mul-le-mul c.requires.small.overlap c.requires.small.extender_count in
+    omega arith
+
+pub overflow_mul-missing : goal.overflow_mul-missing
+overflow_mul-missing c =
+    let p : c.args.sums.now.overlap * c.args.sums.now.fixed_count ≤ 2 ^ 32 * 16 = mul-le-mul c.requires.small.overlap c.requires.small.fixed_count in
+    omega arith
+
+pub overflow_cast-missing : goal.overflow_cast-missing
+overflow_cast-missing c =
+    let p : c.args.sums.now.overlap * c.args.sums.now.fixed_count ≤ 2 ^ 32 * 16 = mul-le-mul c.requires.small.overlap c.requires.small.fixed_count in
+    omega (arith, ints)
+
+pub overflow_add-missing : goal.overflow_add-missing
+overflow_add-missing c =
+    let p : c.args.sums.now.overlap * c.args.sums.now.fixed_count ≤ 2 ^ 32 * 16 = mul-le-mul c.requires.small.overlap c.requires.small.fixed_count in
+    omega (arith, ints)
+
+pub overflow_sub-missing : goal.overflow_sub-missing
+overflow_sub-missing c =
+    let p : c.args.sums.now.overlap * c.args.sums.now.fixed_count ≤ 2 ^ 32 * 16 = mul-le-mul c.requires.small.overlap c.requires.small.fixed_count in
+    omega (arith, ints)
+
 pub returns-then-missing-le0-clause-least : goal.returns-then-missing-le0-clause-least
 returns-then-missing-le0-clause-least c =
     let i = first_is (goal.at.returns-then-missing-le0-clause-least c).After-from-first in

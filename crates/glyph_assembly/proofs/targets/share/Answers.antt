@@ -1,7 +1,8 @@
-use Rattle.std.proofs.Common.{◌≡◌, ◌∙◌, ap, sym, subst, lit<, lit≤, to_z, of_z, w64, ◌*ℤ◌, pos, ◌<ℤ◌, ◌*◌, ◌^◌}
+use Rattle.std.proofs.Common.{◌≡◌, ◌∙◌, ap, sym, subst, lit<, lit≤, to_z, of_z, w64, ◌*ℤ◌, pos, ◌<ℤ◌, ◌*◌, ◌^◌, arith}
+use Rattle.std.proofs.lemmas.Int.{to_z-of_z}
 use Rattle.std.specs.Int.{w128}
 use Rattle.fixed_units.specs.Numbers.{IsWithin, rounded}
-use Rattle.fixed_units.proofs.Within.{product_in, rounded_in, widened}
+use Rattle.fixed_units.proofs.Within.{product_in, rounded_in, widened, fits_i64}
 use Rattle.font_metrics.proofs.Scaling.{back64, back128}
 use Rattle.glyph_assembly.proofs.targets.share.Goals as goal
 use Rattle.glyph_assembly.proofs.targets.share.Goals.{After-from-2}
@@ -19,6 +20,13 @@ den_is c =
 
 within : (c : After-from-2) → IsWithin (13 * 2 ^ 30 * 2 ^ 28) (rounded (c.args.part *ℤ c.args.size) c.args.total)
 within c = rounded_in c.args.total c.requires.total (product_in c.requires.part_in c.requires.size_in)
+
+pub overflow_mul-part : goal.overflow_mul-part
+overflow_mul-part c =
+    let f = fits_i64 c.requires.part_in (lit< tt) in
+    let g = fits_i64 c.requires.size_in (lit< tt) in
+    let h = fits_i64 (product_in c.requires.part_in c.requires.size_in) (lit< tt) in
+    grind (arith, to_z-of_z)
 
 pub round-requires-clause-positive : goal.round-requires-clause-positive
 round-requires-clause-positive c =
