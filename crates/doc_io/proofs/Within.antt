@@ -1,9 +1,9 @@
 -- How much of a file a reader has taken.
-use Rattle.std.proofs.Common.{◌≡◌, ℕ, ◌+◌, ◌≤◌, List, ◌++◌, length, drop, ap, refl, sym, ◌∙◌, arith, length-append, Result, Option, Some, None, IfSome, IsSome, inl}
+use Rattle.std.proofs.Common.{◌≡◌, ℕ, ◌+◌, ◌<◌, ◌≤◌, List, ◌++◌, length, drop, ap, refl, sym, ◌∙◌, arith, length-append, Result, Option, Some, None, IfSome, IsSome, inl}
 use Rattle.std.proofs.Math.Seq.{drop-append_seam}
 use Rattle.std.specs.Io.KnownBytes.{Consumes}
 use Rattle.doc_io.specs.Causes.{Files, InputsTold}
-use Rattle.doc_io.specs.Whole.{ConsumesAtMost, IsWithoutFront, ReadsWithin}
+use Rattle.doc_io.specs.Whole.{ConsumesAtMost, ConsumesSome, IsWithoutFront, ReadsSome, ReadsWithin}
 use Rattle.doc_io.specs.declared.whole.ReadRefusal.{ReadRefusal}
 use Rattle.doc_io.proofs.Known.{consumes_both}
 
@@ -11,6 +11,12 @@ use Rattle.doc_io.proofs.Known.{consumes_both}
 pub within_both : (a b c : Option (List ℕ)) (xs ys : List ℕ) (most : ℕ) → Consumes a b xs →
     Consumes b c ys → length xs + length ys ≤ most → ConsumesAtMost most a c
 within_both a b c xs ys most h k short = (xs ++ ys, omega (arith, length-append xs ys), consumes_both a b c xs ys h k)
+
+-- one read more that gave something
+pub some_both : (a b c : Option (List ℕ)) (xs ys : List ℕ) (most : ℕ) → Consumes a b xs →
+    Consumes b c ys → 0 < length ys → length xs + length ys ≤ most → ConsumesSome most a c
+some_both a b c xs ys most h k some short =
+    (xs ++ ys, omega (arith, length-append xs ys, some), omega (arith, length-append xs ys, short), consumes_both a b c xs ys h k)
 
 -- where the whole file was left at first, a front of the file is taken
 without_front : (whole : List ℕ) (rest rest' : Option (List ℕ)) (most : ℕ) → rest ≡ Some whole →
@@ -37,3 +43,22 @@ reads_within before mid after name most result h c = by before.files h
         ReadsWithin most (record before { files = files }) after name result
     by None h = tt
     by (Some f) h = inl (of_file (f name) mid.rest after.rest most h.0 h.1 c)
+
+some_of_file : (file rest rest' : Option (List ℕ)) (most : ℕ) → rest ≡ file → IsSome file → ConsumesSome most rest rest' →
+    (taken left : List ℕ) × (file ≡ Some (taken ++ left)) × (0 < length taken) × (length taken ≤ most) × (rest' ≡ Some left)
+some_of_file None rest rest' most e s c = absurd (cc)
+some_of_file (Some bytes) None rest' most e s c = absurd (cc)
+some_of_file (Some bytes) (Some a) None most e s c = absurd c.3
+some_of_file (Some bytes) (Some a) (Some b) most e s c =
+    (c.0, b, sym e ∙ ap Some c.3, c.1, c.2, refl)
+
+-- a reader of a selected file that wants memory has taken some of it
+pub reads_some : (before mid after : InputsTold) (name : List ℕ) (most : ℕ) →
+    IfSome before.files (λ f. IsSome (f name) × (mid.rest ≡ f name)) → ConsumesSome most mid.rest after.rest →
+    ReadsSome most before after name
+reads_some before mid after name most h c = by before.files h
+  where
+    by : (files : Option Files) → IfSome files (λ f. IsSome (f name) × (mid.rest ≡ f name)) →
+        ReadsSome most (record before { files = files }) after name
+    by None h = tt
+    by (Some f) h = some_of_file (f name) mid.rest after.rest most h.1 h.0 c

@@ -1,5 +1,5 @@
 -- What reading a whole file, and writing a whole piece, gives.
-use Rattle.std.specs.Prelude.{◌≡◌, ℕ, ◌<◌, ◌≤◌, ◌⊎◌, List, [], length, take, drop, Result, Option, Some, None, IfSome, IfOk, OnOk, OnErr, IsOk, IsSome, IsErr, IsErrOf}
+use Rattle.std.specs.Prelude.{◌≡◌, ℕ, ◌<◌, ◌≤◌, ◌⊎◌, List, [], ◌++◌, length, take, drop, Result, Option, Some, None, IfSome, IfOk, OnOk, OnErr, IsOk, IsSome, IsErr, IsErrOf}
 use Rattle.std.specs.Io.KnownBytes.{Appends, Consumes, IsAtEnd}
 use Rattle.doc_io.specs.Causes.{InputsTold, SinkTold, Rose}
 use Rattle.doc_io.specs.declared.whole.ReadRefusal.{ReadRefusal}
@@ -37,9 +37,18 @@ ReadsWithin most before after name result = IfSome before.files (λ f.
     ((bytes : List ℕ) × (f name ≡ Some bytes) × IsWithoutFront most bytes after.rest)
     ⊎ (IsErrOf result ReadFault × (after.rest ≡ Some [])))
 
+-- memory was refused for bytes that were read: some of the file were, and at most so many
+abbrev pub ReadsSome : ℕ → InputsTold → InputsTold → List ℕ → Type 0
+ReadsSome most before after name = IfSome before.files (λ f. (taken left : List ℕ) ×
+    (f name ≡ Some (taken ++ left)) × (0 < length taken) × (length taken ≤ most) × (after.rest ≡ Some left))
+
 -- known bytes lose a front of at most so many
 abbrev pub ConsumesAtMost : ℕ → Option (List ℕ) → Option (List ℕ) → Type 0
 ConsumesAtMost most old new = (taken : List ℕ) × (length taken ≤ most) × Consumes old new taken
+
+-- known bytes lose a front of some, and of at most so many
+abbrev pub ConsumesSome : ℕ → Option (List ℕ) → Option (List ℕ) → Type 0
+ConsumesSome most old new = (taken : List ℕ) × (0 < length taken) × (length taken ≤ most) × Consumes old new taken
 
 -- all that was left of the selected file, or why not
 pub record ReadsRest (before after : InputsTold) (limit : ℕ)

@@ -1,5 +1,5 @@
-ghost use Rattle.std.specs.Prelude.{◌≡◌, ◌+◌};
-ghost use Rattle.doc_io.specs.Whole.{ConsumesAtMost, ReadsAll, ReadsRest, ReadsWithin, WritesAll};
+ghost use Rattle.std.specs.Prelude.{◌≡◌, ◌+◌, IsErrOf};
+ghost use Rattle.doc_io.specs.Whole.{ConsumesAtMost, ConsumesSome, ReadsAll, ReadsRest, ReadsSome, ReadsWithin, WritesAll};
 ghost use Rattle.doc_io.specs.declared.whole.ReadRefusal.TheVariants.{ReadFault, Memory as NoMemory};
 
 use crate::{Failed, Inputs, Sink};
@@ -47,8 +47,9 @@ const BLOCK: usize = 16384;
 
 /// The whole file of a name, which may have at most `limit` bytes.
 ///
-/// It reads at most `limit + 1` bytes of the file, however long that is.
-#[tactic(auto, using(crate::proofs::Within::reads_within))]
+/// It reads at most `limit + 1` bytes of the file, however long that is. Memory can be wanted only for
+/// bytes that were read, and those are no more than the limit: a longer file is never told as want of it.
+#[tactic(auto, using(crate::proofs::Within::reads_within, crate::proofs::Within::reads_some))]
 pub fn read_all<I: Inputs>(
     alloc: Global,
     inputs: &mut I,
@@ -58,6 +59,7 @@ pub fn read_all<I: Inputs>(
     ensures reads { ReadsAll (I.told inputs.old) (I.told inputs.new) name.now limit result }
     ensures within { ReadsWithin (limit + 1) (I.told inputs.old) (I.told inputs.new)
         name.now result }
+    ensures memory { IsErrOf result NoMemory → ReadsSome limit (I.told inputs.old) (I.told inputs.new) name.now }
 {
     match inputs.select(name) {
         Ok(()) => read_rest(alloc, inputs, limit),
@@ -87,6 +89,7 @@ fn read_rest<I: Inputs>(
 ) -> Result<List<u8>, ReadRefusal>
     ensures reads { ReadsRest (I.told inputs.old) (I.told inputs.new) limit result }
     ensures within { ConsumesAtMost (limit + 1) (I.told inputs.old).rest (I.told inputs.new).rest }
+    ensures memory { IsErrOf result NoMemory → ConsumesSome limit (I.told inputs.old).rest (I.told inputs.new).rest }
 {
     let mut bytes = List::make(alloc);
     let mut block = [0u8; BLOCK];

@@ -1,3 +1,4 @@
+mod Keeping
 pub mod Nodes
 pub mod InFlow
 pub mod KnownFacts

@@ -2,7 +2,7 @@ ghost use Rattle.std.specs.Prelude.{◌≡◌, IfOk};
 ghost use Rattle.std.specs.List.{list_all};
 ghost use Rattle.embellished.specs.Facts.{is_space_like, core_below, core_of, but_space_like, first_core, only_core, facts_over};
 
-use crate::flow::{LaidOut, flow};
+use crate::flow::{LaidOut, flow, push_if};
 use crate::kinds::{is_blank, is_judged_by_all, is_led_by_its_base};
 use crate::operator::core_of_operator;
 use crate::validity::laid_as;
@@ -121,9 +121,7 @@ fn but_space_like(alloc: Global, flow: &[Facts]) -> Result<Vec<Facts>, Memory>
 {
     let mut others = Vec::with_capacity(alloc, flow.len())?;
     for kid in flow {
-        if !kid.space_like {
-            others.push(*kid)?;
-        }
+        push_if(&mut others, !kid.space_like, *kid)?;
     }
     Ok(others)
 }

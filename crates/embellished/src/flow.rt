@@ -1,4 +1,4 @@
-ghost use Rattle.std.specs.Prelude.{◌≡◌, IfOk};
+ghost use Rattle.std.specs.Prelude.{◌≡◌, if◌then◌else◌, [], ◌∷◌, ◌++◌, IfOk, OnOk};
 ghost use Rattle.math_tree.specs.declared.kind.Kind.{Kind};
 ghost use Rattle.embellished.specs.Flow.{may_show, shown_by, flow_by};
 
@@ -36,11 +36,20 @@ fn shown<T: LaidOut>(alloc: Global, laid: Kind, kids: &[T]) -> Result<Vec<T>, Me
 {
     let mut flow = Vec::with_capacity(alloc, kids.len())?;
     for kid in kids {
-        if may_show(laid, kid.laid()) {
-            flow.push(*kid)?;
-        }
+        push_if(&mut flow, may_show(laid, kid.laid()), *kid)?;
     }
     Ok(flow)
+}
+
+/// Adds an item at the end, where it is to be kept.
+pub fn push_if<T: Copy>(items: &mut Vec<T>, is_kept: bool, item: T) -> Result<(), Memory>
+    ensures { OnOk result
+        (items.new.items ≡ items.old.items ++ (if is_kept then item ∷ [] else [])) }
+{
+    if is_kept {
+        items.push(item)?;
+    }
+    Ok(())
 }
 
 /// Whether a child that may be in flow is: no annotation, and no mark of a valid `mmultiscripts`.

@@ -4,6 +4,7 @@ ghost use Rattle.embellished.specs.Kinds as kinds;
 ghost use Rattle.embellished.specs.Validity.{is_even, are_scripts, are_base_and_scripts, is_valid, laid_as};
 
 use crate::facts::Facts;
+use crate::flow::push_if;
 use crate::kinds::{is_annotation, is_prescripts_mark};
 use fixed_units::Memory;
 use math_tree::Kind;
@@ -29,9 +30,7 @@ pub fn but_annotations(alloc: Global, kids: &[Facts]) -> Result<Vec<Kind>, Memor
 {
     let mut others = Vec::with_capacity(alloc, kids.len())?;
     for kid in kids {
-        if !is_annotation(kid.laid) {
-            others.push(kid.laid)?;
-        }
+        push_if(&mut others, !is_annotation(kid.laid), kid.laid)?;
     }
     Ok(others)
 }

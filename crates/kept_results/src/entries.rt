@@ -125,18 +125,40 @@ pub fn keep(
     ensures kept { OnOk result (IsKeptNow memo.old memo.new context.now outcome asked) }
     ensures unchanged { OnErr result (memo.new ≡ memo.old) }
 {
-    let answer = copy_of(alloc, &outcome.answer)?;
-    let context = copy_of_context(alloc, context)?;
-    memo.entries.push(Entry {
-        context,
-        outcome,
-        ones: asked.ones,
-        one: asked.one,
-        twos: asked.twos,
-        regular: asked.regular,
-        origin: Origin::Made,
-    })?;
-    Ok(answer)
+    match copies_of(alloc, &outcome.answer, context) {
+        Ok((answer, context)) => {
+            let entry = Entry {
+                context,
+                outcome,
+                ones: asked.ones,
+                one: asked.one,
+                twos: asked.twos,
+                regular: asked.regular,
+                origin: Origin::Made,
+            };
+            match memo.entries.push(entry) {
+                Ok(()) => Ok(answer),
+                Err(memory) => {
+                    drop(answer);
+                    Err(memory)
+                }
+            }
+        }
+        Err(memory) => {
+            // Dropped by calls, so that the proof of this function doesn't go through all parts.
+            drop(outcome);
+            drop(asked);
+            Err(memory)
+        }
+    }
+}
+
+/// The same answer and the same context again.
+fn copies_of(alloc: Global, answer: &Answer, context: &Context) -> Result<(Answer, Context), Memory>
+    ensures { IfOk result (λ copied. (copied.0 ≡ answer.now) × (copied.1 ≡ context.now)) }
+{
+    let answer = copy_of(alloc, answer)?;
+    Ok((answer, copy_of_context(alloc, context)?))
 }
 
 /// The same answer again.

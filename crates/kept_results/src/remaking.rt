@@ -173,7 +173,7 @@ fn remake(
     };
     let mut was = List::make(alloc);
     was.insert(0, before, room);
-    entry.origin = Origin::Remade(was);
+    drop(mem::replace(&mut entry.origin, Origin::Remade(was)));
 }
 
 /// Makes an entry what it was before the present pass.
@@ -188,8 +188,8 @@ pub fn restore(entry: &mut Entry, before: Before)
     let Said { asked, answer } = said;
     put(&mut entry.ones, child, asked);
     put(&mut entry.one, child, answer);
-    entry.outcome = outcome;
-    entry.origin = Origin::Standing;
+    drop(mem::replace(&mut entry.outcome, outcome));
+    drop(mem::replace(&mut entry.origin, Origin::Standing));
 }
 
 /// Puts an item in place of the one at a place, where there is one.

@@ -1,6 +1,6 @@
 -- One question more of a wave: its answer, the child at its place, and what was made for it.
 use Rattle.std.proofs.Common.{◌≡◌, ◌∙◌, refl, sym, ap, ℕ, zero, suc, ◌+◌, ◌<◌, arith, Bool, true, false, ◌&&◌, List, [], ◌∷◌, ◌++◌, length, map, take, get_or, Option, Some, slice_get, slice_set}
-use Rattle.std.proofs.lemmas.List.{append-nil, length-set, map_more, take_more}
+use Rattle.std.proofs.lemmas.List.{append-nil, length-append, length-set, map_more, take_more}
 use Rattle.std.proofs.lemmas.List.Folds.{list_all-append}
 use Rattle.std.proofs.lemmas.List.Sums.{fold-append}
 use Rattle.std.proofs.lemmas.Grind.{flat_map-append}
@@ -24,6 +24,10 @@ use Rattle.layout_core.specs.Slots.{laid_for, with_laid}
 
 abbrev pub outcome_in : Laid → Outcome
 outcome_in all = (out-Laid all).outcome
+
+-- how many layouts are made for questions
+abbrev pub count_below : MetricsValue → Node → List Question → ℕ
+count_below m node asks = length (flat_map (visits_below m node) asks)
 
 -- a list of visits fits
 abbrev pub all_fit : MetricsValue → Node → List Question → Bool
@@ -86,6 +90,17 @@ module _ (m : MetricsValue) where
           ∙ ap (λ (q : Question). put (fold put start (take i asks)) q) is
           ∙ sym (fold-append put start (take i asks) (get_or asks i question ∷ []))
           ∙ ap (fold put start) (sym (take_more asks i question within))
+
+      pub count_more : (start before after : ℕ) → before ≡ start + count_below m node (take i asks) → after ≡ before + length (visits m kid question.context)
+          → after ≡ start + count_below m node (take (i + 1) asks)
+      count_more start before after b a =
+          let f = visits_below m node in
+          let last = get_or asks i question ∷ [] in
+          let own : length (flat_map f last) ≡ length (visits m kid question.context) =
+          ap length (append-nil (f (get_or asks i question))) ∙ ap (λ (q : Question). length (f q)) (sym is) ∙ ap length (visited question kid at) in
+          let both : count_below m node (take (i + 1) asks) ≡ count_below m node (take i asks) + length (flat_map f last) =
+          ap (count_below m node) (take_more asks i question within) ∙ ap length (flat_map-append f (take i asks) last) ∙ length-append (flat_map f (take i asks)) (flat_map f last) in
+          omega (arith, own, both, b, a)
 
       pub fit_more : all_fit m node (take i asks) ≡ true → in_range m kid question.context ≡ true → all_fit m node (take (i + 1) asks) ≡ true
       fit_more before here =

@@ -1,7 +1,7 @@
 -- An element over both waves: its layout, what is made for it, and the children that are kept.
-use Rattle.std.proofs.Common.{◌≡◌, ◌∙◌, refl, sym, ap, subst, ℕ, Bool, true, false, ◌&&◌, List, ◌++◌, length, map, replicate, All, Option, Some, slice_set}
+use Rattle.std.proofs.Common.{◌≡◌, ◌∙◌, refl, sym, ap, subst, ℕ, ◌+◌, arith, Bool, true, false, ◌&&◌, List, ◌++◌, length, map, replicate, All, Option, Some, slice_set}
 use Rattle.std.proofs.lemmas.Grind.{flat_map-append}
-use Rattle.std.proofs.lemmas.List.{length-map}
+use Rattle.std.proofs.lemmas.List.{length-append, length-map}
 use Rattle.std.proofs.lemmas.List.Elements.{All-append}
 use Rattle.std.proofs.lemmas.List.Folds.{list_all-append}
 use Rattle.std.proofs.lemmas.List.Sums.{fold-append}
@@ -15,7 +15,7 @@ use Rattle.style_scope.specs.Sizes.{size_of}
 use Rattle.fixed_units.specs.Sums.{list_to}
 use Rattle.layout_model.specs.Fits.{AnswersAll, AreAnswers, IsStretch}
 use Rattle.layout_model.specs.Laws.{answer_of, laid_below, visits_below}
-use Rattle.layout_model.specs.Layout.{equation, in_range, laid, lay, lay_by, questions, visit_fits}
+use Rattle.layout_model.specs.Layout.{equation, in_range, laid, lay, lay_by, questions, visit_fits, visits}
 use Rattle.layout_model.specs.Questions.{IsBelow, first, second}
 use Rattle.layout_model.specs.Range.{is_font_size, outcome_fits}
 use Rattle.layout_model.specs.declared.context.Context.{Context}
@@ -26,12 +26,12 @@ use Rattle.layout_model.specs.declared.outcome.Answer.{Answer}
 use Rattle.layout_model.specs.declared.outcome.Outcome.{Outcome}
 use Rattle.layout_model.proofs.Asked.{IsQuestionStored, first_stored, second_stored}
 use Rattle.layout_model.proofs.Places.{first_below, second_below}
-use Rattle.layout_model.proofs.Trees.{laid_is, lay_is}
+use Rattle.layout_model.proofs.Trees.{laid_is, lay_is, visits_are}
 use Rattle.layout_core.specs.Slots.{filled, laid_for, with_laid}
 use Rattle.layout_core.proofs.Children.{as_many_nodes}
 use Rattle.layout_core.proofs.Fits.{range_is}
 use Rattle.layout_core.proofs.KeptLast.{kept_as_asked_last, none_kept, nothing}
-use Rattle.layout_core.proofs.Waves.{all_fit}
+use Rattle.layout_core.proofs.Waves.{all_fit, count_below}
 
 module _ (m : MetricsValue) (node shown : Node) (context : Context) (e : shown ≡ node) (ones : List Question) (o : ones ≡ first m (seen_of shown) context) where
   ones_are : ones ≡ first m (seen_of node) context
@@ -71,6 +71,16 @@ module _ (m : MetricsValue) (node shown : Node) (context : Context) (e : shown �
         ∙ ap (λ (asks : List Question). own_fits && all_fit m node asks) questions_are
         ∙ ap (λ (made : List _). own_fits && list_all (visit_fits m) made) (flat_map-append (visits_below m node) ones twos)
         ∙ ap (λ (b : Bool). own_fits && b) (list_all-append (visit_fits m) (flat_map (visits_below m node) ones) (flat_map (visits_below m node) twos))
+
+    -- its own layout is made, and those for both waves
+    pub visits_waves : length (visits m node context) ≡ 1 + count_below m node ones + count_below m node twos
+    visits_waves =
+        let f = visits_below m node in
+        let own = ap length (visits_are m node context) in
+        let asked = ap (count_below m node) questions_are in
+        let both : count_below m node (ones ++ twos) ≡ count_below m node ones + count_below m node twos =
+        ap length (flat_map-append f ones twos) ∙ length-append (flat_map f ones) (flat_map f twos) in
+        omega (arith, own, asked, both)
 
     pub laid_waves : (head : Head) (made : Outcome) (slots start : List (Option Laid)) (n : ℕ) → head ≡ (out-Node node).head → made ≡ lay m node context
         → start ≡ replicate n nothing → n ≡ length (seen_of node).kids → slots ≡ with_laid m node twos (with_laid m node ones start)

@@ -1,15 +1,18 @@
-ghost use Rattle.std.specs.Prelude.{◌≡◌, ◌≤◌, length, map, true, false, IfOk, OnOk, Err};
+ghost use Rattle.std.specs.Prelude.{◌≡◌, ◌+◌, ◌≤◌, ◌<◌, [], ◌∷◌, ◌++◌, length, map, slice_set, true, false, Some, IfOk, OnOk, Err};
 ghost use Rattle.std.specs.List.{All, flat_map, list_all};
 ghost use Rattle.fixed_units.specs.declared.refusal.LayRefusal.TheVariants.{Range};
 ghost use Rattle.math_tree.specs.Trees.{element_count};
+ghost use Rattle.math_tree.specs.declared.node.Node.TheViews.{out-Node};
 ghost use Rattle.embellished.specs.Known.{known_of};
 ghost use Rattle.embellished.specs.Seen.{seen_of};
 ghost use Rattle.layout_model.specs.Fits.{HasStyle, IsContext};
 ghost use Rattle.layout_model.specs.Laws.{answer_of, visits_below};
-ghost use Rattle.layout_model.specs.Layout.{in_range, is_tree_in_range, laid, laid_tree, visit_fits};
+ghost use Rattle.layout_model.specs.Layout.{in_range, is_tree_in_range, laid, laid_tree, visit_fits, visits};
 ghost use Rattle.layout_model.specs.Questions.{IsBelow};
+ghost use Rattle.layout_model.specs.declared.laid.Laid.TheViews.{out-Laid, roll-Laid};
 ghost use Rattle.layout_model.proofs.Asked.{IsQuestionStored};
-ghost use Rattle.layout_core.specs.Slots.{with_laid};
+ghost use Rattle.layout_core.specs.Made.{made_afresh};
+ghost use Rattle.layout_core.specs.Slots.{filled, with_laid};
 
 use crate::slots::{empty_slots, filled};
 use child_questions::{wave_one, wave_two};
@@ -17,16 +20,17 @@ use element_outcomes::finish;
 use embellished::{Known, NodeView, View, known_of};
 use fixed_units::{LayRefusal, List, Memory, Steps};
 use font_metrics::Metrics;
-use layout_model::{Answer, Context, Laid, Question, Stretch};
+use layout_model::{Answer, Context, Laid, Outcome, Question, Stretch};
 use math_tree::{Node, Tree};
 use op_dictionary::Form;
 use std::alloc::Global;
+use std::mem;
 use std::sync::ledger::Ledger;
 use style_scope::root_style;
 
 /// Lays out a tree, every element afresh. It is refused with `Range` exactly where a number of a
-/// layout that is made on the way can't be stored. `finish` ticks a step for each layout that is made;
-/// how many those are is no clause.
+/// layout that is made on the way can't be stored. Each layout that is made takes one step, and nothing
+/// else takes any.
 pub fn lay_fresh<L: Ledger>(
     alloc: Global,
     tree: &Tree,
@@ -34,6 +38,7 @@ pub fn lay_fresh<L: Ledger>(
     steps: &mut Steps<L>,
 ) -> Result<Laid, LayRefusal>
     ensures ok { IfOk result (λ all. all ≡ laid_tree metrics.now tree.now) }
+    ensures steps { OnOk result (steps.new ≡ steps.old + made_afresh metrics.now tree.now) }
     ensures fit { OnOk result (is_tree_in_range metrics.now tree.now ≡ true) }
     ensures range { result ≡ Err Range → is_tree_in_range metrics.now tree.now ≡ false }
 {
@@ -61,6 +66,7 @@ fn lay_element<L: Ledger>(
     requires few { element_count node.now ≤ 65_536 }
     requires context { IsContext context.now }
     ensures ok { IfOk result (λ all. all ≡ laid metrics.now node.now context.now) }
+    ensures steps { OnOk result (steps.new ≡ steps.old + length (visits metrics.now node.now context.now)) }
     ensures fit { OnOk result (in_range metrics.now node.now context.now ≡ true) }
     ensures range { result ≡ Err Range → in_range metrics.now node.now context.now ≡ false }
 {
@@ -71,11 +77,51 @@ fn lay_element<L: Ledger>(
     let twos = wave_two(alloc, &view, context, metrics, &one)?;
     let two = ask_all(alloc, node, known, &view, &twos, metrics, &mut slots, steps)?;
     let outcome = finish(alloc, &view, context, metrics, &one, &two, steps)?;
-    Ok(Laid {
-        head: node.head.copy(alloc)?,
-        outcome,
-        kids: filled(alloc, slots)?,
-    })
+    Ok(laid_over(alloc, node, outcome, slots)?)
+}
+
+/// An element that is laid out, over its children in flow at their places.
+fn laid_over(
+    alloc: Global,
+    node: &Node,
+    outcome: Outcome,
+    slots: Vec<Option<Laid>>,
+) -> Result<Laid, Memory>
+    ensures { IfOk result (λ all. all ≡ roll-Laid record {
+      head = (out-Node node.now).head;
+      outcome = outcome;
+      kids = filled slots.items;
+    }) }
+{
+    match filled(alloc, slots) {
+        Ok(kids) => with_head(alloc, node, outcome, kids),
+        Err(memory) => {
+            drop(outcome);
+            Err(memory)
+        }
+    }
+}
+
+/// The same over the children alone.
+fn with_head(alloc: Global, node: &Node, outcome: Outcome, kids: List<Laid>) -> Result<Laid, Memory>
+    ensures { IfOk result (λ all. all ≡ roll-Laid record {
+      head = (out-Node node.now).head;
+      outcome = outcome;
+      kids = kids;
+    }) }
+{
+    match node.head.copy(alloc) {
+        Ok(head) => Ok(Laid {
+            head,
+            outcome,
+            kids,
+        }),
+        Err(memory) => {
+            drop(outcome);
+            drop(kids);
+            Err(memory)
+        }
+    }
 }
 
 /// Lays out the children that an element asks, and gives their answers in order. Each is kept at its
@@ -99,6 +145,7 @@ fn ask_all<L: Ledger>(
     requires styles { All HasStyle asks.now }
     requires stretches { All IsQuestionStored asks.now }
     ensures ok { IfOk result (λ answers. answers ≡ map (answer_of metrics.now node.now) asks.now) }
+    ensures steps { OnOk result (steps.new ≡ steps.old + length (flat_map (visits_below metrics.now node.now) asks.now)) }
     ensures slots { OnOk result (slots.new.items ≡ with_laid metrics.now node.now asks.now slots.old.items) }
     ensures fit { OnOk result (list_all (visit_fits metrics.now) (flat_map (visits_below metrics.now node.now) asks.now) ≡ true) }
     ensures range { result ≡ Err Range →
@@ -110,10 +157,41 @@ fn ask_all<L: Ledger>(
         let kid = view.node_at(index);
         let below = &known.below.as_slice()[view.place(index)];
         let laid = lay_element(alloc, kid, below, &asked.context, metrics, steps)?;
-        answers.push(copy_of(alloc, &laid.outcome.answer)?)?;
-        slots[index] = Some(laid);
+        take_in(alloc, &mut answers, slots, index, laid)?;
     }
     Ok(answers)
+}
+
+/// Takes in the layout of a child: its answer, and itself at its place.
+fn take_in(
+    alloc: Global,
+    answers: &mut List<Answer>,
+    slots: &mut Vec<Option<Laid>>,
+    index: usize,
+    laid: Laid,
+) -> Result<(), Memory>
+    requires { index < length slots.old.items }
+    ensures answers { OnOk result (answers.new ≡ answers.old ++ (out-Laid laid).outcome.answer ∷ []) }
+    ensures slots { OnOk result (slots.new.items ≡ slice_set slots.old.items index (Some laid)) }
+{
+    match add_answer(alloc, answers, &laid.outcome.answer) {
+        Ok(()) => {
+            drop(mem::replace(&mut slots[index], Some(laid)));
+            Ok(())
+        }
+        Err(memory) => {
+            // Dropped by a call, here and elsewhere, so that the proof doesn't go through all parts.
+            drop(laid);
+            Err(memory)
+        }
+    }
+}
+
+/// Adds an answer again.
+fn add_answer(alloc: Global, answers: &mut List<Answer>, answer: &Answer) -> Result<(), Memory>
+    ensures { OnOk result (answers.new ≡ answers.old ++ answer.now ∷ []) }
+{
+    answers.push(copy_of(alloc, answer)?)
 }
 
 /// The same answer again.

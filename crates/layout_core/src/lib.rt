@@ -5,9 +5,9 @@
 //! each, with all that stands below it.
 //!
 //! - Models: MathML Core 3.
-//! - Proved: the tree that it gives is `laid_tree` of `layout_model`, exactly; it is refused with
-//!   `Range` only where a layout that is made on the way can't be stored, and gives a tree only where
-//!   all can.
+//! - Proved: the tree that it gives is `laid_tree` of `layout_model`, exactly, and it took one step for
+//!   each layout that was made for it (`specs/Made.antt`); it is refused with `Range` only where a layout
+//!   that is made on the way can't be stored, and gives a tree only where all can.
 //! - Knows nothing of: how an element of a kind asks, and by which equation it is laid out.
 //! - Change how a kind is laid out: `layout_model`, `child_questions` and `element_outcomes`.
 #![tactic(auto)]

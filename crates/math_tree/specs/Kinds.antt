@@ -1,5 +1,6 @@
 -- The kinds of elements, which their names decide (MathML Core 2.1 and 3).
 use Rattle.std.specs.Prelude.{ℕ, List, [], ◌∷◌, Bool, true, false, codes}
+use Rattle.std.specs.Borrow.{Bor}
 use Rattle.std.specs.List.{find}
 use Rattle.std.specs.Option.{option_map_or}
 use Rattle.std.specs.Str.{bytes_eq}
@@ -44,6 +45,10 @@ kinds =
 -- the kind that a name decides; names are compared exactly, and every other name is unknown
 unfoldable pub kind_of : List ℕ → Kind
 kind_of name = option_map_or (λ row. row.1) (find (λ row. bytes_eq row.0 name) kinds) Unknown
+
+-- the same in any rows, as a program lists them
+unfoldable pub kind_among : List (Bor (List ℕ) × Kind) → List ℕ → Kind
+kind_among rows name = option_map_or (λ row. row.1) (find (λ row. bytes_eq row.0.now name) rows) Unknown
 
 -- the elements that have a text and no children; all others may have children and no text
 abbrev pub is_text_kind : Kind → Bool

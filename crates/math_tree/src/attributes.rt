@@ -29,14 +29,21 @@ pub struct Attribute {
 }
 
 impl Attribute {
+    /// The attribute of that name and that value.
+    fn make(alloc: Global, name: &str, value: &str) -> Result<Attribute, Memory>
+        ensures { IfOk result (λ made. made ≡ record { name = name.now; value = value.now }) }
+    {
+        Ok(Attribute {
+            name: Txt::make(alloc, name)?,
+            value: Txt::make(alloc, value)?,
+        })
+    }
+
     /// The same attribute again.
     fn copy(&self, alloc: Global) -> Result<Attribute, Memory>
         ensures { IfOk result (λ copied. copied ≡ self.now) }
     {
-        Ok(Attribute {
-            name: self.name.copy(alloc)?,
-            value: self.value.copy(alloc)?,
-        })
+        Attribute::make(alloc, self.name.as_str(), self.value.as_str())
     }
 
     /// How its name stands to another in the order of names, which is that of their bytes.
@@ -87,10 +94,7 @@ impl Attributes {
     {
         let mut items = List::make(alloc);
         for (name, value) in members.iter() {
-            items.push(Attribute {
-                name: Txt::make(alloc, name)?,
-                value: Txt::make(alloc, text_or_empty(value))?,
-            })?;
+            items.push(Attribute::make(alloc, name, text_or_empty(value))?)?;
         }
         Ok(Attributes { items })
     }

@@ -7,5 +7,6 @@ pub mod Planning
 pub mod Reasons
 pub mod Sizes
 pub mod Spare
+pub mod Texts
 pub mod Undoing
 pub mod WaysBack

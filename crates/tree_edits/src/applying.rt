@@ -119,6 +119,6 @@ pub fn restore(tree: &mut Tree, taken: Taken)
         spare,
     } = taken;
     let mut root = tree.exchange(spare.into_root(), 2, 1, 4);
-    carry_out_at(&mut root, path.as_slice(), change);
-    tree.exchange(root, next_id, elements, bytes);
+    drop(carry_out_at(&mut root, path.as_slice(), change));
+    drop(tree.exchange(root, next_id, elements, bytes));
 }

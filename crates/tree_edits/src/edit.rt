@@ -1,5 +1,6 @@
-ghost use Rattle.std.specs.Prelude.{◌≡◌};
+ghost use Rattle.std.specs.Prelude.{◌≡◌, Some};
 ghost use Rattle.tree_edits.specs.Edits.{named};
+ghost use Rattle.tree_edits.specs.Texts.{text_of_refusal};
 
 use fixed_units::{Memory, Txt};
 use math_tree::{Node, NodeId};
@@ -71,7 +72,9 @@ pub enum EditRefusal {
 impl EditRefusal {
     /// The reason in words. A look-up of texts, which are then written at one place, takes a proof
     /// less than half as long as a message written in each arm.
-    fn words(self) -> &'static str {
+    fn text(self) -> &'static str
+        ensures { result.now ≡ text_of_refusal self }
+    {
         match self {
             EditRefusal::UnknownNode => "no element has the id",
             EditRefusal::NotText => "only a text element has a text",
@@ -90,8 +93,10 @@ impl EditRefusal {
 }
 
 impl fmt::Display for EditRefusal {
+    ghost output = { λ refusal. Some (text_of_refusal refusal) };
+
     fn fmt<W: fmt::Write>(&self, f: &mut fmt::Formatter<W>) -> fmt::Result {
-        f.write_str(self.words())
+        f.write_str(self.text())
     }
 }
 

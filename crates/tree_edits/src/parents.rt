@@ -1,7 +1,8 @@
 //! Which element stands right over which, as it was last noted.
-ghost use Rattle.std.specs.Prelude.{◌≡◌, ◌≤◌, ◌+◌, ◌<◌, [], length, true, IfSome};
+ghost use Rattle.std.specs.Prelude.{◌≡◌, ◌≤◌, ◌+◌, ◌<◌, [], length, true, IfOk, IfSome};
 ghost use Rattle.math_tree.specs.Forms.{most_levels};
-ghost use Rattle.tree_edits.specs.Paths.{Finds, LeadsTo};
+ghost use Rattle.math_tree.specs.Trees.{element_count};
+ghost use Rattle.tree_edits.specs.Paths.{Finds, LeadsTo, most_old_notes};
 
 use crate::path::{Path, path_to};
 use arrayvec::ArrayVec;
@@ -9,12 +10,18 @@ use fixed_units::Memory;
 use indexmap::IndexMap;
 use math_tree::{Node, NodeId, Tree};
 use std::alloc::Global;
+use std::marker::Model;
 
 /// So many notes are kept beside twice as many as a tree has elements.
 const SPARE_NOTES: usize = 512;
 
+/// Where there are more notes than this, whatever the tree, they are begun anew: the spare ones and twice
+/// as many as the largest tree has elements.
+const MOST_OLD_NOTES: usize = 131_584;
+
 /// By the ids of elements, the id of the element right over each, as it was last noted. This is a hint, and
-/// no answer rests on it: what is noted is looked up in the tree at each use.
+/// no answer rests on it: what is noted is looked up in the tree at each use. Contracts see how many notes
+/// there are.
 #[derive(Drop)]
 pub struct Parents {
     over: IndexMap<u32, u32>,
@@ -22,9 +29,23 @@ pub struct Parents {
     most: usize,
 }
 
+impl Model for Parents {
+    ghost use Rattle.std.specs.Prelude.{ℕ, ◌≤◌};
+    ghost use Rattle.indexmap.specs.IndexMap.{index_map_len};
+    ghost use Rattle.tree_edits.specs.Paths.{most_old_notes};
+
+    ghost Value = { ℕ };
+
+    ghost view = { λ parents. index_map_len parents.over };
+
+    ghost invariant = { λ parents. parents.most ≤ most_old_notes };
+}
+
 impl Parents {
     /// Those of a root and all below it.
-    pub fn make(alloc: Global, root: &Node) -> Result<Parents, Memory> {
+    pub fn make(alloc: Global, root: &Node) -> Result<Parents, Memory>
+        ensures few { IfOk result (λ notes. notes < element_count root.now) }
+    {
         let mut parents = Parents {
             over: IndexMap::new(alloc),
             most: 0,
@@ -36,7 +57,9 @@ impl Parents {
     /// Notes a part that was put below an element, with all below it. Notes of elements that are gone stay
     /// until there are some hundreds more than twice as many as the root had below it when they were begun;
     /// then all below the root, this part too, is noted anew.
-    pub fn note(&mut self, root: &Node, over: NodeId, part: &Node) -> Result<(), Memory> {
+    pub fn note(&mut self, root: &Node, over: NodeId, part: &Node) -> Result<(), Memory>
+        ensures few { self.new ≤ most_old_notes + element_count root.now + element_count part.now }
+    {
         if self.over.len() > self.most {
             self.note_all(root)
         } else {
@@ -57,7 +80,9 @@ impl Parents {
     }
 
     /// Drops what was noted, and notes all below a root.
-    fn note_all(&mut self, root: &Node) -> Result<(), Memory> {
+    fn note_all(&mut self, root: &Node) -> Result<(), Memory>
+        ensures few { self.new < element_count root.now }
+    {
         self.over.clear();
         self.most = 0;
         self.note_below(root)?;
@@ -65,12 +90,15 @@ impl Parents {
             .over
             .len()
             .saturating_mul(2)
-            .saturating_add(SPARE_NOTES);
+            .saturating_add(SPARE_NOTES)
+            .min(MOST_OLD_NOTES);
         Ok(())
     }
 
     /// Notes all below an element.
-    fn note_below(&mut self, element: &Node) -> Result<(), Memory> {
+    fn note_below(&mut self, element: &Node) -> Result<(), Memory>
+        ensures few { self.new < self.old + element_count element.now }
+    {
         for child in element.children.as_slice() {
             self.over.insert(child.head.id.0, element.head.id.0)?;
             self.note_below(child)?;

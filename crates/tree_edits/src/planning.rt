@@ -62,8 +62,13 @@ impl Plan {
         ensures planned { IfOk result (IsPlan tree.now edit) }
         ensures refused { IfErr result (IsReason tree.now edit) }
     {
-        let accepted = Accepted::make(alloc, tree, found, &edit)?;
-        Plan::of_accepted(alloc, tree, accepted, edit)
+        match Accepted::make(alloc, tree, found, &edit) {
+            Ok(accepted) => Plan::of_accepted(alloc, tree, accepted, edit),
+            Err(refusal) => {
+                drop(edit);
+                Err(refusal)
+            }
+        }
     }
 
     /// The plan of an edit that nothing is against.
@@ -164,8 +169,13 @@ impl Step {
         ensures { IfOk result (IsStep path change tree.now.root) }
     {
         let element = element_at(tree.root(), path.as_slice());
-        let back = WayBack::from(alloc, &change, element)?;
-        Ok(Step { path, change, back })
+        match WayBack::from(alloc, &change, element) {
+            Ok(back) => Ok(Step { path, change, back }),
+            Err(memory) => {
+                drop(change);
+                Err(memory)
+            }
+        }
     }
 }
 

@@ -1,11 +1,16 @@
 //! Reading a line of a script.
-ghost use Rattle.std.specs.Prelude.{◌≡◌, IfOk};
+ghost use Rattle.std.specs.Prelude.{◌≡◌, Option, option_map, IfOk};
+ghost use Rattle.std.specs.List.{list_any};
+ghost use Rattle.std.specs.Str.{bytes_eq};
 ghost use Rattle.serde_json.specs.View.{view};
 ghost use Rattle.tree_edits.specs.Commands.{command_in, command_of, command_under, command_by};
 ghost use Rattle.tree_edits.specs.Commands.{text_edit, attribute_edit, insert_edit, replace_edit};
-ghost use Rattle.tree_edits.specs.Commands.{op_of, op_in, is_key_of, has_only};
+ghost use Rattle.tree_edits.specs.Commands.{id_in, op_of, op_in, is_key_of, has_only};
 ghost use Rattle.tree_edits.specs.Applying.{IsProperEdit};
 ghost use Rattle.tree_edits.specs.Commands.{Gives, IsProperCommand};
+ghost use Rattle.tree_edits.specs.declared.command.Command.TheVariants.{Change};
+ghost use Rattle.tree_edits.specs.declared.edit.Edit.{Edit as EditValue};
+ghost use Rattle.tree_edits.specs.declared.edit.Edit.TheVariants.{Remove};
 
 use crate::keys::{element_in, id_in, index_in, text_at, value_in};
 use crate::{Command, CommandRefusal, Edit};
@@ -70,12 +75,20 @@ fn command_by(alloc: Global, op: Op, value: &Value) -> Result<Command, CommandRe
 {
     match op {
         Op::Showing => Ok(Command::Show),
-        Op::Texting => Ok(Command::Change(text_edit(alloc, value)?)),
-        Op::Marking => Ok(Command::Change(attribute_edit(alloc, value)?)),
-        Op::Inserting => Ok(Command::Change(insert_edit(alloc, value)?)),
-        Op::Removing => Ok(Command::Change(Edit::Remove(id_in(value)?))),
-        Op::Replacing => Ok(Command::Change(replace_edit(alloc, value)?)),
+        Op::Texting => change(text_edit(alloc, value)),
+        Op::Marking => change(attribute_edit(alloc, value)),
+        Op::Inserting => change(insert_edit(alloc, value)),
+        Op::Removing => change(remove_edit(value)),
+        Op::Replacing => change(replace_edit(alloc, value)),
     }
+}
+
+/// The change that an edit is, where there is one.
+fn change(edit: Result<Edit, CommandRefusal>) -> Result<Command, CommandRefusal>
+    ensures reads { (meant : Option EditValue) → Gives meant edit → Gives (option_map Change meant) result }
+    ensures proper { IfOk edit IsProperEdit → IfOk result IsProperCommand }
+{
+    Ok(Command::Change(edit?))
 }
 
 fn text_edit(alloc: Global, value: &Value) -> Result<Edit, CommandRefusal>
@@ -93,8 +106,13 @@ fn attribute_edit(alloc: Global, value: &Value) -> Result<Edit, CommandRefusal>
 {
     let id = id_in(value)?;
     let name = text_at(alloc, "name", value)?;
-    let set = value_in(alloc, value)?;
-    Ok(Edit::Attr(id, name, set))
+    match value_in(alloc, value) {
+        Ok(set) => Ok(Edit::Attr(id, name, set)),
+        Err(refusal) => {
+            drop(name);
+            Err(refusal)
+        }
+    }
 }
 
 fn insert_edit(alloc: Global, value: &Value) -> Result<Edit, CommandRefusal>
@@ -105,6 +123,13 @@ fn insert_edit(alloc: Global, value: &Value) -> Result<Edit, CommandRefusal>
     let index = index_in(value)?;
     let element = element_in(alloc, value)?;
     Ok(Edit::Insert(id, index, element))
+}
+
+fn remove_edit(value: &Value) -> Result<Edit, CommandRefusal>
+    ensures reads { Gives (option_map Remove (id_in (view value.now))) result }
+    ensures proper { IfOk result IsProperEdit }
+{
+    Ok(Edit::Remove(id_in(value)?))
 }
 
 fn replace_edit(alloc: Global, value: &Value) -> Result<Edit, CommandRefusal>
@@ -155,23 +180,23 @@ fn is_key_of(op: Op, key: &str) -> bool
     ensures { result ≡ is_key_of op key.now }
 {
     match op {
-        Op::Showing => key == "op",
-        Op::Texting => matches!(key, "op" | "node" | "text"),
-        Op::Marking => is_attribute_key(key),
-        Op::Inserting => is_insert_key(key),
-        Op::Removing => matches!(key, "op" | "node"),
-        Op::Replacing => matches!(key, "op" | "node" | "element"),
+        Op::Showing => is_one_of(key, &["op"]),
+        Op::Texting => is_one_of(key, &["op", "node", "text"]),
+        Op::Marking => is_one_of(key, &["op", "node", "name", "value"]),
+        Op::Inserting => is_one_of(key, &["op", "node", "index", "element"]),
+        Op::Removing => is_one_of(key, &["op", "node"]),
+        Op::Replacing => is_one_of(key, &["op", "node", "element"]),
     }
 }
 
-fn is_attribute_key(key: &str) -> bool
-    ensures { result ≡ is_key_of Op.Marking key.now }
+/// Whether a word is one of these.
+fn is_one_of(word: &str, known: &[&str]) -> bool
+    ensures { result ≡ list_any (λ k. bytes_eq k.now word.now) known.now }
 {
-    matches!(key, "op" | "node" | "name" | "value")
-}
-
-fn is_insert_key(key: &str) -> bool
-    ensures { result ≡ is_key_of Op.Inserting key.now }
-{
-    matches!(key, "op" | "node" | "index" | "element")
+    for one in known {
+        if *one == word {
+            return true;
+        }
+    }
+    false
 }

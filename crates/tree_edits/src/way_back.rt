@@ -37,7 +37,13 @@ impl WayBack {
             Change::SetText(_) => Ok(WayBack::Text),
             Change::SetValue(name, _, _) => {
                 let room = Room::make(alloc, element.head.attributes.as_slice().len() + 2)?;
-                Ok(WayBack::Value(name.copy(alloc)?, room))
+                match name.copy(alloc) {
+                    Ok(name) => Ok(WayBack::Value(name, room)),
+                    Err(memory) => {
+                        drop(room);
+                        Err(memory)
+                    }
+                }
             }
             Change::PutChild(index, _, _) => Ok(WayBack::Take(*index)),
             Change::TakeChild(index) => {

@@ -1,4 +1,4 @@
-use Rattle.std.proofs.Common.{rules, ◌∙◌, refl, sym, ap, subst, ◌<◌, arith, List, [], ◌∷◌, ◌++◌, length, map, Err}
+use Rattle.std.proofs.Common.{rules, ◌∙◌, refl, sym, ap, subst, ◌<◌, arith, length, map, take, Err}
 use Rattle.std.proofs.lemmas.List.{length-map, length-replicate}
 use Rattle.math_tree.specs.declared.node.Node.{Node}
 use Rattle.math_tree.specs.declared.node.Node.TheViews.{out-Node, size-Node}
@@ -9,18 +9,16 @@ use Rattle.embellished.specs.declared.known.Known.TheViews.{out-Known}
 use Rattle.embellished.proofs.KnownFacts.{is_known}
 use Rattle.layout_model.specs.Fits.{AreAnswers, HasStyle}
 use Rattle.layout_model.specs.Laws.{answer_of}
+use Rattle.layout_model.specs.Questions.{IsBelow}
 use Rattle.layout_model.specs.Layout.{lay}
 use Rattle.layout_model.specs.Range.{is_font_size, outcome_fits}
-use Rattle.layout_model.specs.declared.laid.Laid.{Laid}
-use Rattle.layout_model.specs.declared.laid.Laid.TheViews.{roll-Laid}
 use Rattle.layout_core.specs.Slots.{with_laid}
 use Rattle.style_scope.specs.Sizes.{size_of}
-use Rattle.layout_model.specs.declared.outcome.Answer.{Answer}
 use Rattle.layout_model.proofs.Asked.{IsQuestionStored}
 use Rattle.layout_core.proofs.Children.{child_of, few_below, few_children, in_flow, item_of, known_at, known_below, near, smaller}
 use Rattle.layout_core.proofs.Fits.{answers_are, range_is}
-use Rattle.layout_core.proofs.Waves.{all_fit, as_many_places, broken, fit_more, kept_more, kept_none, told_more}
-use Rattle.layout_core.proofs.Whole.{and_true, answers_all, fits_true, first_false, laid_waves, lay_waves, ones_below, ones_false, ones_stored, outcome_false, range_waves, size_false, twos_below, twos_false, twos_stored}
+use Rattle.layout_core.proofs.Waves.{all_fit, as_many_places, broken, count_more, fit_more, kept_more, kept_none, told_more}
+use Rattle.layout_core.proofs.Whole.{and_true, answers_all, fits_true, first_false, laid_waves, lay_waves, ones_below, ones_false, ones_stored, outcome_false, range_waves, size_false, twos_below, twos_false, twos_stored, visits_waves}
 use Rattle.layout_core.proofs.fresh.+lay.Goals as goal
 
 -- ---- one question after another
@@ -28,6 +26,7 @@ use Rattle.layout_core.proofs.fresh.+lay.Goals as goal
 pub ask_all-loop-asked-init : goal.ask_all-loop-asked-init
 ask_all-loop-asked-init g t c = record {
   told = c.in_ok-answers.ensures {u = tt};
+  count = omega arith;
   kept = sym (kept_none c.args.metrics.now c.args.node.now c.args.slots.now.items);
   fit = refl;
 }
@@ -61,6 +60,15 @@ ask_all-lay_element-requires g t c κs within =
     let stretch = item_of IsQuestionStored _ _ c.loop-asked.asked-index c.asked-item.result c.requires.stretches items c.loop-asked-test.true c.asked-item.is in
     (omega arith, (search rules, (known, (omega (arith, few, c.requires.few), record { style = style; stretch = stretch }))))
 
+pub ask_all-take_in-requires : goal.ask_all-take_in-requires
+ask_all-take_in-requires g t c =
+    let m = c.args.metrics.now in
+    let node = c.args.node.now in
+    let asks = take c.loop-asked.asked-index c.as_slice-asked-items.result.now in
+    let below : IsBelow (length (seen_of node).kids) c.asked-item.result =
+    item_of (IsBelow (length (seen_of node).kids)) _ _ c.loop-asked.asked-index c.asked-item.result c.requires.within c.as_slice-asked-items.ensures c.loop-asked-test.true c.asked-item.is in
+    omega (arith, below, ap length c.loop-asked.invariant.kept, as_many_places m node asks c.args.slots.now.items, c.requires.places)
+
 pub ask_all-returns-in_err-laid-clause-range : goal.ask_all-returns-in_err-laid-clause-range
 ask_all-returns-in_err-laid-clause-range g t c = λ e.
     let node = c.args.node.now in
@@ -83,10 +91,11 @@ ask_all-loop-asked-preserved g t c =
     let q = c.asked-item.result in
     let kid = c.node_at-kid.result.now in
     let made = (c.in_ok-laid.ensures {u = tt}) in
-    let pushed = (c.in_ok-push.ensures {u = tt}).ok ∙ ap (λ (a : Answer). c.loop-asked.answers ++ a ∷ []) (c.in_ok-copy_of.ensures {u = tt}) in
+    let taken = (c.in_ok-take_in.ensures {u = tt}) in
     record {
-      told = told_more m node items i q kid c.loop-asked-test.true c.asked-item.is at c.loop-asked.answers c.push.new.self c.in_ok-laid.laid c.loop-asked.invariant.told made.ok pushed;
-      kept = kept_more m node items i q kid c.loop-asked-test.true c.asked-item.is at c.args.slots.now.items c.loop-asked.slots.items _ c.in_ok-laid.laid c.loop-asked.invariant.kept made.ok refl;
+      told = told_more m node items i q kid c.loop-asked-test.true c.asked-item.is at c.loop-asked.answers c.take_in.new.answers c.in_ok-laid.laid c.loop-asked.invariant.told made.ok taken.answers;
+      count = count_more m node items i q kid c.loop-asked-test.true c.asked-item.is at _ _ _ c.loop-asked.invariant.count made.steps;
+      kept = kept_more m node items i q kid c.loop-asked-test.true c.asked-item.is at c.args.slots.now.items c.loop-asked.slots.items _ c.in_ok-laid.laid c.loop-asked.invariant.kept made.ok taken.slots;
       fit = fit_more m node items i q kid c.loop-asked-test.true c.asked-item.is at c.loop-asked.invariant.fit made.fit;
     }
 
@@ -222,9 +231,19 @@ lay_element-returns-clause-ok g t c =
     let made = (c.in_ok-outcome.ensures {u = tt}).ok ∙ lay_waves m node _ c.args.context.now shown c.in_ok-ones.ones o c.in_ok-one.one one.ok c.in_ok-twos.twos w c.in_ok-two.two two.ok in
     let count = c.kids.ensures.count ∙ ap (λ (n : Node). length (seen_of n).kids) shown in
     let kept = two.slots ∙ ap (with_laid m node c.in_ok-twos.twos) one.slots in
-    ap (λ (kids : List Laid). roll-Laid record { head = c.in_ok-copy.field-0; outcome = c.in_ok-outcome.outcome; kids = kids }) (c.in_ok-filled.ensures {u = tt})
-    ∙ laid_waves m node _ c.args.context.now shown c.in_ok-ones.ones o c.in_ok-one.one one.ok c.in_ok-twos.twos w c.in_ok-copy.field-0 c.in_ok-outcome.outcome _
-    c.in_ok-slots.slots.items c.kids.result (c.in_ok-copy.ensures {u = tt}) made (c.in_ok-slots.ensures {u = tt}) count kept
+    (c.in_ok-laid_over.ensures {u = tt})
+    ∙ laid_waves m node _ c.args.context.now shown c.in_ok-ones.ones o c.in_ok-one.one one.ok c.in_ok-twos.twos w (out-Node node).head c.in_ok-outcome.outcome _
+    c.in_ok-slots.slots.items c.kids.result refl made (c.in_ok-slots.ensures {u = tt}) count kept
+
+pub lay_element-returns-clause-steps : goal.lay_element-returns-clause-steps
+lay_element-returns-clause-steps g t c =
+    let m = c.args.metrics.now in
+    let shown = c.in_ok-view.ensures {u = tt} in
+    let o = (c.in_ok-ones.ensures {u = tt}).ok in
+    let one = (c.in_ok-one.ensures {u = tt}) in
+    let two = (c.in_ok-two.ensures {u = tt}) in
+    let all = visits_waves m c.args.node.now _ c.args.context.now shown c.in_ok-ones.ones o c.in_ok-one.one one.ok c.in_ok-twos.twos (c.in_ok-twos.ensures {u = tt}).value in
+    omega (arith, all, one.steps, two.steps, c.finish.ensures.step)
 
 pub lay_element-returns-clause-fit : goal.lay_element-returns-clause-fit
 lay_element-returns-clause-fit g t c =

@@ -30,6 +30,26 @@ ending_at-requires-clause-end_in c =
     let w = widened (2 ^ 32) (max_in below above) (lit≤ tt) in
     grind (arith, to_z-of_z)
 
+pub overflow_sub-shifts : goal.overflow_sub-shifts
+overflow_sub-shifts c =
+    let f = fits_i64 c.pair_shifts-shifts.ensures.within.down (lit< tt) in
+    let g = fits_i64 (difference_in (natural_in 0) c.pair_shifts-shifts.ensures.within.down) (lit< tt) in
+    grind (arith, to_z-of_z)
+
+pub overflow_add-below : goal.overflow_add-below
+overflow_add-below c =
+    let f = fits_i64 c.sub_x-below.ensures.within (lit< tt) in
+    let g = fits_i64 c.requires.sub_fits.width (lit< tt) in
+    let h = fits_i64 (sum_in c.sub_x-below.ensures.within c.requires.sub_fits.width) (lit< tt) in
+    grind (arith, to_z-of_z)
+
+pub overflow_add-above : goal.overflow_add-above
+overflow_add-above c =
+    let f = fits_i64 c.sup_x-above.ensures.within (lit< tt) in
+    let g = fits_i64 c.requires.sup_fits.width (lit< tt) in
+    let h = fits_i64 (sum_in c.sup_x-above.ensures.within c.requires.sup_fits.width) (lit< tt) in
+    grind (arith, to_z-of_z)
+
 pub overflow_sub-result : goal.overflow_sub-result
 overflow_sub-result c =
     let f = fits_i64 c.pair_shifts-shifts.ensures.within.up (lit< tt) in

@@ -5,6 +5,20 @@ use Rattle.scripts.specs.Beside.{spot}
 use Rattle.scripts.specs.Limits.{spot_in_of, IsPlacedWithin}
 use Rattle.scripts.proofs.limits.spot_in.Goals as goal
 
+pub overflow_sub-result : goal.overflow_sub-result
+overflow_sub-result c =
+    let part : IsPlacedWithin (2 ^ 36) c.in-Some.part = subst (λ next. IfSome next (IsPlacedWithin (2 ^ 36))) c.in-Some.is c.requires.part_in in
+    let f = fits_i64 part.x (lit< tt) in
+    let h = fits_i64 (difference_in part.x c.requires.start_in) (lit< tt) in
+    grind (arith, to_z-of_z)
+
+pub overflow_sub-result-in-Some : goal.overflow_sub-result-in-Some
+overflow_sub-result-in-Some c =
+    let part : IsPlacedWithin (2 ^ 36) c.in-Some.part = subst (λ next. IfSome next (IsPlacedWithin (2 ^ 36))) c.in-Some.is c.requires.part_in in
+    let g = fits_i64 part.height (lit< tt) in
+    let i = fits_i64 (difference_in (natural_in 0) part.height) (lit< tt) in
+    grind (arith, to_z-of_z)
+
 pub returns-in-Some : goal.returns-in-Some
 unfolding spot_in_of
 returns-in-Some c =

@@ -5,6 +5,20 @@ use Rattle.fixed_units.proofs.Within.{natural_in, widened, sum_in, difference_in
 use Rattle.scripts.specs.Limits.{under_limit_of}
 use Rattle.scripts.proofs.limits.under_limit.Goals as goal
 
+pub overflow_sub-depth : goal.overflow_sub-depth
+overflow_sub-depth c =
+    let depth = c.distance-depth.ensures.within in
+    let f = fits_i64 depth (lit< tt) in
+    let g = fits_i64 (difference_in (natural_in 0) depth) (lit< tt) in
+    grind (arith, to_z-of_z)
+
+pub overflow_sub-result : goal.overflow_sub-result
+overflow_sub-result c =
+    let depth = c.distance-depth.ensures.within in
+    let f = fits_i64 depth (lit< tt) in
+    let g = fits_i64 (difference_in (natural_in 0) depth) (lit< tt) in
+    grind (arith, to_z-of_z)
+
 pub overflow_add-result : goal.overflow_add-result
 unfolding raised
 overflow_add-result c =

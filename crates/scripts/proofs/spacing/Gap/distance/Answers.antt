@@ -7,6 +7,51 @@ use Rattle.scripts.specs.LimitGaps.{distance_of, IsGapWithin}
 use Rattle.scripts.proofs.LimitBounds.{distance_in}
 use Rattle.scripts.proofs.spacing.Gap.distance.Goals as goal
 
+pub overflow_add-least : goal.overflow_add-least
+overflow_add-least c =
+    let gap : IsWithin (2 ^ 32) c.in-Limit.rise × IsWithin (2 ^ 32) c.in-Limit.least = subst (IsGapWithin (2 ^ 32)) c.in-Limit.is c.requires.gap_in in
+    let f = fits_i64 gap.1 (lit< tt) in
+    let g = fits_i64 (sum_in gap.1 c.requires.limit_in) (lit< tt) in
+    grind (arith, to_z-of_z)
+
+pub overflow_add-base_ink : goal.overflow_add-base_ink
+overflow_add-base_ink c =
+    let gap : IsWithin (2 ^ 32) c.in-Stack.shift × IsWithin (2 ^ 32) c.in-Stack.least = subst (IsGapWithin (2 ^ 32)) c.in-Stack.is c.requires.gap_in in
+    let f = fits_i64 gap.1 (lit< tt) in
+    let g = fits_i64 (sum_in c.requires.base_in gap.1) (lit< tt) in
+    grind (arith, to_z-of_z)
+
+pub overflow_add-base_ink-in-Stack : goal.overflow_add-base_ink-in-Stack
+overflow_add-base_ink-in-Stack c =
+    let gap : IsWithin (2 ^ 32) c.in-Stack.shift × IsWithin (2 ^ 32) c.in-Stack.least = subst (IsGapWithin (2 ^ 32)) c.in-Stack.is c.requires.gap_in in
+    let f = fits_i64 gap.1 (lit< tt) in
+    let g = fits_i64 (sum_in c.requires.base_in gap.1) (lit< tt) in
+    let h = fits_i64 (sum_in (sum_in c.requires.base_in gap.1) c.requires.limit_in) (lit< tt) in
+    grind (arith, to_z-of_z)
+
+pub overflow_add-result-in-Accent : goal.overflow_add-result-in-Accent
+overflow_add-result-in-Accent c =
+    let gap : IsWithin (2 ^ 32) c.in-Accent.height = subst (IsGapWithin (2 ^ 32)) c.in-Accent.is c.requires.gap_in in
+    let f = fits_i64 gap (lit< tt) in
+    let g = fits_i64 (max_in c.requires.base_in gap) (lit< tt) in
+    let h = fits_i64 (sum_in (max_in c.requires.base_in gap) c.requires.limit_in) (lit< tt) in
+    grind (arith, to_z-of_z)
+
+pub overflow_add-result-in-Bar : goal.overflow_add-result-in-Bar
+overflow_add-result-in-Bar c =
+    let gap : IsWithin (2 ^ 32) c.in-Bar.gap × IsWithin (2 ^ 32) c.in-Bar.extra = subst (IsGapWithin (2 ^ 32)) c.in-Bar.is c.requires.gap_in in
+    let f = fits_i64 gap.0 (lit< tt) in
+    let g = fits_i64 (sum_in c.requires.base_in gap.0) (lit< tt) in
+    grind (arith, to_z-of_z)
+
+pub overflow_add-result-in-Bar-2 : goal.overflow_add-result-in-Bar-2
+overflow_add-result-in-Bar-2 c =
+    let gap : IsWithin (2 ^ 32) c.in-Bar.gap × IsWithin (2 ^ 32) c.in-Bar.extra = subst (IsGapWithin (2 ^ 32)) c.in-Bar.is c.requires.gap_in in
+    let f = fits_i64 gap.0 (lit< tt) in
+    let g = fits_i64 (sum_in c.requires.base_in gap.0) (lit< tt) in
+    let h = fits_i64 (sum_in (sum_in c.requires.base_in gap.0) c.requires.limit_in) (lit< tt) in
+    grind (arith, to_z-of_z)
+
 pub overflow_add-result : goal.overflow_add-result
 overflow_add-result c =
     let gap : IsWithin (2 ^ 32) c.in-Limit.rise × IsWithin (2 ^ 32) c.in-Limit.least = subst (IsGapWithin (2 ^ 32)) c.in-Limit.is c.requires.gap_in in
