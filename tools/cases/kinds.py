@@ -15,11 +15,8 @@ class Kinds:
 
 # The programs are crates. A module for another crate's calls adds its own, as **MODULE.KINDS.
 PROGRAMS = {
-    "cases": Kinds({**answers.KINDS, **fonts.KINDS, **numbers.KINDS}),
-    "run_cases": Kinds({}, {name: runs.RUNS[name] for name in ("check", "layout", "run")}),
-    "edit_cases": Kinds(runs.FAILING, {name: runs.RUNS[name] for name in ("edit", "run")}),
+    "cases": Kinds({**answers.KINDS, **fonts.KINDS, **numbers.KINDS, **styles.KINDS}),
+    "run_cases": Kinds(runs.FAILING, runs.RUNS),
     "step_cases": Kinds(steps.KINDS),
-    "leaf_cases": Kinds({**styles.KINDS, **shapes.KINDS, **leaves.KINDS}),
-    "row_cases": Kinds({**rows.KINDS, **tables.KINDS}),
-    "equation_cases": Kinds(built.KINDS),
+    "box_cases": Kinds({**shapes.KINDS, **leaves.KINDS, **rows.KINDS, **tables.KINDS, **built.KINDS}),
 }

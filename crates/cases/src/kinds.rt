@@ -12,6 +12,7 @@ mod properties;
 mod resolve;
 mod round;
 mod shown;
+mod style;
 mod tree;
 mod word;
 
@@ -56,6 +57,7 @@ fn add_answer_of_elements(kind: &str, case: Case, words: &mut String) -> Result<
         "factsfile" => facts::answer_file(case, words),
         "properties" => by_lines::<OfProperties>(case, words),
         "shown" => shown::answer(case, words),
+        "style" => style::answer(case, words),
         "tree" => tree::answer(case, words),
         "treefile" => tree::answer_file(case, words),
         _ => Err(Fault::UnknownKind),

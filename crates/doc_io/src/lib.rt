@@ -18,8 +18,6 @@ mod memory_inputs; // files of a test
 mod memory_sink; // a sink of a test
 mod piece; // what is held back of a text
 mod short_text; // a part of a line
-#[cfg(test)]
-mod tests;
 mod traits; // Inputs, Sink
 mod whole; // read_all, write_all
 

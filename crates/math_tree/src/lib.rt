@@ -30,8 +30,6 @@ mod portion; // a whole tree, or an element
 mod print; // the canonical print
 mod read;
 mod refusal;
-#[cfg(test)]
-mod tests;
 mod tree;
 
 pub use attributes::{Attribute, Attributes};

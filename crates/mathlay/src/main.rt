@@ -7,13 +7,10 @@
 //!
 //! - Models: the words and the exit status of a POSIX program.
 //! - Proved: of the words that it is given, `exit_code` ends with the status of a run
-//!   (`specs/Exit.antt`). That it is given those of the environment is tested.
+//!   (`specs/Exit.antt`). That it is given those of the environment is tested (`tools/tests`).
 //! - Knows nothing of: what the words mean.
 //! - Change what is answered: `crates/commands`.
 #![tactic(auto)]
-
-#[cfg(test)]
-mod tests;
 
 ghost use Rattle.std.specs.Prelude.{◌≡◌, ◌≢◌, ◌<◌, None, IfOk, IfErr, map, string_bytes};
 ghost use Rattle.std.specs.Process.{exit_status};

@@ -1,7 +1,9 @@
+mod relay;
 mod steps;
 
 use case_format::{Answer, Case, Fault, Kinds};
-use case_layouts::add_relay;
+use relay::add_relay;
+use steps::add_steps;
 
 /// The kinds for layouts that are made and kept.
 pub struct OfSteps;
@@ -18,7 +20,7 @@ impl Kinds for OfSteps {
 fn add_answer(kind: &str, case: Case, words: &mut String) -> Result<(), Fault> {
     match kind {
         "relay" => add_relay(case, words),
-        "steps" => steps::add_steps(case, words),
+        "steps" => add_steps(case, words),
         _ => Err(Fault::UnknownKind),
     }
 }

@@ -1,8 +1,9 @@
 //! Lines of a script, carried out by the calls of a session.
 ghost use Rattle.memo_tree.specs.States.{IsIn, Sealed};
 
+use crate::counted::Outcome;
+use crate::same::is_same_tree;
 use case_format::Fault;
-use case_layouts::{Outcome, is_same_tree};
 use edit_session::{Session, SessionRefusal};
 use fixed_units::{LayRefusal, Steps};
 use font_metrics::Metrics;

@@ -6,12 +6,13 @@
 ghost use Rattle.std.specs.Prelude.{◌≡◌, ◌<◌, OnOk};
 ghost use Rattle.memo_tree.specs.States.{IsIn, Sealed};
 
+use crate::counted::{carry_out_counted, drop_as_session};
+use crate::edits::edit_and_back;
+use crate::given::tree_in;
+use crate::same::{is_fresh, is_same_tree, not_same};
 use crate::session::{carry_out, is_held, show, started};
+use crate::words::{add_judged, add_made, add_refusal, add_word};
 use case_format::{Case, Fault, Fields};
-use case_layouts::{
-    add_judged, add_made, add_refusal, add_word, carry_out_counted, drop_as_session, edit_and_back,
-    is_fresh, is_same_tree, not_same, tree_in,
-};
 use edit_session::Session;
 use fixed_units::Steps;
 use font_metrics::Metrics;

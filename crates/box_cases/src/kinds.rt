@@ -1,0 +1,78 @@
+mod asks;
+mod fraction;
+mod leaf;
+mod limits;
+mod multi;
+mod radical;
+mod row;
+mod script;
+mod shape;
+mod table;
+mod target;
+
+use crate::values::by_metrics;
+use asks::Asking;
+use case_format::{Answer, Case, Fault, Kinds};
+use fraction::OfFraction;
+use leaf::{OfOperator, OfSpace, OfToken};
+use limits::OfUnderOver;
+use multi::OfMulti;
+use radical::{OfRootWithIndex, OfSquareRoot};
+use script::{OfSub, OfSubSup, OfSup};
+use shape::{OfDisplayVariant, OfShape};
+use table::{OfCell, OfTableFinish};
+
+/// The kinds for what is laid out in one step.
+pub struct Boxes;
+
+impl Kinds for Boxes {
+    fn answer(&self, kind: &str, case: Case) -> Result<Answer, Fault> {
+        let mut words = String::new(case.alloc);
+        add_answer(kind, case, &mut words)?;
+        Ok(Answer::One(words))
+    }
+}
+
+/// Adds the words of the one answer to a case: here for shapes and leaves.
+fn add_answer(kind: &str, case: Case, words: &mut String) -> Result<(), Fault> {
+    match kind {
+        "display_variant" => by_metrics::<OfDisplayVariant>(case, words),
+        "operator" => by_metrics::<OfOperator>(case, words),
+        "shape" => by_metrics::<OfShape>(case, words),
+        "space" => by_metrics::<OfSpace>(case, words),
+        "target" => target::answer(case, words),
+        "token" => by_metrics::<OfToken>(case, words),
+        _ => add_answer_of_rows(kind, case, words),
+    }
+}
+
+/// The same for rows and tables, and for what rows and limits ask.
+fn add_answer_of_rows(kind: &str, case: Case, words: &mut String) -> Result<(), Fault> {
+    match kind {
+        "cell" => by_metrics::<OfCell>(case, words),
+        "columns" => table::answer_columns(case, words),
+        "limit_wave_one" => asks::answer_one(Asking::Limits, case, words),
+        "limit_wave_two" => asks::answer_two(Asking::Limits, case, words),
+        "row_finish" => row::answer(case, words),
+        "row_of_cells" => table::answer_row(case, words),
+        "row_wave_one" => asks::answer_one(Asking::Row, case, words),
+        "row_wave_two" => asks::answer_two(Asking::Row, case, words),
+        "table_finish" => by_metrics::<OfTableFinish>(case, words),
+        _ => add_answer_of_equations(kind, case, words),
+    }
+}
+
+/// The same for fractions, roots, scripts and limits.
+fn add_answer_of_equations(kind: &str, case: Case, words: &mut String) -> Result<(), Fault> {
+    match kind {
+        "fraction" => by_metrics::<OfFraction>(case, words),
+        "multi" => by_metrics::<OfMulti>(case, words),
+        "root_with_index" => by_metrics::<OfRootWithIndex>(case, words),
+        "square_root" => by_metrics::<OfSquareRoot>(case, words),
+        "sub" => by_metrics::<OfSub>(case, words),
+        "sub_sup" => by_metrics::<OfSubSup>(case, words),
+        "sup" => by_metrics::<OfSup>(case, words),
+        "under_over" => by_metrics::<OfUnderOver>(case, words),
+        _ => Err(Fault::UnknownKind),
+    }
+}

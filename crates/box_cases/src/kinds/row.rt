@@ -1,0 +1,55 @@
+//! `row_finish`: where the children of a row stand.
+ghost use Rattle.std.specs.Prelude.{◌≤◌, length, IfOk};
+ghost use Rattle.std.specs.List.{All};
+ghost use Rattle.row_stretch.specs.Equation.{IsKidStored};
+
+use crate::values::{add_numbers, items_in, stored, stored_box};
+use case_format::{Case, Fault, Fields, add_box};
+use fixed_units::List;
+use row_stretch::{Row, RowKid, row_finish};
+use serde_json::Value;
+use std::alloc::{AllocError, Global};
+
+pub fn answer(case: Case, words: &mut String) -> Result<(), Fault> {
+    let fields = Fields::of_value(case.value, &["kids", "spaces"])?;
+    let kids = kids_in(case.alloc, fields)?;
+    let spaces = fields.flag("spaces")?;
+    let row = row_finish(case.alloc, &kids, spaces)?;
+    add_row(&row, words)?;
+    Ok(())
+}
+
+/// The children of the key `kids`.
+fn kids_in(alloc: Global, fields: Fields) -> Result<List<RowKid>, Fault>
+    ensures few { IfOk result (λ kids. length kids ≤ 65_536) }
+    ensures stored { IfOk result (All IsKidStored) }
+{
+    let mut kids = List::make(alloc);
+    for item in items_in(fields, "kids")? {
+        kids.push(kid_of(item)?)?;
+    }
+    Ok(kids)
+}
+
+/// A child: its box, the spaces before and after it, and whether it is an embellished operator.
+fn kid_of(value: &Value) -> Result<RowKid, Fault>
+    ensures { IfOk result IsKidStored }
+{
+    let parts = value.as_array().ok_or(Fault::WrongType("kids"))?;
+    let [frame, before, after, embellished] = parts.as_slice() else {
+        return Err(Fault::WrongType("kids"));
+    };
+    Ok(RowKid {
+        frame: stored_box("kids", frame)?,
+        before: stored("kids", before)?,
+        after: stored("kids", after)?,
+        embellished: embellished.as_bool().ok_or(Fault::WrongType("kids"))?,
+    })
+}
+
+/// Adds the box and the offsets of a row.
+pub fn add_row(row: &Row, words: &mut String) -> Result<(), AllocError> {
+    add_box(&row.frame, words)?;
+    words.push_str("; ")?;
+    add_numbers(&row.offsets, words)
+}

@@ -1,0 +1,88 @@
+//! `shape`: what is made of a glyph to reach a target. `display_variant`: what a large operator is.
+
+use crate::values::{ByMetrics, add_mark, size_in};
+use case_format::{Fault, Fields, add_box};
+use font_metrics::{GlyphId, Metrics};
+use glyph_assembly::{Shaped, display_variant, shape};
+use op_dictionary::Axis;
+use std::alloc::{AllocError, Global};
+
+/// How far a target may lie from 0.
+const FAR: i64 = 1_099_511_627_776;
+
+pub struct OfShape;
+
+impl ByMetrics for OfShape {
+    fn keys() -> &'static [&'static str] {
+        &["metrics", "letter", "axis", "target", "size"]
+    }
+
+    fn add_answer(
+        _alloc: Global,
+        metrics: &Metrics,
+        fields: Fields,
+        words: &mut String,
+    ) -> Result<(), Fault> {
+        let letter = letter_in(fields)?;
+        let axis = axis_in(fields)?;
+        let size = size_in(fields)?;
+        let target = fields.within("target", -FAR, FAR)?;
+        let glyph = metrics.glyph_of(letter);
+        let shaped = shape(metrics, glyph, axis, target, size);
+        add_shaped(metrics, &shaped, glyph, axis, size, words)?;
+        Ok(())
+    }
+}
+
+pub struct OfDisplayVariant;
+
+impl ByMetrics for OfDisplayVariant {
+    fn keys() -> &'static [&'static str] {
+        &["metrics", "letter", "size"]
+    }
+
+    fn add_answer(
+        _alloc: Global,
+        metrics: &Metrics,
+        fields: Fields,
+        words: &mut String,
+    ) -> Result<(), Fault> {
+        let letter = letter_in(fields)?;
+        let size = size_in(fields)?;
+        let glyph = metrics.glyph_of(letter);
+        let shaped = display_variant(metrics, glyph, size);
+        add_shaped(metrics, &shaped, glyph, Axis::Block, size, words)?;
+        Ok(())
+    }
+}
+
+/// Adds the box, and what is drawn at the origin.
+fn add_shaped(
+    metrics: &Metrics,
+    shaped: &Shaped,
+    glyph: GlyphId,
+    axis: Axis,
+    size: i64,
+    words: &mut String,
+) -> Result<(), AllocError> {
+    add_box(&shaped.frame, words)?;
+    add_mark(metrics, shaped.shape.mark(glyph, axis, 0, 0, size), words)
+}
+
+/// The axis of the key `axis`.
+fn axis_in(fields: Fields) -> Result<Axis, Fault> {
+    match fields.text("axis")? {
+        "block" => Ok(Axis::Block),
+        "inline" => Ok(Axis::Inline),
+        _ => Err(Fault::OutOfRange("axis")),
+    }
+}
+
+/// The one character of the key `letter`.
+fn letter_in(fields: Fields) -> Result<char, Fault> {
+    let mut letters = fields.text("letter")?.chars();
+    match (letters.next(), letters.next()) {
+        (Some(letter), None) => Ok(letter),
+        _ => Err(Fault::OutOfRange("letter")),
+    }
+}

@@ -1,0 +1,77 @@
+"""The program `mathlay` as the system runs it: that its words reach it, and the status with which it ends.
+
+`rt ci` proves and builds it. What is written of all sorts of trees and scripts, cases tell (docs/CASES.md)."""
+
+import ctypes
+import os
+import resource
+import subprocess
+import unittest
+
+from tests.common import TOP, InFolder
+
+PROGRAM = TOP / "crates" / "mathlay" / "out" / "mathlay"
+USAGE = b"usage: mathlay layout METRICS TREE | edit METRICS TREE SCRIPT | check METRICS TREE\n"
+FILES = {
+    "m": "mathlay-metrics 1\nupem 1024\nline 900 300\nxheight 512\nglyph missing 512 600 0\n",
+    "t": '{"name":"math"}',
+    # a space of 2,000,000 px
+    "w": '{"name":"math","children":[{"name":"mspace","attributes":{"width":"2000000px"}}]}',
+    "s": '{"op":"remove","node":1}',
+    # a line that is longer by one byte than a script's may be
+    "l": '{"op":"show"}\n' + "x" * 1_048_577,
+}
+# The words, the status and what is written.
+ROWS = [
+    (["layout", "m", "t"], 0, b"box 1 math 0 0 0 0 0 0 0\n"),
+    (["edit", "m", "t", "s"], 0, b"refused root\n"),
+    ([], 2, USAGE),
+    (["layout", "m"], 2, USAGE),
+    (["layout", "m", "t", "t"], 2, USAGE),
+    # words that are no text
+    (["layout", "m", b"\xff"], 2, USAGE),
+    ([b"\xc3", "m", "t"], 2, USAGE),
+    (["layout", "t", "t"], 3, b"metrics 1 2\n"),
+    (["layout", "m", "m"], 4, b"tree json\n"),
+    (["layout", "m", "none"], 5, b""),
+    # a folder
+    (["layout", "m", "."], 5, b""),
+    (["layout", "m", "w"], 8, b"range\n"),
+    (["edit", "m", "t", "l"], 9, b"shown\nbox 1 math 0 0 0 0 0 0 0\n"),
+]
+
+
+@unittest.skipUnless(PROGRAM.is_file(), f"{PROGRAM.relative_to(TOP)} isn't there: `rt ci` builds it")
+class Program(InFolder):
+    def setUp(self):
+        super().setUp()
+        for name, text in FILES.items():
+            self.file(name, text)
+
+    def ended(self, words, out=subprocess.PIPE, **how):
+        """The status with which the program ends, and what it writes to a pipe; it writes no errors."""
+        ran = subprocess.run([PROGRAM, *words], cwd=self.folder, stdout=out, stderr=subprocess.PIPE, timeout=60, **how)
+        self.assertEqual(ran.stderr, b"")
+        return ran.returncode, ran.stdout
+
+    def test_words_lead_to_a_status(self):
+        for words, status, written in ROWS:
+            with self.subTest(words=words):
+                self.assertEqual(self.ended(words), (status, written))
+
+    def test_not_even_the_programs_name(self):
+        # The system may put an empty name in place of none.
+        none = (ctypes.c_char_p * 1)()
+        with_none = {"preexec_fn": lambda: ctypes.CDLL(None).execve(os.fsencode(PROGRAM), none, none)}
+        self.assertEqual(self.ended(["layout", "m", "t"], **with_none), (2, USAGE))
+
+    def test_a_device_that_is_full(self):
+        with open("/dev/full", "wb") as full:
+            self.assertEqual(self.ended(["layout", "m", "t"], full), (6, None))
+
+    def test_a_file_that_takes_three_bytes(self):
+        # The system takes a front, and then none, since Python ignores the signal that would end the program.
+        limited = {"preexec_fn": lambda: resource.setrlimit(resource.RLIMIT_FSIZE, (3, 3)), "restore_signals": False}
+        with open(self.folder / "written", "wb") as short:
+            self.assertEqual(self.ended(["layout", "m", "t"], short, **limited), (6, None))
+        self.assertEqual((self.folder / "written").read_bytes(), b"box")
