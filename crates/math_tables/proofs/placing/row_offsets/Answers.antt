@@ -1,7 +1,10 @@
-use Rattle.std.proofs.Common.{◌≡◌, ◌∙◌, sym, get_or, arith, w64, to_z, of_z, ◌+ℤ◌, ◌-ℤ◌}
+use Rattle.std.proofs.Common.{◌≡◌, ◌∙◌, sym, get_or, length, arith, lit<, w64, to_z, of_z, ◌+ℤ◌, ◌-ℤ◌}
+use Rattle.std.proofs.lemmas.Int.{to_z-of_z}
 use Rattle.fixed_units.specs.Boxes.{empty_box}
+use Rattle.fixed_units.specs.Sums.{list_to}
 use Rattle.fixed_units.proofs.Signed.{signed}
 use Rattle.fixed_units.proofs.Sums.{list_to-zero, list_to-add_one}
+use Rattle.fixed_units.proofs.Within.{fits_i64}
 use Rattle.math_tables.specs.Placing.{baseline_of}
 use Rattle.math_tables.proofs.Places.{top_of-zero, top_of-add_one, top_of_in, height_in, baseline_of-is, frame_in}
 use Rattle.math_tables.proofs.placing.row_offsets.Goals as goal
@@ -46,3 +49,12 @@ loop-row-preserved c =
       offsets = let pushed = (c.in_ok-push.ensures {u = tt}).ok in let more = list_to-add_one i (baseline_of below rows) in cc;
       top = omega (arith, signed, c.height-top.ensures, top_of-add_one rows i);
     }
+
+pub returns : goal.returns
+returns c =
+    let rows = c.args.rows.now in
+    let i = c.loop-row.row-index in
+    let f = fits_i64 c.requires.ascent_in (lit< tt) in
+    let ascent : to_z w64 (of_z w64 c.args.ascent) ≡ c.args.ascent = grind (arith, to_z-of_z) in
+    let all : i ≡ length rows = omega arith in
+    c.loop-row.invariant.offsets ∙ (λ k. list_to (all k) (baseline_of (ascent k) rows))

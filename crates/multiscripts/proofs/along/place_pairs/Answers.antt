@@ -14,6 +14,27 @@ loop-pair-init c = record {
   sups = c.make-sups.ensures ∙ sym (list_to-zero _);
 }
 
+pub sub_x-requires-clause-space_in : goal.sub_x-requires-clause-space_in
+sub_x-requires-clause-space_in c = let f = fits_i64 c.requires.space_in (lit< tt) in grind (arith, to_z-of_z)
+
+pub sub_x-requires-clause-end_in : goal.sub_x-requires-clause-end_in
+sub_x-requires-clause-end_in c = let f = fits_i64 c.requires.end_in (lit< tt) in grind (arith, to_z-of_z)
+
+pub sup_x-requires-clause-space_in : goal.sup_x-requires-clause-space_in
+sup_x-requires-clause-space_in c = let f = fits_i64 c.requires.space_in (lit< tt) in grind (arith, to_z-of_z)
+
+pub sup_x-requires-clause-end_in : goal.sup_x-requires-clause-end_in
+sup_x-requires-clause-end_in c = let f = fits_i64 c.requires.end_in (lit< tt) in grind (arith, to_z-of_z)
+
+pub past-line-requires-clause-space_in : goal.past-line-requires-clause-space_in
+past-line-requires-clause-space_in c = let f = fits_i64 c.requires.space_in (lit< tt) in grind (arith, to_z-of_z)
+
+pub overflow_sub-shifts : goal.overflow_sub-shifts
+overflow_sub-shifts c =
+    let f = fits_i64 c.requires.up_in (lit< tt) in
+    let g = fits_i64 (difference_in (natural_in 0) c.requires.up_in) (lit< tt) in
+    grind (arith, to_z-of_z)
+
 pub sub_x-requires-clause-line_in : goal.sub_x-requires-clause-line_in
 sub_x-requires-clause-line_in c =
     let space : to_z w64 (of_z w64 c.args.space) ≡ c.args.space = grind (arith, to_z-of_z) in

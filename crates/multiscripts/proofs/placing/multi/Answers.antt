@@ -8,6 +8,36 @@ use Rattle.multiscripts.specs.Heights.{all_shifts_of}
 use Rattle.multiscripts.proofs.Placed.{all_placed}
 use Rattle.multiscripts.proofs.placing.multi.Goals as goal
 
+pub line_of-line-requires-clause-space_in : goal.line_of-line-requires-clause-space_in
+line_of-line-requires-clause-space_in c =
+    let f = fits_i64 c.constant-space.ensures.within (lit< tt) in
+    let w = widened (2 ^ 32) c.constant-space.ensures.within (lit≤ tt) in
+    grind (arith, to_z-of_z)
+
+pub overflow_add-end : goal.overflow_add-end
+overflow_add-end c =
+    let ahead = c.line_of-line.ensures.within.ahead in
+    let f = fits_i64 ahead (lit< tt) in
+    let g = fits_i64 c.requires.base_fits.width (lit< tt) in
+    let h = fits_i64 (sum_in ahead c.requires.base_fits.width) (lit< tt) in
+    grind (arith, to_z-of_z)
+
+pub overflow_add-width : goal.overflow_add-width
+overflow_add-width c =
+    let line = c.line_of-line.ensures.within in
+    let ends = sum_in line.ahead c.requires.base_fits.width in
+    let f = fits_i64 line.ahead (lit< tt) in
+    let g = fits_i64 line.behind (lit< tt) in
+    let h = fits_i64 ends (lit< tt) in
+    let i = fits_i64 (sum_in ends line.behind) (lit< tt) in
+    grind (arith, to_z-of_z)
+
+pub place_pairs-requires-clause-space_in : goal.place_pairs-requires-clause-space_in
+place_pairs-requires-clause-space_in c =
+    let f = fits_i64 c.constant-space.ensures.within (lit< tt) in
+    let w = widened (2 ^ 32) c.constant-space.ensures.within (lit≤ tt) in
+    grind (arith, to_z-of_z)
+
 pub place_pairs-requires-clause-end_in : goal.place_pairs-requires-clause-end_in
 place_pairs-requires-clause-end_in c =
     let ahead = c.line_of-line.ensures.within.ahead in
