@@ -14,8 +14,8 @@
 #![tactic(auto)]
 
 mod edge; // the system's files and standard output
-mod memory_inputs; // files of a test
-mod memory_sink; // a sink of a test
+mod memory_inputs; // files in memory
+mod memory_sink; // a sink in memory
 mod piece; // what is held back of a text
 mod short_text; // a part of a line
 mod traits; // Inputs, Sink
