@@ -1,7 +1,8 @@
 -- How much of a file a reader has taken.
-use Rattle.std.proofs.Common.{◌≡◌, ℕ, ◌+◌, ◌<◌, ◌≤◌, List, ◌++◌, length, drop, ap, refl, sym, ◌∙◌, arith, length-append, Result, Option, Some, None, IfSome, IsSome, inl}
+use Rattle.std.proofs.Common.{◌≡◌, ℕ, ◌+◌, ◌<◌, ◌≤◌, List, [], ◌++◌, length, drop, ap, refl, sym, subst, ◌∙◌, arith, length-append, Result, Option, Some, None, IfSome, IsSome, inl}
+use Rattle.std.proofs.lemmas.List.{append-nil}
 use Rattle.std.proofs.Math.Seq.{drop-append_seam}
-use Rattle.std.specs.Io.KnownBytes.{Consumes}
+use Rattle.std.specs.Io.KnownBytes.{Consumes, IsAtEnd}
 use Rattle.doc_io.specs.Causes.{Files, InputsTold}
 use Rattle.doc_io.specs.Whole.{ConsumesAtMost, ConsumesSome, IsWithoutFront, ReadsSome, ReadsWithin}
 use Rattle.doc_io.specs.declared.whole.ReadRefusal.{ReadRefusal}
@@ -12,11 +13,22 @@ pub within_both : (a b c : Option (List ℕ)) (xs ys : List ℕ) (most : ℕ) �
     Consumes b c ys → length xs + length ys ≤ most → ConsumesAtMost most a c
 within_both a b c xs ys most h k short = (xs ++ ys, omega (arith, length-append xs ys), consumes_both a b c xs ys h k)
 
--- one read more that gave something
-pub some_both : (a b c : Option (List ℕ)) (xs ys : List ℕ) (most : ℕ) → Consumes a b xs →
-    Consumes b c ys → 0 < length ys → length xs + length ys ≤ most → ConsumesSome most a c
-some_both a b c xs ys most h k some short =
-    (xs ++ ys, omega (arith, length-append xs ys, some), omega (arith, length-append xs ys, short), consumes_both a b c xs ys h k)
+-- one read more that gave something, and then a look at the end
+pub some_both : (a b c d : Option (List ℕ)) (xs ys : List ℕ) (most : ℕ) → Consumes a b xs →
+    Consumes b c ys → Consumes c d [] → 0 < length ys → length xs + length ys ≤ most →
+    (length xs + length ys ≡ most → IsAtEnd d) → ConsumesSome most a d
+some_both a b c d xs ys most h k e some short full = (
+  xs ++ ys,
+  omega (arith, length-append xs ys, some),
+  omega (arith, length-append xs ys, short),
+  subst (λ (l : List ℕ). Consumes a d l) (append-nil (xs ++ ys)) (consumes_both a c d (xs ++ ys) [] (consumes_both a b c xs ys h k) e),
+  λ all. full (sym (length-append xs ys) ∙ all),
+)
+
+pub within_end : (a b c d : Option (List ℕ)) (xs ys : List ℕ) (most : ℕ) → Consumes a b xs →
+    Consumes b c ys → ConsumesAtMost 1 c d → length xs + length ys ≤ most → ConsumesAtMost (most + 1) a d
+within_end a b c d xs ys most h k e short =
+    within_both a c d (xs ++ ys) e.0 (most + 1) (consumes_both a b c xs ys h k) e.2 (omega (arith, length-append xs ys, short, e.1))
 
 -- where the whole file was left at first, a front of the file is taken
 without_front : (whole : List ℕ) (rest rest' : Option (List ℕ)) (most : ℕ) → rest ≡ Some whole →
@@ -46,11 +58,12 @@ reads_within before mid after name most result h c = by before.files h
 
 some_of_file : (file rest rest' : Option (List ℕ)) (most : ℕ) → rest ≡ file → IsSome file → ConsumesSome most rest rest' →
     (taken left : List ℕ) × (file ≡ Some (taken ++ left)) × (0 < length taken) × (length taken ≤ most) × (rest' ≡ Some left)
+    × (length taken ≡ most → left ≡ [])
 some_of_file None rest rest' most e s c = absurd (cc)
 some_of_file (Some bytes) None rest' most e s c = absurd (cc)
 some_of_file (Some bytes) (Some a) None most e s c = absurd c.3
 some_of_file (Some bytes) (Some a) (Some b) most e s c =
-    (c.0, b, sym e ∙ ap Some c.3, c.1, c.2, refl)
+    (c.0, b, sym e ∙ ap Some c.3, c.1, c.2, refl, c.4)
 
 -- a reader of a selected file that wants memory has taken some of it
 pub reads_some : (before mid after : InputsTold) (name : List ℕ) (most : ℕ) →

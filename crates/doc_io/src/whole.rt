@@ -1,5 +1,5 @@
 ghost use Rattle.std.specs.Prelude.{◌≡◌, ◌+◌, IsErrOf};
-ghost use Rattle.doc_io.specs.Whole.{ConsumesAtMost, ConsumesSome, ReadsAll, ReadsRest, ReadsSome, ReadsWithin, WritesAll};
+ghost use Rattle.doc_io.specs.Whole.{ConsumesAtMost, ConsumesSome, Ends, ReadsAll, ReadsRest, ReadsSome, ReadsWithin, WritesAll};
 ghost use Rattle.doc_io.specs.declared.whole.ReadRefusal.TheVariants.{ReadFault, Memory as NoMemory};
 
 use crate::{Failed, Inputs, Sink};
@@ -48,7 +48,8 @@ const BLOCK: usize = 16384;
 /// The whole file of a name, which may have at most `limit` bytes.
 ///
 /// It reads at most `limit + 1` bytes of the file, however long that is. Memory can be wanted only for
-/// bytes that were read, and those are no more than the limit: a longer file is never told as want of it.
+/// bytes that were read: fewer than the limit, or a whole file of just that length. So once as much was
+/// read as may be, a longer file is `TooLong` before memory is taken for it.
 #[tactic(auto, using(crate::proofs::Within::reads_within, crate::proofs::Within::reads_some))]
 pub fn read_all<I: Inputs>(
     alloc: Global,
@@ -92,20 +93,30 @@ fn read_rest<I: Inputs>(
     ensures memory { IsErrOf result NoMemory → ConsumesSome limit (I.told inputs.old).rest (I.told inputs.new).rest }
 {
     let mut bytes = List::make(alloc);
+    expect_end(inputs, limit)?;
     let mut block = [0u8; BLOCK];
     while bytes.len() < limit {
-        let want = (limit - bytes.len()).min(BLOCK);
-        let count = inputs.read(&mut block[..want])?;
+        let room = limit - bytes.len();
+        let count = inputs.read(&mut block[..room.min(BLOCK)])?;
         if count == 0 {
             return Ok(bytes);
         }
+        expect_end(inputs, room - count)?;
         bytes.push_all(&block[..count])?;
     }
-    // Only one byte more tells a file of the limit's length from a longer one.
-    let mut one = [0u8; 1];
-    if inputs.read(&mut one)? == 0 {
-        Ok(bytes)
-    } else {
-        Err(ReadRefusal::TooLong)
+    Ok(bytes)
+}
+
+/// Where so many bytes more may be read and these are none, sees that none is left: one byte more alone tells a
+/// file of the limit's length from a longer one.
+fn expect_end<I: Inputs>(inputs: &mut I, room: usize) -> Result<(), ReadRefusal>
+    ensures ends { Ends (I.told inputs.old) (I.told inputs.new) room result }
+{
+    if room == 0 {
+        let mut one = [0u8; 1];
+        if inputs.read(&mut one)? > 0 {
+            return Err(ReadRefusal::TooLong);
+        }
     }
+    Ok(())
 }

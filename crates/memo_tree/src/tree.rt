@@ -40,7 +40,7 @@ pub struct MemoTree {
     tree: Tree,
     metrics: Metrics,
     memo: Memo,
-    /// It finds elements, and no contract speaks of it.
+    /// It finds elements, and no contract of this type speaks of it.
     parents: Parents,
 }
 

@@ -1,5 +1,5 @@
 use Rattle.std.proofs.Common.{◌≡◌, ◌≤◌, ◌-◌, length}
-use Rattle.std.specs.Io.KnownBytes.{Consumes}
+use Rattle.std.specs.Io.KnownBytes.{Consumes, IsAtEnd}
 use Rattle.doc_io.proofs.whole.read_rest.Given as goal
 
 abbrev pub invariant-loop-block : goal.invariant-loop-block
@@ -12,6 +12,7 @@ invariant-loop-block g l =
       faults : before.faults ≤ now.faults;
       files : now.files ≡ before.files;
       missing : now.missing ≡ before.missing;
+      ended : length l.bytes ≡ l.limit → IsAtEnd now.rest;
     }
 
 abbrev pub decreases-loop-block : goal.decreases-loop-block
