@@ -237,7 +237,7 @@ class Program(Check):
 
     def praise(self):
         lines = stored(self.name, "stdout").count(b"\n")
-        return f"{self.name}: {lines} lines as stored, in {self.seconds:.0f} s"
+        return f"{self.name}: {lines} line{'s' * (lines != 1)} as stored, in {self.seconds:.0f} s"
 
 
 class ToolTests(Check):
