@@ -63,7 +63,7 @@ class Programs(InFolder):
     def test_all_is_as_stored(self):
         lines, status = self.told("one", "two")
         self.assertEqual((sorted(line.partition(",")[0] for line in lines), status),
-                         (["2 passed", "one: 3 lines as stored", "two: 1 lines as stored"], 0))
+                         (["2 passed", "one: 3 lines as stored", "two: 1 line as stored"], 0))
 
     def test_a_changed_byte(self):
         (self.folder / "crates/one/stdout").write_text("a\nB\nc\n")
