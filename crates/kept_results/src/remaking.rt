@@ -173,6 +173,7 @@ fn remake(
     };
     let mut was = List::make(alloc);
     was.insert(0, before, room);
+    // Dropped by a call, here and below, so that the proof doesn't go through all parts.
     drop(mem::replace(&mut entry.origin, Origin::Remade(was)));
 }
 

@@ -29,8 +29,8 @@ use std::sync::ledger::Ledger;
 use style_scope::root_style;
 
 /// Lays out a tree, every element afresh. It is refused with `Range` exactly where a number of a
-/// layout that is made on the way can't be stored. Each layout that is made takes one step, and nothing
-/// else takes any.
+/// layout that is made on the way can't be stored. Where it is done, it took one step for each layout that
+/// was made, and no other.
 pub fn lay_fresh<L: Ledger>(
     alloc: Global,
     tree: &Tree,
@@ -102,7 +102,7 @@ fn laid_over(
     }
 }
 
-/// The same over the children alone.
+/// The same over its children, laid out.
 fn with_head(alloc: Global, node: &Node, outcome: Outcome, kids: List<Laid>) -> Result<Laid, Memory>
     ensures { IfOk result (λ all. all ≡ roll-Laid record {
       head = (out-Node node.now).head;
@@ -162,7 +162,8 @@ fn ask_all<L: Ledger>(
     Ok(answers)
 }
 
-/// Takes in the layout of a child: its answer, and itself at its place.
+/// Takes in the layout of a child: its answer, and itself at its place. What is let go is dropped by a call,
+/// here and where an element is laid out, so that the proof doesn't go through all its parts.
 fn take_in(
     alloc: Global,
     answers: &mut List<Answer>,
@@ -180,7 +181,6 @@ fn take_in(
             Ok(())
         }
         Err(memory) => {
-            // Dropped by a call, here and elsewhere, so that the proof doesn't go through all parts.
             drop(laid);
             Err(memory)
         }

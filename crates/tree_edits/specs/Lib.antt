@@ -2,6 +2,7 @@ pub mod Applying
 pub mod Commands
 pub mod Edits
 pub mod Laws
+pub mod Notes
 pub mod Paths
 pub mod Planning
 pub mod Reasons

@@ -71,7 +71,3 @@ pub record FitsAt (change : Change) (path : List ℕ) (from : Node) : Type 0 whe
   pub element : Node
   pub at : node_at path from ≡ Some element
   pub fits : Fits change element
-
--- there may be so many notes of which element stands over which before they are begun anew
-abbrev pub most_old_notes : ℕ
-most_old_notes = 131_584

@@ -14,8 +14,8 @@
 //!   `restore` takes no memory (`specs/Applying.antt`); `path_to` and `Parents::find` find an
 //!   element by its id, or none exactly where none has it, and `carry_out_at` makes the tree of
 //!   `changed_at` and gives what was there, all without memory (`specs/Paths.antt`); an edit of a
-//!   whole tree is one such change (`specs/Laws.antt`); a bound on the notes of `Parents`; the text
-//!   that a refusal shows (`specs/Texts.antt`).
+//!   whole tree is one such change (`specs/Laws.antt`); how many notes
+//!   `Parents` has (`specs/Notes.antt`); the text that a refusal shows (`specs/Texts.antt`).
 //! - Knows nothing of: fonts, styles, layout, files.
 //! - Change what an edit makes of a tree or why it is refused: `specs/Edits.antt`, then
 //!   `src/reasons.rt`, `src/totals.rt` or `src/planning.rt`. Change a line's form:

@@ -2,7 +2,8 @@
 ghost use Rattle.std.specs.Prelude.{◌≡◌, ◌≤◌, ◌+◌, ◌<◌, [], length, true, IfOk, IfSome};
 ghost use Rattle.math_tree.specs.Forms.{most_levels};
 ghost use Rattle.math_tree.specs.Trees.{element_count};
-ghost use Rattle.tree_edits.specs.Paths.{Finds, LeadsTo, most_old_notes};
+ghost use Rattle.tree_edits.specs.Notes.{AreBegun, AreMore};
+ghost use Rattle.tree_edits.specs.Paths.{Finds, LeadsTo};
 
 use crate::path::{Path, path_to};
 use arrayvec::ArrayVec;
@@ -15,13 +16,9 @@ use std::marker::Model;
 /// So many notes are kept beside twice as many as a tree has elements.
 const SPARE_NOTES: usize = 512;
 
-/// Where there are more notes than this, whatever the tree, they are begun anew: the spare ones and twice
-/// as many as the largest tree has elements.
-const MOST_OLD_NOTES: usize = 131_584;
-
 /// By the ids of elements, the id of the element right over each, as it was last noted. This is a hint, and
 /// no answer rests on it: what is noted is looked up in the tree at each use. Contracts see how many notes
-/// there are.
+/// there are, and how many there may be before they are begun anew.
 #[derive(Drop)]
 pub struct Parents {
     over: IndexMap<u32, u32>,
@@ -30,21 +27,18 @@ pub struct Parents {
 }
 
 impl Model for Parents {
-    ghost use Rattle.std.specs.Prelude.{ℕ, ◌≤◌};
     ghost use Rattle.indexmap.specs.IndexMap.{index_map_len};
-    ghost use Rattle.tree_edits.specs.Paths.{most_old_notes};
+    ghost use Rattle.tree_edits.specs.Notes.{Notes};
 
-    ghost Value = { ℕ };
+    ghost Value = { Notes };
 
-    ghost view = { λ parents. index_map_len parents.over };
-
-    ghost invariant = { λ parents. parents.most ≤ most_old_notes };
+    ghost view = { λ parents. record { count = index_map_len parents.over; most = parents.most } };
 }
 
 impl Parents {
     /// Those of a root and all below it.
     pub fn make(alloc: Global, root: &Node) -> Result<Parents, Memory>
-        ensures few { IfOk result (λ notes. notes < element_count root.now) }
+        ensures begun { IfOk result (AreBegun root.now) }
     {
         let mut parents = Parents {
             over: IndexMap::new(alloc),
@@ -58,7 +52,7 @@ impl Parents {
     /// until there are some hundreds more than twice as many as the root had below it when they were begun;
     /// then all below the root, this part too, is noted anew.
     pub fn note(&mut self, root: &Node, over: NodeId, part: &Node) -> Result<(), Memory>
-        ensures few { self.new ≤ most_old_notes + element_count root.now + element_count part.now }
+        ensures few { AreMore root.now part.now self.old self.new }
     {
         if self.over.len() > self.most {
             self.note_all(root)
@@ -81,7 +75,7 @@ impl Parents {
 
     /// Drops what was noted, and notes all below a root.
     fn note_all(&mut self, root: &Node) -> Result<(), Memory>
-        ensures few { self.new < element_count root.now }
+        ensures begun { AreBegun root.now self.new }
     {
         self.over.clear();
         self.most = 0;
@@ -90,14 +84,14 @@ impl Parents {
             .over
             .len()
             .saturating_mul(2)
-            .saturating_add(SPARE_NOTES)
-            .min(MOST_OLD_NOTES);
+            .saturating_add(SPARE_NOTES);
         Ok(())
     }
 
     /// Notes all below an element.
     fn note_below(&mut self, element: &Node) -> Result<(), Memory>
-        ensures few { self.new < self.old + element_count element.now }
+        ensures few { self.new.count < self.old.count + element_count element.now }
+        ensures most { self.new.most ≡ self.old.most }
     {
         for child in element.children.as_slice() {
             self.over.insert(child.head.id.0, element.head.id.0)?;
