@@ -1,0 +1,5 @@
+pub mod Alike
+pub mod Origins
+pub mod Places
+pub mod Splicing
+mod Worked
