@@ -4,6 +4,10 @@ use Rattle.std.proofs.lemmas.Bool.{and_parts}
 use Rattle.std.proofs.lemmas.Option.{none-some, same_Some}
 use Rattle.std.specs.List.{list_all}
 use Rattle.std.specs.Option.{option_and_then, option_map_or}
+use Rattle.splices.proofs.Places.{set_back}
+use Rattle.splices.proofs.Splicing.{led_back}
+use Rattle.splices.specs.Splicing.{inverse, site_of, spliced, taken}
+use Rattle.splices.specs.declared.splice.Splice.{Splice}
 use Rattle.kept_results.specs.declared.memo.Former.{Former}
 use Rattle.kept_results.specs.Laws.{is_unmarked, unmarked_layer}
 use Rattle.kept_results.specs.Looking.{own_facts}
@@ -12,13 +16,10 @@ use Rattle.kept_results.specs.declared.memo.Memo.TheFolds.{fold_out-Memo}
 use Rattle.kept_results.specs.declared.memo.Memo.TheOpen.{Memo-F}
 use Rattle.kept_results.specs.declared.memo.Memo.TheViews.{out-Memo, out-roll-Memo, roll-Memo, roll-out-Memo}
 use Rattle.kept_results.proofs.Lists.{set_here}
-use Rattle.kept_edits.specs.Changed.{FitsBelow, FitsMemo, changed_below, changed_memo, renewed, restored, taken_below, taken_from, undone_memo, with_below, seen_anew}
-use Rattle.kept_edits.specs.Laws.{BackLaw, back_of}
-use Rattle.kept_edits.specs.declared.change.MemoChange.{MemoChange}
-use Rattle.kept_edits.specs.declared.change.MemoChange.TheVariants.{Stay, PutMemo, TakeMemo, SwapMemo}
+use Rattle.kept_edits.specs.Changed.{FitsMemo, changed_memo, renewed, seen_anew, taken_from, undone_memo, with_below, without_mark}
+use Rattle.kept_edits.specs.Laws.{BackLaw}
 use Rattle.kept_edits.specs.declared.change.Renewal.{Renewal}
 use Rattle.kept_edits.proofs.Changing.{marked, marked_is}
-use Rattle.kept_edits.proofs.Lists.{insert_removed, remove_inserted, set_back, some_at}
 
 -- ---- no marks
 
@@ -39,7 +40,7 @@ each_unmarked [] i kept at h = absurd (none-some kept at)
 each_unmarked (x ∷ memos) zero kept at h = ap is_unmarked (sym (same_Some x kept at)) ∙ (and_parts (is_unmarked x) (list_all (λ b. b) (map is_unmarked memos)) h).0
 each_unmarked (x ∷ memos) (suc i) kept at h = each_unmarked memos i kept at (and_parts (is_unmarked x) (list_all (λ b. b) (map is_unmarked memos)) h).1
 
-below_unmarked : (memo : Memo) (i : ℕ) (kept : Memo) → is_unmarked memo ≡ true → slice_get (out-Memo memo).below i ≡ Some kept → is_unmarked kept ≡ true
+pub below_unmarked : (memo : Memo) (i : ℕ) (kept : Memo) → is_unmarked memo ≡ true → slice_get (out-Memo memo).below i ≡ Some kept → is_unmarked kept ≡ true
 below_unmarked memo i kept h at =
     each_unmarked (out-Memo memo).below i kept at
     (and_parts (not (is_some (out-Memo memo).former)) (list_all (λ b. b) (map is_unmarked (out-Memo memo).below)) (sym (unmarked_out memo) ∙ h)).1
@@ -53,7 +54,7 @@ abbrev over : Memo-F Memo → List Memo → Memo
 over layer below = roll-Memo record { former = layer.former; facts = layer.facts; entries = layer.entries; below = below }
 
 -- a mark that is cleared again
-cleared : (layer : Memo-F Memo) (below : List Memo) → with_below (restored (roll-Memo layer)) below ≡ over (clear layer) below
+cleared : (layer : Memo-F Memo) (below : List Memo) → with_below (without_mark (roll-Memo layer)) below ≡ over (clear layer) below
 cleared layer below =
     ap (λ (l : Memo-F Memo). with_below (roll-Memo (clear l)) below) (out-roll-Memo layer)
     ∙ ap (λ (l : Memo-F Memo). over l below) (out-roll-Memo (clear layer))
@@ -64,58 +65,45 @@ as_before memo own between none =
     ap (λ (o : Option Former). roll-Memo record { former = o; facts = (out-Memo memo).facts; entries = (out-Memo memo).entries; below = (out-Memo memo).below }) (sym none)
     ∙ roll-out-Memo memo
 
--- ---- the memos of an element's children
-
-back_below : (change : MemoChange) (below : List Memo) (room : ℕ) → FitsBelow change below
-    → changed_below (back_of change (taken_below change below) room) (changed_below change below) ≡ below
-back_below Stay below room f = refl
-back_below (PutMemo index memo own) below room f = remove_inserted below index memo f.0
-back_below (TakeMemo index) below room f =
-    let there = some_at below index f in
-    ap (λ (o : Option Memo). changed_below (back_of (TakeMemo index) o room) (remove below index)) there.1 ∙ insert_removed below index there.0 there.1
-back_below (SwapMemo index memo) below room f =
-    let there = some_at below index f in
-    ap (λ (o : Option Memo). changed_below (back_of (SwapMemo index memo) o room) (set below index memo)) there.1 ∙ set_back below index there.0 memo there.1
-
 -- ---- at the end of a path
 
-back_at : (path : List ℕ) (memo : Memo) (change : MemoChange) (known : List Renewal) (room : ℕ) → is_unmarked memo ≡ true → FitsMemo change path memo
-    → undone_memo (back_of change (taken_from change path memo) room) path (changed_memo change known path memo) ≡ memo
-back_at [] memo change known room none fits =
+back_at : (path : List ℕ) (memo : Memo) (splice : Splice Memo) (known : List Renewal) (room : ℕ) → is_unmarked memo ≡ true → FitsMemo splice path memo
+    → undone_memo (inverse (site_of splice) (taken_from splice path memo) room) path (changed_memo splice known path memo) ≡ memo
+back_at [] memo splice known room none fits =
     let below : List Memo = (out-Memo memo).below in
-    let back : MemoChange = back_of change (taken_below change below) room in
+    let back : Splice Memo = inverse (site_of splice) (taken splice below) room in
     let own : Renewal = get_or known 0 (seen_anew (own_facts memo)) in
-    let between : List Memo = changed_below change below in
+    let between : List Memo = spliced splice below in
     let layer : Memo-F Memo = marked memo own between in
     ap (undone_memo back []) (marked_is memo own between)
-    ∙ ap (λ (l : Memo-F Memo). with_below (restored (roll-Memo layer)) (changed_below back l.below)) (out-roll-Memo layer)
-    ∙ cleared layer (changed_below back between)
-    ∙ ap (over (clear layer)) (back_below change below room fits)
+    ∙ ap (λ (l : Memo-F Memo). with_below (without_mark (roll-Memo layer)) (spliced back l.below)) (out-roll-Memo layer)
+    ∙ cleared layer (spliced back between)
+    ∙ ap (over (clear layer)) (led_back splice below room fits)
     ∙ as_before memo own between (former_none memo none)
-back_at (place ∷ path) memo change known room none fits =
+back_at (place ∷ path) memo splice known room none fits =
     let below : List Memo = (out-Memo memo).below in
     let kept : Memo = fits.0 in
     let at : slice_get below place ≡ Some kept = fits.1 in
     let own : Renewal = get_or known (length (place ∷ path)) (seen_anew (own_facts memo)) in
-    let kept' : Memo = changed_memo change known path kept in
+    let kept' : Memo = changed_memo splice known path kept in
     let between : List Memo = set below place kept' in
     let layer : Memo-F Memo = marked memo own between in
-    let taken : Option Memo = taken_from change path kept in
-    let back : MemoChange = back_of change taken room in
-    let same : taken_from change (place ∷ path) memo ≡ taken = ap (option_and_then (taken_from change path)) at in
-    let made : changed_memo change known (place ∷ path) memo ≡ roll-Memo layer =
-    ap (λ (o : Option Memo). with_below (renewed own memo) (option_map_or (λ z. set below place (changed_memo change known path z)) o below)) at ∙ marked_is memo own between in
+    let went : Option Memo = taken_from splice path kept in
+    let back : Splice Memo = inverse (site_of splice) went room in
+    let same : taken_from splice (place ∷ path) memo ≡ went = ap (option_and_then (taken_from splice path)) at in
+    let made : changed_memo splice known (place ∷ path) memo ≡ roll-Memo layer =
+    ap (λ (o : Option Memo). with_below (renewed own memo) (option_map_or (λ z. set below place (changed_memo splice known path z)) o below)) at ∙ marked_is memo own between in
     let undo : List Memo → Option Memo → List Memo = λ memos o. option_map_or (λ z. set memos place (undone_memo back path z)) o memos in
     let there : slice_get between place ≡ Some kept' = set_here below place kept' kept at in
     let again : set between place (undone_memo back path kept') ≡ below =
-    ap (set between place) (back_at path kept change known room (below_unmarked memo place kept none at) fits.2) ∙ set_back below place kept kept' at in
-    ap (λ (o : Option Memo). undone_memo (back_of change o room) (place ∷ path) (changed_memo change known (place ∷ path) memo)) same
+    ap (set between place) (back_at path kept splice known room (below_unmarked memo place kept none at) fits.2) ∙ set_back below place kept kept' at in
+    ap (λ (o : Option Memo). undone_memo (inverse (site_of splice) o room) (place ∷ path) (changed_memo splice known (place ∷ path) memo)) same
     ∙ ap (undone_memo back (place ∷ path)) made
-    ∙ ap (λ (l : Memo-F Memo). with_below (restored (roll-Memo layer)) (undo l.below (slice_get l.below place))) (out-roll-Memo layer)
-    ∙ ap (λ (o : Option Memo). with_below (restored (roll-Memo layer)) (undo between o)) there
+    ∙ ap (λ (l : Memo-F Memo). with_below (without_mark (roll-Memo layer)) (undo l.below (slice_get l.below place))) (out-roll-Memo layer)
+    ∙ ap (λ (o : Option Memo). with_below (without_mark (roll-Memo layer)) (undo between o)) there
     ∙ cleared layer (set between place (undone_memo back path kept'))
     ∙ ap (over (clear layer)) again
     ∙ as_before memo own between (former_none memo none)
 
 pub back_law : BackLaw
-back_law memo change path known room none fits = back_at path memo change known room none fits
+back_law memo splice path known room none fits = back_at path memo splice known room none fits

@@ -3,16 +3,20 @@ use Rattle.std.proofs.Common.{◌≡◌, ◌∙◌, inl, inr, refl, sym, ap, sub
 use Rattle.std.proofs.lemmas.Option.{get_or_from_slice_get, none-some, same_Some, slice_get-map, slice_get_within}
 use Rattle.std.specs.List.{AllByRecursion}
 use Rattle.std.specs.Option.{option_and_then, option_map, option_map_or}
+use Rattle.splices.proofs.Alike.{Paired, paired_set, paired_spliced}
+use Rattle.splices.proofs.Places.{some_at}
+use Rattle.splices.specs.Splicing.{spliced}
+use Rattle.splices.specs.declared.splice.Splice.{Splice}
 use Rattle.font_metrics.specs.Metrics.{MetricsValue}
 use Rattle.math_tree.specs.Trees.{node as node_of}
 use Rattle.math_tree.specs.declared.node.Head.{Head}
 use Rattle.math_tree.specs.declared.node.Node.{Node}
 use Rattle.math_tree.specs.declared.node.Node.TheOpen.{Node-F}
 use Rattle.math_tree.specs.declared.node.Node.TheViews.{out-Node, out-roll-Node}
-use Rattle.tree_edits.specs.Edits.{head_of, with_attribute, with_text}
-use Rattle.tree_edits.specs.Paths.{Fits, FitsAt, changed, changed_at, children_of, node_at}
+use Rattle.tree_edits.specs.Edits.{head_of}
+use Rattle.tree_edits.proofs.Children.{children_changed, fits_children}
+use Rattle.tree_edits.specs.Paths.{Fits, FitsAt, changed, changed_at, children_of, node_at, splice_of}
 use Rattle.tree_edits.specs.declared.change.Change.{Change}
-use Rattle.tree_edits.specs.declared.change.Change.TheVariants.{SetText, SetValue, PutChild, TakeChild, SwapChild}
 use Rattle.embellished.specs.Facts.{facts}
 use Rattle.kept_results.specs.Ends.{all_undone, stripped}
 use Rattle.kept_results.specs.Kept.{AreApart, IsMemoOf, StaysBut, is_fresh, is_live}
@@ -25,13 +29,11 @@ use Rattle.kept_results.proofs.Agreement.{agrees_child, agrees_made}
 use Rattle.kept_results.proofs.Counts.{stripped_out, stripped_roll}
 use Rattle.kept_results.proofs.Tidying.{none_each, none_made}
 use Rattle.kept_results.proofs.Lists.{set_here}
-use Rattle.kept_edits.specs.Changed.{changed_below, changed_memo, renewed, renewed_on, seen_anew, with_below}
+use Rattle.kept_edits.specs.Changed.{changed_memo, renewed, renewed_on, seen_anew, with_below}
 use Rattle.kept_edits.specs.Laws.{ChangeLaw, IsReadyFor, IsSame, KnownOn}
-use Rattle.kept_edits.specs.declared.change.MemoChange.{MemoChange}
-use Rattle.kept_edits.specs.declared.change.MemoChange.TheVariants.{Stay, PutMemo, TakeMemo, SwapMemo}
 use Rattle.kept_edits.specs.declared.change.Renewal.{Renewal}
 use Rattle.kept_edits.proofs.Alike.{stay_but}
-use Rattle.kept_edits.proofs.Lists.{both_insert, both_remove, both_set, length_insert, length_remove, same_all, some_at}
+use Rattle.kept_edits.proofs.Lists.{same_all}
 
 -- ---- no entry is fresh
 
@@ -90,74 +92,26 @@ marked_is memo own below =
 -- ---- children and their memos
 
 module _ (m : MetricsValue) where
-  pub record Paired (nodes : List Node) (memos : List Memo) : Type 0 where
-    pub as_many : length memos ≡ length nodes
-    pub each : (i : ℕ) (child : Node) (kept : Memo) → slice_get nodes i ≡ Some child → slice_get memos i ≡ Some kept → IsReadyFor m child kept
+  -- memos that are ready for the elements at their places
+  abbrev pub AreReady : List Node → List Memo → Type 0
+  AreReady nodes memos = Paired (IsReadyFor m) nodes memos
 
-  pub paired : (node : Node) (memo : Memo) → IsReadyFor m node memo → Paired (children_of node) (out-Memo memo).below
+  pub paired : (node : Node) (memo : Memo) → IsReadyFor m node memo → AreReady (children_of node) (out-Memo memo).below
   paired node memo h = record {
     as_many = (h.agrees.at [] node memo (refl, refl)).as_many;
     each = λ i child kept a b. record { agrees = agrees_child m node memo i child kept h.agrees a b; plain = below_plain memo i kept h.plain b };
   }
 
-  paired_set : (nodes : List Node) (memos : List Memo) (i : ℕ) (child : Node) (kept : Memo) → Paired nodes memos → IsReadyFor m child kept → Paired (set nodes i child) (set memos i kept)
-  paired_set nodes memos i child kept h new = record {
-    as_many = length-set memos i kept ∙ h.as_many ∙ sym (length-set nodes i child);
-    each = λ j c k a b.
-        elim (both_set nodes memos i j child c kept k h.as_many a b) [
-          | inl e ↦ subst (λ (z : Memo). IsReadyFor m c z) (sym e.1) (subst (λ (n : Node). IsReadyFor m n kept) (sym e.0) new)
-          | inr t ↦ h.each t.0 c k t.1 t.2
-        ];
-  }
-
-  paired_insert : (nodes : List Node) (memos : List Memo) (i : ℕ) (child : Node) (kept : Memo) → i ≤ length nodes → Paired nodes memos → IsReadyFor m child kept → Paired (insert nodes i child) (insert memos i kept)
-  paired_insert nodes memos i child kept w h new = record {
-    as_many = let l = h.as_many in omega (arith, length_insert nodes i child w, length_insert memos i kept (omega (arith, l, w)));
-    each = λ j c k a b.
-        elim (both_insert nodes memos i j child c kept k h.as_many w a b) [
-          | inl e ↦ subst (λ (z : Memo). IsReadyFor m c z) (sym e.1) (subst (λ (n : Node). IsReadyFor m n kept) (sym e.0) new)
-          | inr t ↦ h.each t.0 c k t.1 t.2
-        ];
-  }
-
-  paired_remove : (nodes : List Node) (memos : List Memo) (i : ℕ) → i < length nodes → Paired nodes memos → Paired (remove nodes i) (remove memos i)
-  paired_remove nodes memos i w h = record {
-    as_many = let l = h.as_many in omega (arith, length_remove nodes i w, length_remove memos i (omega (arith, l, w)));
-    each = λ j c k a b. let t = both_remove nodes memos i j c k h.as_many a b in h.each t.0 c k t.1 t.2;
-  }
-
   -- the children of an element that is made of parts
-  of_parts : (head : Head) (nodes : List Node) (memos : List Memo) → Paired nodes memos → Paired (children_of (node_of head nodes)) memos
-  of_parts head nodes memos h = subst (λ (l : Node-F Node). Paired l.children memos) (sym (out-roll-Node record { head = head; children = nodes })) h
+  of_parts : (head : Head) (nodes : List Node) (memos : List Memo) → AreReady nodes memos → AreReady (children_of (node_of head nodes)) memos
+  of_parts head nodes memos h = subst (λ (l : Node-F Node). AreReady l.children memos) (sym (out-roll-Node record { head = head; children = nodes })) h
 
-  pub paired_changed : (node : Node) (memos : List Memo) (change : Change) (other : MemoChange) → Fits change node → IsSame m change other → Paired (children_of node) memos
-      → Paired (children_of (changed change node)) (changed_below other memos)
-  paired_changed node memos (SetText text) Stay f s h = of_parts (with_text text (head_of node)) (children_of node) memos h
-  paired_changed node memos (SetValue name value room) Stay f s h = of_parts (with_attribute name value (head_of node)) (children_of node) memos h
-  paired_changed node memos (PutChild index child room) (PutMemo place memo space) f s h =
-      of_parts (head_of node) (insert (children_of node) index child) (insert memos place memo)
-      (subst (λ (p : ℕ). Paired (insert (children_of node) index child) (insert memos p memo)) (sym s.0) (paired_insert (children_of node) memos index child memo f.0 h s.1))
-  paired_changed node memos (TakeChild index) (TakeMemo place) f s h =
-      of_parts (head_of node) (remove (children_of node) index) (remove memos place)
-      (subst (λ (p : ℕ). Paired (remove (children_of node) index) (remove memos p)) (sym s) (paired_remove (children_of node) memos index f h))
-  paired_changed node memos (SwapChild index child) (SwapMemo place memo) f s h =
-      of_parts (head_of node) (set (children_of node) index child) (set memos place memo)
-      (subst (λ (p : ℕ). Paired (set (children_of node) index child) (set memos p memo)) (sym s.0) (paired_set (children_of node) memos index child memo h s.1))
-  paired_changed node memos (SetText text) (PutMemo place memo space) f s h = absurd s
-  paired_changed node memos (SetText text) (TakeMemo place) f s h = absurd s
-  paired_changed node memos (SetText text) (SwapMemo place memo) f s h = absurd s
-  paired_changed node memos (SetValue name value room) (PutMemo place memo space) f s h = absurd s
-  paired_changed node memos (SetValue name value room) (TakeMemo place) f s h = absurd s
-  paired_changed node memos (SetValue name value room) (SwapMemo place memo) f s h = absurd s
-  paired_changed node memos (PutChild index child room) Stay f s h = absurd s
-  paired_changed node memos (PutChild index child room) (TakeMemo place) f s h = absurd s
-  paired_changed node memos (PutChild index child room) (SwapMemo place memo) f s h = absurd s
-  paired_changed node memos (TakeChild index) Stay f s h = absurd s
-  paired_changed node memos (TakeChild index) (PutMemo place memo space) f s h = absurd s
-  paired_changed node memos (TakeChild index) (SwapMemo place memo) f s h = absurd s
-  paired_changed node memos (SwapChild index child) Stay f s h = absurd s
-  paired_changed node memos (SwapChild index child) (PutMemo place memo space) f s h = absurd s
-  paired_changed node memos (SwapChild index child) (TakeMemo place) f s h = absurd s
+  -- they are so again when both are spliced
+  pub paired_changed : (node : Node) (memos : List Memo) (change : Change) (other : Splice Memo) → Fits change node → IsSame m change other → AreReady (children_of node) memos
+      → AreReady (children_of (changed change node)) (spliced other memos)
+  paired_changed node memos change other fits same h =
+      subst (λ (nodes : List Node). AreReady nodes (spliced other memos)) (sym (children_changed change node))
+      (paired_spliced (IsReadyFor m) (children_of node) memos h (splice_of change) other (fits_children change node fits) same)
 
   -- ---- where it agrees
 
@@ -167,7 +121,7 @@ module _ (m : MetricsValue) where
 
   marked_ready : (node : Node) (memo : Memo) (own : Renewal) (below : List Memo) → stripped memo ≡ memo → own.facts ≡ facts node
       → ((but : ℕ) → own.alike_but ≡ Some but → StayBut node memo below but)
-      → Paired (children_of node) below → IsReadyFor m node (with_below (renewed own memo) below)
+      → AreReady (children_of node) below → IsReadyFor m node (with_below (renewed own memo) below)
   marked_ready node memo own below h is alike pairs =
       let layer : Memo-F Memo = marked memo own below in
       let none = none_fresh (out-Memo memo).entries (entries_plain memo h) in
@@ -200,12 +154,12 @@ module _ (m : MetricsValue) where
   own_at : (known : List Renewal) (n : ℕ) (own d : Renewal) → slice_get known n ≡ Some own → get_or known n d ≡ own
   own_at known n own d h = get_or_from_slice_get known n own d h
 
-  change_at : (path : List ℕ) (node : Node) (memo : Memo) (change : Change) (other : MemoChange) (known : List Renewal) → IsReadyFor m node memo → FitsAt change path node
+  change_at : (path : List ℕ) (node : Node) (memo : Memo) (change : Change) (other : Splice Memo) (known : List Renewal) → IsReadyFor m node memo → FitsAt change path node
       → IsSame m change other → KnownOn known path (after change path node) memo → IsReadyFor m (after change path node) (changed_memo other known path memo)
   change_at [] node memo change other known h fits same is =
       let fits_here = subst (Fits change) (sym (same_Some node fits.element fits.at)) fits.fits in
       let own_is = own_at known 0 (seen_anew (facts (changed change node))) (seen_anew (own_facts memo)) is in
-      marked_ready (changed change node) memo (get_or known 0 (seen_anew (own_facts memo))) (changed_below other (out-Memo memo).below) h.plain
+      marked_ready (changed change node) memo (get_or known 0 (seen_anew (own_facts memo))) (spliced other (out-Memo memo).below) h.plain
       (ap (λ (own : Renewal). own.facts) own_is)
       (λ but alike. absurd (none-some but (ap (λ (own : Renewal). own.alike_but) (sym own_is) ∙ alike)))
       (paired_changed node (out-Memo memo).below change other fits_here same (paired node memo h))
@@ -238,7 +192,7 @@ module _ (m : MetricsValue) where
       let whole = marked_ready made memo (get_or known (length (place ∷ path)) (seen_anew (own_facts memo))) (set below place kept') h.plain
       (ap (λ (own : Renewal). own.facts) own_is ∙ known_made.2)
       (λ but x. alike but (ap (λ (own : Renewal). own.alike_but) (sym own_is) ∙ x))
-      (of_parts (head_of node) (set nodes place child') (set below place kept') (paired_set nodes below place child' kept' pairs ready)) in
+      (of_parts (head_of node) (set nodes place child') (set below place kept') (paired_set (IsReadyFor m) nodes below pairs place child' kept' ready)) in
       subst (λ (n : Node). IsReadyFor m n (changed_memo other known (place ∷ path) memo)) (sym node_is)
       (subst (IsReadyFor m made) (sym memo_is) whole)
 

@@ -2,13 +2,16 @@
 use Rattle.std.proofs.Common.{◌≡◌, ◌∙◌, refl, sym, ap, subst, ℕ, ◌+◌, arith, true, false, List, length, None, Some, slice_get}
 use Rattle.std.proofs.lemmas.Bool.{ltb-false}
 use Rattle.std.proofs.lemmas.Option.{slice_get_within}
-use Rattle.math_tree.specs.Trees.{IsWhole, TreeValue}
+use Rattle.math_tree.specs.Trees.{IsWhole, TreeValue, node}
 use Rattle.math_tree.specs.declared.node.Node.{Node}
 use Rattle.tree_edits.specs.Edits.{at_target, has_id, head_of, is_past, named, refusal_of}
 use Rattle.tree_edits.specs.Laws.{IsOfParent, IsOwn, own_change, parent_change}
 use Rattle.tree_edits.specs.Paths.{Fits, changed, changed_at, children_of, node_at}
 use Rattle.tree_edits.specs.declared.change.Change.{Change}
-use Rattle.tree_edits.specs.declared.change.Change.TheVariants.{SetText, SetValue, PutChild, TakeChild, SwapChild}
+use Rattle.splices.specs.Splicing.{spliced, with_room as splice_with_room}
+use Rattle.splices.specs.declared.splice.Splice.{Splice}
+use Rattle.splices.specs.declared.splice.Splice.TheVariants.{Stay, Put, Take, Swap}
+use Rattle.tree_edits.specs.declared.change.Change.TheVariants.{SetText, SetValue, Children}
 use Rattle.tree_edits.specs.declared.edit.Edit.{Edit}
 use Rattle.tree_edits.specs.declared.edit.Edit.TheVariants.{Text, Attr, Insert, Remove, Replace}
 use Rattle.tree_edits.proofs.OneElement.{own_change_law, parent_change_law}
@@ -38,13 +41,17 @@ own_fits tree (Insert id index new) path element whole free own at has =
 own_fits tree (Remove id) path element whole free own at has = absurd own
 own_fits tree (Replace id new) path element whole free own at has = absurd own
 
--- room changes nothing of what a change makes
+-- room changes nothing of what a splice or a change makes
+spliced_as_well : (room : ℕ) (splice : Splice Node) (nodes : List Node) → spliced (splice_with_room room splice) nodes ≡ spliced splice nodes
+spliced_as_well room Stay nodes = refl
+spliced_as_well room (Put index child own) nodes = refl
+spliced_as_well room (Take index) nodes = refl
+spliced_as_well room (Swap index child) nodes = refl
+
 same_made : (change : Change) (element x : Node) → changed (with_room change element) x ≡ changed change x
 same_made (SetText text) element x = refl
 same_made (SetValue name value room) element x = refl
-same_made (PutChild index child room) element x = refl
-same_made (TakeChild index) element x = refl
-same_made (SwapChild index child) element x = refl
+same_made (Children splice) element x = ap (node (head_of x)) (spliced_as_well (length (children_of element) + 1) splice (children_of x))
 
 pub own_edit_law : OwnEditLaw
 own_edit_law tree edit path element whole free own at has = record {

@@ -3,6 +3,9 @@ use Rattle.std.proofs.Common.{◌≡◌, ◌∙◌, refl, sym, ap, subst, ℕ, �
 use Rattle.std.proofs.lemmas.List.{map-set, take_all}
 use Rattle.std.proofs.lemmas.Option.{get_or_from_slice_get, none-some, same_Some, slice_get_within}
 use Rattle.std.specs.Option.{option_map_or}
+use Rattle.splices.proofs.Places.{some_at}
+use Rattle.splices.specs.Splicing.{spliced}
+use Rattle.splices.specs.declared.splice.Splice.{Splice}
 use Rattle.font_metrics.specs.Metrics.{MetricsValue}
 use Rattle.math_tree.specs.Trees.{node as node_of}
 use Rattle.math_tree.specs.declared.node.Node.{Node}
@@ -20,14 +23,13 @@ use Rattle.kept_results.specs.declared.memo.Memo.{Memo}
 use Rattle.kept_results.specs.declared.memo.Memo.TheViews.{out-Memo}
 use Rattle.kept_results.proofs.Lists.{pushed, set_here, still_first}
 use Rattle.kept_results.proofs.Turns.{facts_known}
-use Rattle.kept_edits.specs.Changed.{changed_below, seen_anew}
+use Rattle.kept_edits.specs.Changed.{seen_anew}
 use Rattle.kept_edits.specs.Known.{BesideLaw, IsBeside, IsKnownOn}
 use Rattle.kept_edits.specs.Laws.{IsSeenAsBefore, IsReadyFor, IsSame, KnownOn}
-use Rattle.kept_edits.specs.declared.change.MemoChange.{MemoChange}
 use Rattle.kept_edits.specs.declared.change.Renewal.{Renewal}
 use Rattle.kept_edits.proofs.Alike.{map_same}
-use Rattle.kept_edits.proofs.Changing.{Paired, child_on, paired, paired_changed}
-use Rattle.kept_edits.proofs.Lists.{mapped_same, some_at}
+use Rattle.kept_edits.proofs.Changing.{AreReady, child_on, paired, paired_changed}
+use Rattle.kept_edits.proofs.Lists.{mapped_same}
 
 -- ---- one element more is known
 
@@ -107,24 +109,24 @@ own_alike node child memo kept place own unmarked at memo_at same all is but_is 
     }
 
 -- the child on the way
-pub record IsBesideFurther (change : MemoChange) (path : List ℕ) (node : Node) (memo : Memo) : Type 0 where
+pub record IsBesideFurther (splice : Splice Memo) (path : List ℕ) (node : Node) (memo : Memo) : Type 0 where
   pub child : Node
   pub kept : Memo
   pub at : slice_get (out-Node node).children (get_or path 0 0) ≡ Some child
   pub memo_at : slice_get (out-Memo memo).below (get_or path 0 0) ≡ Some kept
   pub kids : set (map own_facts (out-Memo memo).below) (get_or path 0 0) (facts child) ≡ map facts (out-Node node).children
   pub same : facts child ≡ own_facts kept → facts node ≡ own_facts memo
-  pub beside : IsBeside change (take (length path - 1) (drop 1 path)) child kept
+  pub beside : IsBeside splice (take (length path - 1) (drop 1 path)) child kept
 
-pub beside_further : (change : MemoChange) (path : List ℕ) (node : Node) (memo : Memo) → (length path ≡ 0 → ⊥) → IsBeside change path node memo → IsBesideFurther change path node memo
-beside_further change path node memo some h =
-    let b = subst (λ (p : List ℕ). IsBeside change p node memo) (split path some) h in
+pub beside_further : (splice : Splice Memo) (path : List ℕ) (node : Node) (memo : Memo) → (length path ≡ 0 → ⊥) → IsBeside splice path node memo → IsBesideFurther splice path node memo
+beside_further splice path node memo some h =
+    let b = subst (λ (p : List ℕ). IsBeside splice p node memo) (split path some) h in
     record { child = b.0; kept = b.1; at = b.2; memo_at = b.3; kids = b.4; same = b.5; beside = b.6 }
 
-pub beside_here : (change : MemoChange) (path : List ℕ) (node : Node) (memo : Memo) → length path ≡ 0 → IsBeside change path node memo
-    → map own_facts (changed_below change (out-Memo memo).below) ≡ map facts (out-Node node).children
-beside_here change [] node memo z h = h
-beside_here change (place ∷ path) node memo z h = absurd (omega (arith, z))
+pub beside_here : (splice : Splice Memo) (path : List ℕ) (node : Node) (memo : Memo) → length path ≡ 0 → IsBeside splice path node memo
+    → map own_facts (spliced splice (out-Memo memo).below) ≡ map facts (out-Node node).children
+beside_here splice [] node memo z h = h
+beside_here splice (place ∷ path) node memo z h = absurd (omega (arith, z))
 
 -- ---- what is known of the child on the way stands last
 
@@ -156,7 +158,7 @@ kids_are kids list known below node child other kept path d some e l h same all 
 -- ---- memos that agree with the tree before
 
 module _ (m : MetricsValue) where
-  pairs_known : (nodes : List Node) (memos : List Memo) → Paired m nodes memos → map own_facts memos ≡ map facts nodes
+  pairs_known : (nodes : List Node) (memos : List Memo) → AreReady m nodes memos → map own_facts memos ≡ map facts nodes
   pairs_known nodes memos h =
       mapped_same own_facts facts memos nodes h.as_many
       (λ i kept child a b. ((h.each i child kept b a).agrees.at [] child kept (refl, refl)).facts_are)
@@ -164,11 +166,11 @@ module _ (m : MetricsValue) where
   abbrev after : Change → List ℕ → Node → Node
   after change path node = changed_at (changed change) path node
 
-  beside_at : (path : List ℕ) (node : Node) (memo : Memo) (change : Change) (other : MemoChange) → IsReadyFor m node memo → FitsAt change path node → IsSame m change other
+  beside_at : (path : List ℕ) (node : Node) (memo : Memo) (change : Change) (other : Splice Memo) → IsReadyFor m node memo → FitsAt change path node → IsSame m change other
       → IsBeside other path (after change path node) memo
   beside_at [] node memo change other h fits same =
       let fits_here = subst (Fits change) (sym (same_Some node fits.element fits.at)) fits.fits in
-      pairs_known (children_of (changed change node)) (changed_below other (out-Memo memo).below)
+      pairs_known (children_of (changed change node)) (spliced other (out-Memo memo).below)
       (paired_changed m node (out-Memo memo).below change other fits_here same (paired m node memo h))
   beside_at (place ∷ path) node memo change other h fits same =
       let nodes : List Node = children_of node in

@@ -1,53 +1,27 @@
 -- Where an element of a changed tree was before: on the path to the change, or elsewhere, or in none of the old tree.
-use Rattle.std.proofs.Common.{◌≡◌, ◌∙◌, ◌⊎◌, inl, inr, refl, sym, ap, subst, ℕ, zero, suc, ◌+◌, ◌-◌, ◌<◌, ◌≤◌, arith, true, List, [], ◌∷◌, ◌++◌, insert, length, remove, set, Some, slice_get}
+use Rattle.std.proofs.Common.{◌≡◌, ◌∙◌, ◌⊎◌, inl, inr, refl, sym, ap, subst, ℕ, nat_eq, ◌+◌, ◌≤◌, Bool, true, false, true≢false, List, [], ◌∷◌, ◌++◌, length, set, Some, slice_get}
 use Rattle.std.proofs.lemmas.Bool.Decides.{Decides-eqb}
 use Rattle.std.proofs.lemmas.Option.{same_Some}
 use Rattle.std.specs.List.{AllByRecursion, flat_map}
 use Rattle.std.specs.Option.{option_and_then}
+use Rattle.splices.proofs.Origins.{brought_holds, comes}
+use Rattle.splices.specs.Splicing.{Brings, Moves, site_of, spliced}
 use Rattle.math_tree.specs.Trees.{Listed, ids_of, listed, node as node_of}
 use Rattle.math_tree.specs.declared.node.Head.{Head}
 use Rattle.math_tree.specs.declared.node.Node.{Node}
 use Rattle.math_tree.proofs.Nodes.{listed_element}
-use Rattle.tree_edits.specs.Edits.{has_id, head_of, with_attribute, with_text}
-use Rattle.tree_edits.specs.Paths.{Fits, FitsAt, changed, changed_at, children_of, node_at}
+use Rattle.tree_edits.specs.Edits.{has_id, head_of}
+use Rattle.tree_edits.specs.Paths.{Fits, FitsAt, changed, changed_at, children_of, node_at, splice_of}
 use Rattle.tree_edits.specs.Reasons.{shown}
 use Rattle.tree_edits.specs.declared.change.Change.{Change}
-use Rattle.tree_edits.specs.declared.change.Change.TheVariants.{SetText, SetValue, PutChild, TakeChild, SwapChild}
+use Rattle.tree_edits.proofs.Children.{children_changed, fits_children, id_stays}
 use Rattle.tree_edits.proofs.Frames.{before_change, changed_below, children_rolled, down, framed, head_rolled}
 use Rattle.kept_results.proofs.Lists.{set_cases, set_here}
 use Rattle.kept_edits.specs.ByIds.{BringsNew}
-use Rattle.kept_edits.specs.Need.{CameFrom, IsMoved}
-use Rattle.kept_edits.proofs.Lists.{some_at}
-use Rattle.kept_edits.proofs.Needing.{insert_before, insert_behind, remove_before, remove_behind}
+use Rattle.kept_edits.specs.Need.{CameFrom}
 
 abbrev pub id_of : Node → ℕ
 id_of node = (head_of node).id.0
-
--- ---- two places
-
-abbrev Compared : ℕ → ℕ → Type 0
-Compared i j = (j < i) ⊎ ((j ≡ i) ⊎ (i < j))
-
-compared_next : (i j : ℕ) → Compared i j → Compared (suc i) (suc j)
-compared_next i j (inl l) = inl (omega (arith, l))
-compared_next i j (inr (inl e)) = inr (inl (ap suc e))
-compared_next i j (inr (inr l)) = inr (inr (omega (arith, l)))
-
-compared : (i j : ℕ) → Compared i j
-compared zero zero = inr (inl refl)
-compared zero (suc j) = inr (inr (omega arith))
-compared (suc i) zero = inl (omega arith)
-compared (suc i) (suc j) = compared_next i j (compared i j)
-
-alike : (i j : ℕ) → Compared i j → (j ≡ i) ⊎ (j ≡ i → ⊥)
-alike i j (inl l) = inr (λ e. omega (arith, l, e))
-alike i j (inr (inl e)) = inl e
-alike i j (inr (inr l)) = inr (λ e. omega (arith, l, e))
-
-insert_here : (nodes : List Node) (i : ℕ) (child : Node) → i ≤ length nodes → slice_get (insert nodes i child) i ≡ Some child
-insert_here nodes zero child w = refl
-insert_here [] (suc i) child w = absurd (omega (arith, w))
-insert_here (n ∷ nodes) (suc i) child w = insert_here nodes i child (omega (arith, w))
 
 -- ---- ids
 
@@ -67,17 +41,9 @@ id_within P path from element at h =
     ∙ ap (λ (l : List Listed). frame.front ++ (l ++ frame.back)) (listed_element level element) in
     id_among P frame.front (below ++ frame.back) (shown level element) (subst (λ (l : List Listed). AllByRecursion P (ids_of l)) split h)
 
--- a change keeps the id of the element that it changes
-same_id : (change : Change) (element : Node) → id_of (changed change element) ≡ id_of element
-same_id (SetText text) element = ap (λ (h : Head). h.id.0) (head_rolled (with_text text (head_of element)) (children_of element))
-same_id (SetValue name value room) element = ap (λ (h : Head). h.id.0) (head_rolled (with_attribute name value (head_of element)) (children_of element))
-same_id (PutChild index child room) element = ap (λ (h : Head). h.id.0) (head_rolled (head_of element) (insert (children_of element) index child))
-same_id (TakeChild index) element = ap (λ (h : Head). h.id.0) (head_rolled (head_of element) (remove (children_of element) index))
-same_id (SwapChild index child) element = ap (λ (h : Head). h.id.0) (head_rolled (head_of element) (set (children_of element) index child))
-
--- and that of the element over which it changes one
+-- the element over one that is changed keeps its id, as that one does
 id_after : (path : List ℕ) (change : Change) (old : Node) → FitsAt change path old → id_of (changed_at (changed change) path old) ≡ id_of old
-id_after [] change old fits = same_id change old
+id_after [] change old fits = id_stays change old
 id_after (place ∷ path) change old fits =
     let below = down path (slice_get (children_of old) place) fits.element fits.at in
     ap id_of (changed_below (changed change) place path old below.0 below.1)
@@ -90,77 +56,37 @@ Below path nodes place n = option_and_then (node_at path) (slice_get nodes place
 
 -- it is in what was put in, or in a child that was there
 abbrev Sourced : ℕ → Change → List ℕ → Node → ℕ → Node → Type 0
-Sourced next change path old place n = (next ≤ id_of n) ⊎ ((before : ℕ) × IsMoved change before place × Below path (children_of old) before n)
+Sourced next change path old place n = (next ≤ id_of n) ⊎ ((before : ℕ) × Moves (site_of (splice_of change)) before place × Below path (children_of old) before n)
 
 module _ (path : List ℕ) (n : Node) where
-  -- what stands at a place of a list stands at one of another
-  elsewhere : (xs ys : List Node) (i j : ℕ) → slice_get xs i ≡ slice_get ys j → Below path xs i n → Below path ys j n
-  elsewhere xs ys i j e h = ap (option_and_then (node_at path)) (sym e) ∙ h
-
-  new_there : (next : ℕ) (nodes : List Node) (i : ℕ) (child : Node) → slice_get nodes i ≡ Some child → AllByRecursion (λ id. next ≤ id) (ids_of (listed 1 child))
-      → Below path nodes i n → next ≤ id_of n
-  new_there next nodes i child at new h = id_within (λ id. next ≤ id) path child n (ap (option_and_then (node_at path)) (sym at) ∙ h) new
-
-  sourced_put : (next : ℕ) (old : Node) (index place : ℕ) (child : Node) (room : ℕ) → index ≤ length (children_of old)
-      → AllByRecursion (λ id. next ≤ id) (ids_of (listed 1 child)) → Below path (insert (children_of old) index child) place n → Compared index place
-      → Sourced next (PutChild index child room) path old place n
-  sourced_put next old index place child room w new h (inl l) =
-      let nodes = children_of old in
-      inr (place, inl (l, refl), elsewhere (insert nodes index child) nodes place place (insert_before nodes index place child w l) h)
-  sourced_put next old index place child room w new h (inr (inl e)) =
-      let all = insert (children_of old) index child in
-      inl (new_there next all place child (ap (slice_get all) e ∙ insert_here (children_of old) index child w) new h)
-  sourced_put next old index place child room w new h (inr (inr l)) =
-      let nodes = children_of old in
-      let all = insert nodes index child in
-      let up : place ≡ suc (place - 1) = omega (arith, l) in
-      let same = ap (slice_get all) up ∙ insert_behind nodes index (place - 1) child w (omega (arith, l)) in
-      inr (place - 1, inr (l, omega (arith, l)), elsewhere all nodes place (place - 1) same h)
-
-  behind_taken : (next : ℕ) (old : Node) (index place : ℕ) → index < length (children_of old) → Below path (remove (children_of old) index) place n → index ≤ place
-      → Sourced next (TakeChild index) path old place n
-  behind_taken next old index place w h l =
-      let nodes = children_of old in
-      inr (suc place, inr (l, omega arith), elsewhere (remove nodes index) nodes place (suc place) (remove_behind nodes index place w l) h)
-
-  sourced_take : (next : ℕ) (old : Node) (index place : ℕ) → index < length (children_of old) → Below path (remove (children_of old) index) place n → Compared index place
-      → Sourced next (TakeChild index) path old place n
-  sourced_take next old index place w h (inl l) =
-      let nodes = children_of old in
-      inr (place, inl (l, refl), elsewhere (remove nodes index) nodes place place (remove_before nodes index place w l) h)
-  sourced_take next old index place w h (inr (inl e)) = behind_taken next old index place w h (omega (arith, e))
-  sourced_take next old index place w h (inr (inr l)) = behind_taken next old index place w h (omega (arith, l))
-
-  sourced_swap : (next : ℕ) (old : Node) (index place : ℕ) (child : Node) → index < length (children_of old)
-      → AllByRecursion (λ id. next ≤ id) (ids_of (listed 1 child)) → Below path (set (children_of old) index child) place n → (place ≡ index) ⊎ (place ≡ index → ⊥)
-      → Sourced next (SwapChild index child) path old place n
-  sourced_swap next old index place child w new h (inl e) =
-      let all = set (children_of old) index child in
-      let was = some_at (children_of old) index w in
-      inl (new_there next all place child (ap (slice_get all) e ∙ set_here (children_of old) index child was.0 was.1) new h)
-  sourced_swap next old index place child w new h (inr other) =
-      let nodes = children_of old in
-      let there = down path (slice_get (set nodes index child) place) n h in
-      elim (set_cases nodes index place child there.0 there.1) [
-        | inl p ↦ absurd (other p.0)
-        | inr same ↦ inr (place, (refl, other), ap (option_and_then (node_at path)) same ∙ there.2)
-      ]
-
   rolled : (head : Head) (nodes : List Node) (place : ℕ) → Below path (children_of (node_of head nodes)) place n → Below path nodes place n
   rolled head nodes place h = ap (λ (l : List Node). option_and_then (node_at path) (slice_get l place)) (sym (children_rolled head nodes)) ∙ h
 
+  -- it is in a child that was put in, or in one that was there
+  of_child : (next : ℕ) (change : Change) (old : Node) (place : ℕ) (child : Node) → BringsNew next change → node_at path child ≡ Some n
+      → Brings (splice_of change) place child ⊎ ((before : ℕ) × Moves (site_of (splice_of change)) before place × (slice_get (children_of old) before ≡ Some child))
+      → Sourced next change path old place n
+  of_child next change old place child new at (inl put) =
+      inl (id_within (λ id. next ≤ id) path child n at
+      (brought_holds (λ (c : Node). AllByRecursion (λ id. next ≤ id) (ids_of (listed 1 c))) (splice_of change) place child new put))
+  of_child next change old place child new at (inr was) = inr (was.0, was.1, ap (option_and_then (node_at path)) was.2 ∙ at)
+
   sourced : (next : ℕ) (change : Change) (old : Node) (place : ℕ) → Fits change old → BringsNew next change → Below path (children_of (changed change old)) place n
       → Sourced next change path old place n
-  sourced next (SetText text) old place fits new h = inr (place, refl, rolled (with_text text (head_of old)) (children_of old) place h)
-  sourced next (SetValue name value room) old place fits new h = inr (place, refl, rolled (with_attribute name value (head_of old)) (children_of old) place h)
-  sourced next (PutChild index child room) old place fits new h =
-      sourced_put next old index place child room fits.0 new (rolled (head_of old) (insert (children_of old) index child) place h) (compared index place)
-  sourced next (TakeChild index) old place fits new h =
-      sourced_take next old index place fits (rolled (head_of old) (remove (children_of old) index) place h) (compared index place)
-  sourced next (SwapChild index child) old place fits new h =
-      sourced_swap next old index place child fits new (rolled (head_of old) (set (children_of old) index child) place h) (alike index place (compared index place))
+  sourced next change old place fits new h =
+      let all = spliced (splice_of change) (children_of old) in
+      let there = down path (slice_get all place) n (ap (λ (l : List Node). option_and_then (node_at path) (slice_get l place)) (sym (children_changed change old)) ∙ h) in
+      of_child next change old place there.0 new there.2
+      (comes (splice_of change) (children_of old) place there.0 (fits_children change old fits) there.1)
 
 -- ---- an element of the changed tree
+
+same_place : (i j : ℕ) → (i ≡ j) ⊎ (i ≡ j → ⊥)
+same_place i j = by (nat_eq i j) refl
+  where
+    by : (b : Bool) → nat_eq i j ≡ b → (i ≡ j) ⊎ (i ≡ j → ⊥)
+    by true e = inl ((Decides-eqb i j).0 e)
+    by false e = inr (λ same. true≢false (sym ((Decides-eqb i j).1 same) ∙ e))
 
 -- one on a path has an id
 pub record StandsOn (path : List ℕ) (old : Node) (id : ℕ) : Type 0 where
@@ -216,7 +142,7 @@ module _ (next : ℕ) (change : Change) (new : BringsNew next change) where
       let child = changed_at (changed change) path below.0 in
       let there : Below to (set nodes place child) after n =
       rolled to n (head_of old) (set nodes place child) after (ap (node_at (after ∷ to)) (sym (changed_below (changed change) place path old below.0 below.1)) ∙ e) in
-      elim (alike place after (compared place after)) [
+      elim (same_place after place) [
         | inl same ↦
             let at : slice_get (set nodes place child) after ≡ Some child = ap (slice_get (set nodes place child)) same ∙ set_here nodes place child below.0 below.1 in
             let inside : node_at to child ≡ Some n = ap (option_and_then (node_at to)) (sym at) ∙ there in

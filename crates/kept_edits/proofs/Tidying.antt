@@ -11,6 +11,10 @@ use Rattle.tree_edits.specs.Edits.{head_of}
 use Rattle.tree_edits.specs.Paths.{FitsAt, children_of}
 use Rattle.tree_edits.specs.declared.change.Change.{Change}
 use Rattle.embellished.specs.declared.facts.Facts.{Facts}
+use Rattle.splices.proofs.Origins.{each_spliced}
+use Rattle.splices.proofs.Places.{some_at}
+use Rattle.splices.specs.Splicing.{AllBrought, FitsIn, spliced}
+use Rattle.splices.specs.declared.splice.Splice.{Splice}
 use Rattle.kept_results.specs.Laws.{is_unmarked}
 use Rattle.kept_results.specs.Looking.{own_facts}
 use Rattle.kept_results.specs.Tidy.{AreTidy, IsTidy, is_calm}
@@ -19,24 +23,16 @@ use Rattle.kept_results.specs.declared.memo.Memo.TheViews.{out-Memo}
 use Rattle.kept_results.proofs.Lists.{set_cases, set_here}
 use Rattle.kept_results.proofs.Tidying.{IsClean, clean_below, clean_calm, clean_tidy, mark_calms, tidy_below, tidy_made, tidy_set}
 use Rattle.kept_edits.specs.Blank.{blank}
-use Rattle.kept_edits.specs.Changed.{FitsBelow, FitsMemo, changed_below, changed_memo, renewed, renewed_on, with_below, seen_anew}
+use Rattle.kept_edits.specs.Changed.{FitsMemo, changed_memo, renewed, renewed_on, with_below, seen_anew}
 use Rattle.kept_edits.specs.Laws.{IsReadyFor, KnownOn}
-use Rattle.kept_edits.specs.Passed.{PutsTidy}
-use Rattle.kept_edits.specs.declared.change.MemoChange.{MemoChange}
-use Rattle.kept_edits.specs.declared.change.MemoChange.TheVariants.{Stay, PutMemo, TakeMemo, SwapMemo}
 use Rattle.kept_edits.specs.declared.change.Renewal.{Renewal}
 use Rattle.kept_edits.proofs.Changing.{after, child_on, marked, marked_is, paired}
-use Rattle.kept_edits.proofs.Lists.{both_insert, both_remove, some_at}
 use Rattle.kept_edits.proofs.Unlaid.{blank_law}
 
 -- ---- the memos of an element's children
 
-tidy_below_changed : (change : MemoChange) (below : List Memo) → FitsBelow change below → PutsTidy change → AreTidy below → AreTidy (changed_below change below)
-tidy_below_changed Stay below fits put h = h
-tidy_below_changed (PutMemo index memo room) below fits put h = λ place kept at.
-    elim (both_insert below below index place memo kept memo kept refl fits.0 at at) [ inl e ↦ subst IsTidy (sym e.0) put | inr t ↦ h t.0 kept t.1 ]
-tidy_below_changed (TakeMemo index) below fits put h = λ place kept at. let t = both_remove below below index place kept kept refl at at in h t.0 kept t.1
-tidy_below_changed (SwapMemo index memo) below fits put h = tidy_set below index memo h put
+tidy_spliced : (splice : Splice Memo) (below : List Memo) → FitsIn splice below → AllBrought IsTidy splice → AreTidy below → AreTidy (spliced splice below)
+tidy_spliced splice below fits put h = each_spliced IsTidy splice below fits put h
 
 -- ---- on the way
 
@@ -59,19 +55,19 @@ tidy_marked : (memo : Memo) (own : Renewal) (below : List Memo)
 tidy_marked memo own below others h = subst IsTidy (sym (marked_is memo own below)) (tidy_made (marked memo own below) (mark_calms (marked memo own below) refl others) h)
 
 -- what was clean is tidy after a change
-pub changed_tidy : (change : MemoChange) (known : List Renewal) (path : List ℕ) (memo : Memo) → NamesWay known path → FitsMemo change path memo → PutsTidy change → IsClean memo
-    → IsTidy (changed_memo change known path memo)
-changed_tidy change known [] memo names fits put h =
-    tidy_marked memo (get_or known 0 (seen_anew (own_facts memo))) (changed_below change (out-Memo memo).below)
+pub changed_tidy : (splice : Splice Memo) (known : List Renewal) (path : List ℕ) (memo : Memo) → NamesWay known path → FitsMemo splice path memo → AllBrought IsTidy splice → IsClean memo
+    → IsTidy (changed_memo splice known path memo)
+changed_tidy splice known [] memo names fits put h =
+    tidy_marked memo (get_or known 0 (seen_anew (own_facts memo))) (spliced splice (out-Memo memo).below)
     (λ but alike. let own = own_alike known 0 (own_facts memo) but alike in absurd (names own.0 but own.1 own.2))
-    (tidy_below_changed change (out-Memo memo).below fits put (tidy_below memo (clean_tidy memo h.unmarked h.plain)))
-changed_tidy change known (place ∷ path) memo names fits put h =
+    (tidy_spliced splice (out-Memo memo).below fits put (tidy_below memo (clean_tidy memo h.unmarked h.plain)))
+changed_tidy splice known (place ∷ path) memo names fits put h =
     let below : List Memo = (out-Memo memo).below in
     let kept : Memo = fits.0 in
-    let new : Memo = changed_memo change known path kept in
-    let there = changed_tidy change known path kept names.1 fits.2 put (clean_below memo h place kept fits.1) in
-    let is : changed_memo change known (place ∷ path) memo ≡ with_below (renewed_on known (place ∷ path) memo) (set below place new) =
-    ap (λ o. with_below (renewed_on known (place ∷ path) memo) (option_map_or (λ z. set below place (changed_memo change known path z)) o below)) fits.1 in
+    let new : Memo = changed_memo splice known path kept in
+    let there = changed_tidy splice known path kept names.1 fits.2 put (clean_below memo h place kept fits.1) in
+    let is : changed_memo splice known (place ∷ path) memo ≡ with_below (renewed_on known (place ∷ path) memo) (set below place new) =
+    ap (λ o. with_below (renewed_on known (place ∷ path) memo) (option_map_or (λ z. set below place (changed_memo splice known path z)) o below)) fits.1 in
     let others : (but : ℕ) → (get_or known (length (place ∷ path)) (seen_anew (own_facts memo))).alike_but ≡ Some but
     → (j : ℕ) (one : Memo) → slice_get (set below place new) j ≡ Some one → (j ≡ but → ⊥) → is_calm (out-Memo one) ≡ true =
     λ but alike j one at other.
@@ -108,8 +104,8 @@ names_way m (place ∷ path) node memo change known h fits is =
     )
 
 -- before an edit a memo has no marks, and nothing of it is fresh
-pub changed_is_tidy : (m : MetricsValue) (node : Node) (change : Change) (other : MemoChange) (known : List Renewal) (path : List ℕ) (memo : Memo) → is_unmarked memo ≡ true
-    → IsReadyFor m node memo → FitsAt change path node → KnownOn known path (after m change path node) memo → FitsMemo other path memo → PutsTidy other
+pub changed_is_tidy : (m : MetricsValue) (node : Node) (change : Change) (other : Splice Memo) (known : List Renewal) (path : List ℕ) (memo : Memo) → is_unmarked memo ≡ true
+    → IsReadyFor m node memo → FitsAt change path node → KnownOn known path (after m change path node) memo → FitsMemo other path memo → AllBrought IsTidy other
     → IsTidy (changed_memo other known path memo)
 changed_is_tidy m node change other known path memo unmarked ready at is fits put =
     changed_tidy other known path memo (names_way m path node memo change known ready at is) fits put record { unmarked = unmarked; plain = ready.plain }

@@ -9,7 +9,13 @@ use Rattle.kept_results.specs.declared.memo.Memo.{Memo}
 use Rattle.kept_results.specs.declared.memo.Memo.TheViews.{roll-Memo}
 
 abbrev pub blank_over : Head → List Memo → Memo
-blank_over head below = roll-Memo record { former = None; facts = facts_over head (map own_facts below); entries = []; below = below }
+blank_over head below =
+    roll-Memo record {
+      former = None;
+      facts = facts_over head (map own_facts below);
+      entries = [];
+      below = below;
+    }
 
 -- nothing is kept of any element, nor is one marked
 unfoldable pub blank : Node → Memo

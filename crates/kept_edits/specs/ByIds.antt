@@ -1,13 +1,14 @@
 -- Which layouts an edit may have to make, told by ids.
 use Rattle.std.specs.Prelude.{◌≡◌, ⊤, ◌⊎◌, ℕ, ◌+◌, ◌≤◌, true, List, [], ◌∷◌, ◌++◌, length, None, Some}
 use Rattle.std.specs.List.{AllByRecursion, Contains, list_any}
+use Rattle.splices.specs.Splicing.{AllBrought}
+use Rattle.splices.specs.declared.splice.Splice.{Splice}
 use Rattle.font_metrics.specs.Metrics.{MetricsValue}
 use Rattle.math_tree.specs.Trees.{IsWhole, TreeValue, ids_of, listed}
 use Rattle.math_tree.specs.declared.node.Node.{Node}
 use Rattle.tree_edits.specs.Edits.{edited, has_id, head_of, refusal_of}
-use Rattle.tree_edits.specs.Paths.{node_at}
+use Rattle.tree_edits.specs.Paths.{node_at, splice_of}
 use Rattle.tree_edits.specs.declared.change.Change.{Change}
-use Rattle.tree_edits.specs.declared.change.Change.TheVariants.{SetText, SetValue, PutChild, TakeChild, SwapChild}
 use Rattle.tree_edits.specs.declared.edit.Edit.{Edit}
 use Rattle.layout_model.specs.Layout.{Visit, root_context, visits}
 use Rattle.layout_model.specs.declared.context.Context.{Context}
@@ -19,7 +20,6 @@ use Rattle.kept_edits.specs.Edited.{IsChangeOf}
 use Rattle.kept_edits.specs.Laws.{IsSame}
 use Rattle.kept_edits.specs.Need.{IsCounted, IsSealedFor}
 use Rattle.kept_edits.specs.Passed.{TakesMissing}
-use Rattle.kept_edits.specs.declared.change.MemoChange.{MemoChange}
 use Rattle.kept_edits.specs.declared.change.Renewal.{Renewal}
 
 -- ---- what may have to be made
@@ -55,9 +55,10 @@ pub record IsOnPath (tree : TreeValue) (edit : Edit) (id : ℕ) : Type 0 where
   pub at : node_at front tree.root ≡ Some element
   pub has : has_id id (head_of element) ≡ true
 
--- the layout of the edited tree needs it; and its element is on the path of the edit, or is none of the old tree, or
--- the layout of the old tree didn't need it
-pub record IsNeeded (m : MetricsValue) (old : TreeValue) (edit : Edit) (pair : IdPair) : Type 0 where
+-- the layout of the edited tree needs it; and its element is on the path of the edit, or is none of
+-- the old tree, or the layout of the old tree didn't need it
+pub record IsNeeded (m : MetricsValue) (old : TreeValue) (edit : Edit)
+    (pair : IdPair) : Type 0 where
   pub visited : IsVisited m (edited old edit) pair
   pub why : IsOnPath old edit pair.id ⊎ ((HasId old pair.id → ⊥) ⊎ (IsVisited m old pair → ⊥))
 
@@ -66,7 +67,8 @@ NoneTwice [] = ⊤
 NoneTwice (pair ∷ pairs) = AllByRecursion (λ other. pair ≡ other → ⊥) pairs × NoneTwice pairs
 
 -- each of so many steps is a layout that an edit of a tree needs, none twice
-pub record TakesNeeded (m : MetricsValue) (old : TreeValue) (edit : Edit) (from to : ℕ) : Type 0 where
+pub record TakesNeeded (m : MetricsValue) (old : TreeValue) (edit : Edit)
+    (from to : ℕ) : Type 0 where
   pub pairs : List IdPair
   pub steps : to ≡ from + length pairs
   pub needed : AllByRecursion (IsNeeded m old edit) pairs
@@ -76,14 +78,13 @@ pub record TakesNeeded (m : MetricsValue) (old : TreeValue) (edit : Edit) (from 
 
 -- what a change puts into a tree has no ids but new ones, which are this or above it
 abbrev pub BringsNew : ℕ → Change → Type 0
-BringsNew next (SetText text) = ⊤
-BringsNew next (SetValue name value room) = ⊤
-BringsNew next (PutChild index child room) = AllByRecursion (λ id. next ≤ id) (ids_of (listed 1 child))
-BringsNew next (TakeChild index) = ⊤
-BringsNew next (SwapChild index child) = AllByRecursion (λ id. next ≤ id) (ids_of (listed 1 child))
+BringsNew next change =
+    AllBrought (λ child. AllByRecursion (λ id. next ≤ id) (ids_of (listed 1 child)))
+    (splice_of change)
 
 -- an edit of a whole tree is this change at the end of its path, and leaves a whole tree
-pub record IsEditAt (tree : TreeValue) (edit : Edit) (change : Change) (path : List ℕ) : Type 0 where
+pub record IsEditAt (tree : TreeValue) (edit : Edit) (change : Change)
+    (path : List ℕ) : Type 0 where
   pub whole : IsWhole tree
   pub whole_after : IsWhole (edited tree edit)
   pub to_end : IsEditPath tree edit path
@@ -92,20 +93,31 @@ pub record IsEditAt (tree : TreeValue) (edit : Edit) (change : Change) (path : L
 
 -- an edit that isn't refused is such a change
 abbrev pub EditAtLaw : Type 0
-EditAtLaw = (tree : TreeValue) (edit : Edit) → IsWhole tree → IsWhole (edited tree edit) → refusal_of tree edit ≡ None →
+EditAtLaw =
+    (tree : TreeValue) (edit : Edit) → IsWhole tree → IsWhole (edited tree edit) →
+    refusal_of tree edit ≡ None →
     (change : Change) × (path : List ℕ) × IsEditAt tree edit change path
 
--- layouts that are needed after it and are counted by places, none twice, are ones that it needs by ids
+-- layouts that are needed after it and are counted by places, none twice, are ones that it needs by
+-- ids
 abbrev pub NeedLaw : Type 0
-NeedLaw = (m : MetricsValue) (tree : TreeValue) (edit : Edit) (change : Change) (path : List ℕ) (pairs : List Pair) (from to : ℕ) →
+NeedLaw =
+    (m : MetricsValue) (tree : TreeValue) (edit : Edit) (change : Change) (path : List ℕ)
+    (pairs : List Pair) (from to : ℕ) →
     IsEditAt tree edit change path → to ≡ from + length pairs →
     AllByRecursion (Needs m (edited tree edit).root (context_at_root m (edited tree edit))) pairs →
-    AllByRecursion (IsCounted m path change tree.root (context_at_root m tree)) pairs → HasNoRepeat pairs →
+    AllByRecursion (IsCounted m path change tree.root (context_at_root m tree)) pairs →
+    HasNoRepeat pairs →
     TakesNeeded m tree edit from to
 
 -- and so are the steps of a pass after it
 abbrev pub PassNeedLaw : Type 0
-PassNeedLaw = (m : MetricsValue) (tree : TreeValue) (edit : Edit) (change : Change) (path : List ℕ) (memo : Memo) (other : MemoChange) (known : List Renewal)
-    (from to : ℕ) → IsEditAt tree edit change path → IsSealedFor m tree.root (context_at_root m tree) memo → FitsMemo other path memo → IsSame m change other →
-    TakesMissing m (edited tree edit).root (context_at_root m (edited tree edit)) (changed_memo other known path memo) from to →
+PassNeedLaw =
+    (m : MetricsValue) (tree : TreeValue) (edit : Edit) (change : Change) (path : List ℕ)
+    (memo : Memo) (other : Splice Memo) (known : List Renewal)
+    (from to : ℕ) → IsEditAt tree edit change path →
+    IsSealedFor m tree.root (context_at_root m tree) memo → FitsMemo other path memo →
+    IsSame m change other →
+    TakesMissing m (edited tree edit).root (context_at_root m (edited tree edit))
+    (changed_memo other known path memo) from to →
     TakesNeeded m tree edit from to

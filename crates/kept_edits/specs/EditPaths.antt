@@ -13,8 +13,10 @@ abbrev pub IsEnd : Edit → Node → Type 0
 IsEnd (Text id text) element = has_id id.0 (head_of element) ≡ true
 IsEnd (Attr id name value) element = has_id id.0 (head_of element) ≡ true
 IsEnd (Insert id index new) element = has_id id.0 (head_of element) ≡ true
-IsEnd (Remove id) element = list_any (λ child. has_id id.0 (head_of child)) (children_of element) ≡ true
-IsEnd (Replace id new) element = list_any (λ child. has_id id.0 (head_of child)) (children_of element) ≡ true
+IsEnd (Remove id) element =
+    list_any (λ child. has_id id.0 (head_of child)) (children_of element) ≡ true
+IsEnd (Replace id new) element =
+    list_any (λ child. has_id id.0 (head_of child)) (children_of element) ≡ true
 
 -- the path from the root to that element
 pub record IsEditPath (tree : TreeValue) (edit : Edit) (path : List ℕ) : Type 0 where

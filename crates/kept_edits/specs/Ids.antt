@@ -20,11 +20,15 @@ OneWayLaw = (tree : TreeValue) (a b : List ℕ) (x y : Node) (id : ℕ) → IsWh
     node_at a tree.root ≡ Some x → has_id id (head_of x) ≡ true →
     node_at b tree.root ≡ Some y → has_id id (head_of y) ≡ true → a ≡ b
 
--- and so two layouts of one id in one context are one: a list of places and contexts without repeats is one of ids
--- and contexts without repeats. Each layout that is needed is of an element of the tree
+-- and so two layouts of one id in one context are one: a list of places and contexts without
+-- repeats is one of ids and contexts without repeats. Each layout that is needed is of an element
+-- of the tree
 pub record NamesApart (tree : TreeValue) (p q : Pair) : Type 0 where
-  pub same : (id : ℕ) → HasIdAt tree.root p id → HasIdAt tree.root q id → p.context ≡ q.context → p ≡ q
+  pub same : (id : ℕ) → HasIdAt tree.root p id → HasIdAt tree.root q id → p.context ≡ q.context →
+      p ≡ q
 
 abbrev pub IdsLaw : Type 0
-IdsLaw = (m : MetricsValue) (tree : TreeValue) (context : Context) (p : Pair) → IsWhole tree → Needs m tree.root context p →
+IdsLaw =
+    (m : MetricsValue) (tree : TreeValue) (context : Context) (p : Pair) → IsWhole tree →
+    Needs m tree.root context p →
     ((id : ℕ) × HasIdAt tree.root p id) × ((q : Pair) → NamesApart tree p q)

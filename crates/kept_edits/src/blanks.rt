@@ -7,8 +7,8 @@ use kept_results::Memo;
 use math_tree::Node;
 use std::alloc::Global;
 
-/// The memo of an element that was never laid out, with all below it: nothing is kept. It has room for
-/// one layout, since most elements are asked in one context.
+/// The memo of an element that was never laid out, with all below it: nothing is kept. It has room
+/// for one layout, since most elements are asked in one context.
 pub fn blank(alloc: Global, node: &Node) -> Result<Memo, Memory>
     ensures { IfOk result (λ memo. memo ≡ blank node.now) }
 {

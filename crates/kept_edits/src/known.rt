@@ -4,38 +4,40 @@ ghost use Rattle.math_tree.specs.declared.node.Node.TheViews.{out-Node};
 ghost use Rattle.embellished.specs.Facts.{facts};
 ghost use Rattle.kept_results.specs.Looking.{own_facts};
 ghost use Rattle.kept_results.specs.declared.memo.Memo.TheViews.{out-Memo};
-ghost use Rattle.kept_edits.specs.Changed.{FitsBelow, FitsMemo, changed_below, seen_anew};
+ghost use Rattle.kept_edits.specs.Changed.{FitsMemo, seen_anew};
+ghost use Rattle.splices.specs.Splicing.{FitsIn, spliced};
 ghost use Rattle.kept_edits.specs.Known.{IsBeside, IsKnownOn};
 
-use crate::change::{MemoChange, Renewal};
+use crate::change::Renewal;
 use embellished::{Facts, facts_of};
 use fixed_units::{List, Memory};
 use kept_results::{Memo, facts_below, is_marked};
 use math_tree::Node;
+use splices::Splice;
 use std::alloc::Global;
 
 /// What the elements on the way to a changed one are, that one first: of the changed tree, and the
-/// memos that are not changed yet. Of other elements only what is known of the children of those on the
-/// way is read. An element whose child on the way is what it was is what it was.
+/// memos that are not changed yet. Of other elements only what is known of the children of those on
+/// the way is read. An element whose child on the way is what it was is what it was.
 pub fn known_on(
     alloc: Global,
     node: &Node,
     memo: &Memo,
     path: &[usize],
-    change: &MemoChange,
+    splice: &Splice<Memo>,
 ) -> Result<List<Renewal>, Memory>
-    requires fits { FitsMemo change.now path.now memo.now }
-    requires beside { IsBeside change.now path.now node.now memo.now }
+    requires fits { FitsMemo splice.now path.now memo.now }
+    requires beside { IsBeside splice.now path.now node.now memo.now }
     ensures { IfOk result (IsKnownOn path.now node.now memo.now) }
 {
     if path.len() == 0 {
-        let kids = kids_after(alloc, &memo.below, change)?;
+        let kids = kids_after(alloc, &memo.below, splice)?;
         add_own(alloc, node, &kids, List::make(alloc))
     } else {
         let place = path[0];
         let child = child_at(node, place);
         let below = memo_at(memo, place);
-        let mut known = known_on(alloc, child, below, &path[1..], change)?;
+        let mut known = known_on(alloc, child, below, &path[1..], splice)?;
         let own = known.as_slice()[path.len() - 1].facts;
         if !is_marked(memo) && is_same(&own, &below.facts) {
             known.push(Renewal {
@@ -49,8 +51,8 @@ pub fn known_on(
     }
 }
 
-/// Whether two elements are the same among operators, and neither of them is an embellished one. Those
-/// aren't compared.
+/// Whether two elements are the same among operators, and neither of them is an embellished one.
+/// Those aren't compared.
 fn is_same(a: &Facts, b: &Facts) -> bool
     ensures { result ≡ true → a.now ≡ b.now }
 {
@@ -82,7 +84,8 @@ fn memo_at(memo: &Memo, place: usize) -> &Memo
     }
 }
 
-/// Adds what an element is, over what its children are. Layout may see something else of it than before.
+/// Adds what an element is, over what its children are. Layout may see something else of it than
+/// before.
 fn add_own(
     alloc: Global,
     node: &Node,
@@ -115,25 +118,29 @@ fn kids_with(
     Ok(kids)
 }
 
-/// The same after a change.
-fn kids_after(alloc: Global, below: &List<Memo>, change: &MemoChange) -> Result<List<Facts>, Memory>
-    requires { FitsBelow change.now below.now }
-    ensures { IfOk result (λ kids. kids ≡ map own_facts (changed_below change.now below.now)) }
+/// The same after a splice.
+fn kids_after(
+    alloc: Global,
+    below: &List<Memo>,
+    splice: &Splice<Memo>,
+) -> Result<List<Facts>, Memory>
+    requires { FitsIn splice.now below.now }
+    ensures { IfOk result (λ kids. kids ≡ map own_facts (spliced splice.now below.now)) }
 {
     let all = below.as_slice();
-    match change {
-        MemoChange::Stay => facts_below(alloc, all),
-        MemoChange::PutMemo(index, memo, _) => {
+    match splice {
+        Splice::Stay => facts_below(alloc, all),
+        Splice::Put(index, memo, _) => {
             let mut kids = facts_below(alloc, &all[..*index])?;
             kids.push(memo.facts)?;
             kids.push_all(facts_below(alloc, &all[*index..])?.as_slice())?;
             Ok(kids)
         }
-        MemoChange::TakeMemo(index) => {
+        Splice::Take(index) => {
             let mut kids = facts_below(alloc, &all[..*index])?;
             kids.push_all(facts_below(alloc, &all[*index + 1..])?.as_slice())?;
             Ok(kids)
         }
-        MemoChange::SwapMemo(index, memo) => kids_with(alloc, below, *index, memo.facts),
+        Splice::Swap(index, memo) => kids_with(alloc, below, *index, memo.facts),
     }
 }

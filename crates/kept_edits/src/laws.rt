@@ -10,8 +10,8 @@ ghost use Rattle.kept_edits.specs.Known.{BesideLaw};
 ghost use Rattle.kept_edits.specs.Laws.{BackLaw, BlankLaw, ChangeLaw};
 ghost use Rattle.kept_edits.specs.Need.{CountedLaw, StaysLaw};
 
-/// Where the same is changed in a tree and in memos that agree with it, they agree again, whatever the
-/// metrics are.
+/// Where the same is changed in a tree and in memos that agree with it, they agree again, whatever
+/// the metrics are.
 pub fn changed_memos_agree()
     ensures { ChangeLaw }
 {}
@@ -36,8 +36,8 @@ pub fn what_an_edit_leaves_alone_stays_kept()
     ensures { StaysLaw }
 {}
 
-/// Each step of a pass after an edit is a layout of an element that is new or on the way to the edit, or
-/// one that wasn't needed before; none is taken twice.
+/// Each step of a pass after an edit is a layout of an element that is new or on the way to the
+/// edit, or one that wasn't needed before; none is taken twice.
 pub fn a_pass_takes_what_is_counted()
     ensures { CountedLaw }
 {}
@@ -47,7 +47,8 @@ pub fn there_is_one_way_to_an_id()
     ensures { OneWayLaw }
 {}
 
-/// Each layout that is needed is of an element of the tree, and two of one id in one context are one.
+/// Each layout that is needed is of an element of the tree, and two of one id in one context are
+/// one.
 pub fn needed_layouts_are_told_by_ids()
     ensures { IdsLaw }
 {}
@@ -57,19 +58,20 @@ pub fn an_edit_has_one_path()
     ensures { EditPathLaw }
 {}
 
-/// An edit of a whole tree that isn't refused is one change at the end of that path, and brings new ids
-/// only.
+/// An edit of a whole tree that isn't refused is one change at the end of that path, and brings new
+/// ids only.
 pub fn an_edit_changes_the_end_of_its_path()
     ensures { EditAtLaw }
 {}
 
-/// Layouts that are needed after an edit and are counted by places are ones that the edit needs, told by
-/// ids.
+/// Layouts that are needed after an edit and are counted by places are ones that the edit needs,
+/// told by ids.
 pub fn counted_layouts_are_needed()
     ensures { NeedLaw }
 {}
 
-/// Each step of a pass after an edit is a layout that the edit needs, told by ids; none is taken twice.
+/// Each step of a pass after an edit is a layout that the edit needs, told by ids; none is taken
+/// twice.
 pub fn a_pass_takes_what_an_edit_needs()
     ensures { PassNeedLaw }
 {}
@@ -89,7 +91,8 @@ pub fn memos_follow_an_edit()
     ensures { FollowLaw }
 {}
 
-/// A pass that was done and is sealed leaves no edit under way, and all that the root needs is kept.
+/// A pass that was done and is sealed leaves no edit under way, and all that the root needs is
+/// kept.
 pub fn an_accepted_edit_is_sealed()
     ensures { AcceptedLaw }
 {}

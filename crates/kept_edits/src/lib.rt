@@ -1,22 +1,22 @@
 //! What an edit does to the layouts that are kept beside a tree.
 //!
-//! An edit changes one element at the end of a way. The memos on that way are marked, so that no layout
-//! that they keep counts, and get the facts of their elements as these are then; a memo is put in, taken
-//! out or put in the place of another where a child is.
+//! An edit changes one element at the end of a way. The memos on that way are marked, so that no
+//! layout that they keep counts, and get the facts of their elements as these are then; a memo is
+//! put in, taken out or put in the place of another where a child is.
 //!
 //! - Models: this project's own; MathML Core says nothing of it.
-//! - Proved: after the same change of both, memos agree with the tree again, and taking the change back
-//!   gives the memos that were there before; each step of a pass after an edit is a layout that the
-//!   edit needs, told by ids, none twice (`laws`).
+//! - Proved: after the same change of both, memos agree with the tree again, and taking the change
+//!   back gives the memos that were there before; each step of a pass after an edit is a layout
+//!   that the edit needs, told by ids, none twice (`laws`).
 //! - Knows nothing of: how an edit is carried out on the tree, and how an element is laid out.
 //! - Change what an edit does to memos: `specs/Changed.antt`, then `src/change.rt`.
 #![tactic(auto)]
 
 mod blanks; // memos of elements that were never laid out
-mod change; // MemoChange, Renewal, change_memo, undo_memo
+mod change; // Renewal, change_memo, undo_memo
 mod known; // known_on
 pub mod laws; // of the definitions
 
 pub use blanks::blank;
-pub use change::{MemoChange, Renewal, change_memo, undo_memo};
+pub use change::{Renewal, change_memo, undo_memo};
 pub use known::known_on;

@@ -10,19 +10,22 @@ use Rattle.tree_edits.specs.declared.edit.Edit.{Edit}
 use Rattle.kept_results.specs.Passes.{Pair}
 use Rattle.kept_results.specs.declared.memo.Memo.{Memo}
 use Rattle.kept_results.proofs.Whole.{kept_law}
-use Rattle.kept_edits.specs.ByIds.{IsVisited}
+use Rattle.kept_edits.specs.ByIds.{IsEditAt, IsVisited}
 use Rattle.kept_edits.specs.Changed.{undone_memo}
 use Rattle.kept_edits.specs.Laws.{IsReadyFor}
-use Rattle.kept_edits.specs.declared.change.MemoChange.{MemoChange}
+use Rattle.splices.specs.declared.splice.Splice.{Splice}
 use Rattle.kept_edits.specs.Passed.{TakesMissing}
 use Rattle.kept_edits.proofs.ToldById.{IsNeededThere, all_named, as_many, missing_need, none_twice, visited}
 use Rattle.memo_tree.specs.Counted.{EntriesStay, MissingIsCounted, StepsLaw, VisitsLaw}
 use Rattle.memo_tree.specs.Followed.{IsBefore, IsFollowed}
+use Rattle.memo_tree.specs.Marked.{EachStays, MarksPath, NewIsBlank}
 use Rattle.memo_tree.specs.Reversing.{Reverses}
 use Rattle.memo_tree.specs.States.{IsChanged}
 use Rattle.memo_tree.specs.Trees.{IsLaidOut, MemoTreeValue, context_of}
 use Rattle.memo_tree.specs.Ways.{IsWay}
 use Rattle.memo_tree.specs.declared.way.Way.{Way}
+use Rattle.memo_tree.proofs.Marks.{blank_put, path_marked, stays_elsewhere, stays_on}
+use Rattle.memo_tree.proofs.Undone.{ready_then, stays_then, tidy_then}
 
 module _ (old : MemoTreeValue) (edit : Edit) (way : Way) (tree : TreeValue) (root : Node) (laid : IsLaidOut old) (is : IsWay old.tree edit way) (made : tree ≡ edited old.tree edit)
     (read : root ≡ tree.root) where
@@ -34,14 +37,17 @@ module _ (old : MemoTreeValue) (edit : Edit) (way : Way) (tree : TreeValue) (roo
     change = is.change;
     fits = is.is.fits;
     gives = read ∙ ap (λ (t : TreeValue). t.root) made ∙ is.is.gives;
-    alike = is.alike;
+    site_is = is.site_is;
     ready = laid.sealed.ready;
     unmarked = laid.sealed.unmarked;
   }
 
-  module _ (now : Memo) (back : MemoChange) (h : IsFollowed root old.memo way before now back) where
+  module _ (now : Memo) (back : Splice Memo) (h : IsFollowed root old.memo way before now back) where
     pub changed_now : IsChanged record { tree = tree; metrics = old.metrics; memo = now }
-    changed_now = record { ready = subst (λ (n : Node). IsReadyFor old.metrics n now) read h.ready; tidy = h.tidy }
+    changed_now = record {
+      ready = subst (λ (n : Node). IsReadyFor old.metrics n now) read (ready_then root old.memo now way before h.spliced);
+      tidy = tidy_then root old.memo now way before h.spliced;
+    }
 
     pub reverses : (taken : TakenValue) → Undoes taken tree old.tree
         → Reverses record { taken = taken; path = way.path; back = back } record { tree = tree; metrics = old.metrics; memo = now } old
@@ -51,23 +57,52 @@ module _ (old : MemoTreeValue) (edit : Edit) (way : Way) (tree : TreeValue) (roo
           ∙ ap (λ (z : Memo). record { tree = old.tree; metrics = old.metrics; memo = z }) h.gives;
     }
 
+    is_edit_at : IsWhole old.tree → IsWhole tree → IsEditAt old.tree edit is.change way.path
+    is_edit_at whole after = record { whole = whole; whole_after = subst IsWhole made after; to_end = is.leads; is = is.is; new = is.new }
+
     -- what was needed and is of elements that the edit leaves alone is kept
     pub counted : IsWhole old.tree → IsWhole tree → MissingIsCounted old edit record { tree = tree; metrics = old.metrics; memo = now }
     counted whole after = record {
       path = way.path;
       change = is.change;
-      is = record { whole = whole; whole_after = subst IsWhole made after; to_end = is.leads; is = is.is; new = is.new };
+      is = is_edit_at whole after;
       counted = λ pair missing from came need.
           let one = kept_law old.metrics old.tree.root old.memo (context_of old.metrics old.tree) laid.sealed.ready.agrees laid.sealed.kept record { path = from; context = pair.context } need in
-          missing record { entry = one.entry; held = h.stays from pair.path one.entry came one.held; in_context = one.in_context };
+          missing record { entry = one.entry; held = stays_then root old.memo now way before h.spliced from pair.path one.entry came one.held; in_context = one.in_context };
     }
 
     pub stays : IsWhole old.tree → IsWhole tree → EntriesStay old edit record { tree = tree; metrics = old.metrics; memo = now }
     stays whole after = record {
       path = way.path;
       change = is.change;
-      is = record { whole = whole; whole_after = subst IsWhole made after; to_end = is.leads; is = is.is; new = is.new };
-      stays = h.stays;
+      is = is_edit_at whole after;
+      stays = stays_then root old.memo now way before h.spliced;
+    }
+
+    -- ---- each memo
+
+    pub new_blank : IsWhole old.tree → IsWhole tree → NewIsBlank old edit record { tree = tree; metrics = old.metrics; memo = now }
+    new_blank whole after = record {
+      path = way.path;
+      change = is.change;
+      is = is_edit_at whole after;
+      is_blank = blank_put is.change way.path root old.memo now h.spliced;
+    }
+
+    pub marks_path : MarksPath old edit record { tree = tree; metrics = old.metrics; memo = now }
+    marks_path = record {
+      path = way.path;
+      to_end = is.leads;
+      marked = path_marked is.change way.path root old.memo now h.spliced old.metrics laid.sealed.unmarked;
+    }
+
+    pub each_stays : IsWhole old.tree → IsWhole tree → EachStays old edit record { tree = tree; metrics = old.metrics; memo = now }
+    each_stays whole after = record {
+      path = way.path;
+      change = is.change;
+      is = is_edit_at whole after;
+      on_path = stays_on is.change way.path root old.memo now h.spliced;
+      elsewhere = stays_elsewhere is.change way.path root old.memo now h.spliced;
     }
 
 -- ---- the steps of a pass after it

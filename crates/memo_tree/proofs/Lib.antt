@@ -1,6 +1,7 @@
 pub mod Changes
 pub mod Elements
 pub mod Followed
+pub mod Marks
 pub mod Rooms
 pub mod Roots
 pub mod Undone

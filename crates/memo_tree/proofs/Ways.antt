@@ -1,11 +1,14 @@
 -- The way to the element that an edit changes.
 use Rattle.std.proofs.Common.{◌≡◌, ◌∙◌, refl, sym, ap, subst, ℕ, List, [], ◌∷◌, ◌++◌, length, true, false, true≢false, arith, is_some, Option, None}
 use Rattle.std.specs.List.{list_any}
+use Rattle.splices.specs.Splicing.{site_of}
+use Rattle.splices.specs.declared.site.Site.{Site}
+use Rattle.splices.specs.declared.site.Site.TheVariants.{Stay, Put, Take, Swap}
 use Rattle.math_tree.specs.Trees.{IsWhole, TreeValue, listed}
 use Rattle.math_tree.specs.declared.node.Node.{Node}
 use Rattle.tree_edits.specs.Edits.{at_target, has_id, is_fixed, named, refusal_of}
 use Rattle.tree_edits.specs.Laws.{IsOfParent, IsOwn, own_change, parent_change}
-use Rattle.tree_edits.specs.Paths.{LeadsTo, node_at}
+use Rattle.tree_edits.specs.Paths.{LeadsTo, node_at, splice_of}
 use Rattle.tree_edits.specs.Reasons.{shown}
 use Rattle.tree_edits.specs.declared.edit.Edit.{Edit}
 use Rattle.tree_edits.specs.declared.edit.Edit.TheVariants.{Text, Attr, Insert, Remove, Replace}
@@ -16,32 +19,30 @@ use Rattle.kept_edits.specs.Edited.{with_room}
 use Rattle.kept_edits.proofs.EditEnds.{own_brings, own_path, parent_brings, parent_path}
 use Rattle.kept_edits.proofs.EditedTrees.{own_edit_law, parent_edit_law}
 use Rattle.memo_tree.proofs.Elements.{ends_at}
-use Rattle.memo_tree.specs.Ways.{IsAlike, IsWay}
-use Rattle.memo_tree.specs.declared.way.Place.{Place}
-use Rattle.memo_tree.specs.declared.way.Place.TheVariants.{Stay, Put, Take, Swap}
+use Rattle.memo_tree.specs.Ways.{IsWay}
 
-pub own_way : (tree : TreeValue) (edit : Edit) (path : List ℕ) (place : Place) → IsWhole tree → refusal_of tree edit ≡ None → IsOwn edit
-    → (leads : LeadsTo (named edit) 1 tree.root path) → IsAlike (with_room (own_change edit tree.next_id) leads.element) place
-    → IsWay tree edit record { path = path; place = place }
-own_way tree edit path place whole free own leads alike = record {
+pub own_way : (tree : TreeValue) (edit : Edit) (path : List ℕ) (site : Site) → IsWhole tree → refusal_of tree edit ≡ None → IsOwn edit
+    → (leads : LeadsTo (named edit) 1 tree.root path) → site ≡ site_of (splice_of (with_room (own_change edit tree.next_id) leads.element))
+    → IsWay tree edit record { path = path; site = site }
+own_way tree edit path site whole free own leads is = record {
   change = with_room (own_change edit tree.next_id) leads.element;
   is = own_edit_law tree edit path leads.element whole free own leads.at leads.has;
   leads = own_path tree edit path leads.element own leads.at leads.has;
   new = own_brings edit tree.next_id leads.element own;
-  alike = alike;
+  site_is = is;
 }
 
-pub parent_way : (tree : TreeValue) (edit : Edit) (path over : List ℕ) (at : ℕ) (place : Place) → IsWhole tree → IsOfParent edit
-    → LeadsTo (named edit) 1 tree.root path → path ≡ over ++ at ∷ [] → IsAlike (parent_change edit tree.next_id at) place
-    → IsWay tree edit record { path = over; place = place }
-parent_way tree edit path over at place whole parent leads same alike =
+pub parent_way : (tree : TreeValue) (edit : Edit) (path over : List ℕ) (at : ℕ) (site : Site) → IsWhole tree → IsOfParent edit
+    → LeadsTo (named edit) 1 tree.root path → path ≡ over ++ at ∷ [] → site ≡ site_of (splice_of (parent_change edit tree.next_id at))
+    → IsWay tree edit record { path = over; site = site }
+parent_way tree edit path over at site whole parent leads same is =
     let e = ends_at over at tree.root leads.element (ap (λ (p : List ℕ). node_at p tree.root) (sym same) ∙ leads.at) in
     record {
       change = parent_change edit tree.next_id at;
       is = parent_edit_law tree edit over e.parent at leads.element whole parent e.at e.there leads.has;
       leads = parent_path tree edit over e.parent at leads.element parent e.at e.there leads.has;
       new = parent_brings edit tree.next_id at parent;
-      alike = alike;
+      site_is = is;
     }
 
 -- the root isn't taken out
@@ -59,17 +60,17 @@ not_unknown tree edit free h =
 
 -- ---- the kinds of edits
 
-abbrev Wanted : TreeValue → List ℕ → Place → Edit → Type 0
-Wanted tree path place edit = refusal_of tree edit ≡ None → LeadsTo (named edit) 1 tree.root path → IsWay tree edit record { path = path; place = place }
+abbrev Wanted : TreeValue → List ℕ → Site → Edit → Type 0
+Wanted tree path site edit = refusal_of tree edit ≡ None → LeadsTo (named edit) 1 tree.root path → IsWay tree edit record { path = path; site = site }
 
 pub text_way : (tree : TreeValue) (edit : Edit) (id : NodeId) (text path : List ℕ) → edit ≡ Text id text → IsWhole tree → Wanted tree path Stay edit
 text_way tree edit id text path is whole =
-    subst (Wanted tree path Stay) (sym is) (λ free leads. own_way tree (Text id text) path Stay whole free tt leads tt)
+    subst (Wanted tree path Stay) (sym is) (λ free leads. own_way tree (Text id text) path Stay whole free tt leads refl)
 
 pub attr_way : (tree : TreeValue) (edit : Edit) (id : NodeId) (name : List ℕ) (value : Option (List ℕ)) (path : List ℕ) → edit ≡ Attr id name value → IsWhole tree
     → Wanted tree path Stay edit
 attr_way tree edit id name value path is whole =
-    subst (Wanted tree path Stay) (sym is) (λ free leads. own_way tree (Attr id name value) path Stay whole free tt leads tt)
+    subst (Wanted tree path Stay) (sym is) (λ free leads. own_way tree (Attr id name value) path Stay whole free tt leads refl)
 
 pub insert_way : (tree : TreeValue) (edit : Edit) (id : NodeId) (index : ℕ) (new : Node) (path : List ℕ) → edit ≡ Insert id index new → IsWhole tree
     → Wanted tree path (Put index) edit
@@ -87,8 +88,8 @@ pub replaced_below : (tree : TreeValue) (edit : Edit) (id : NodeId) (new : Node)
 replaced_below tree edit id new path is whole =
     subst (Below tree path) (sym is) (λ free leads. not_root tree (Replace id new) path whole free leads (λ element. refl))
 
-abbrev Over : TreeValue → List ℕ → List ℕ → ℕ → Place → Edit → Type 0
-Over tree path over at place edit = LeadsTo (named edit) 1 tree.root path → path ≡ over ++ at ∷ [] → IsWay tree edit record { path = over; place = place }
+abbrev Over : TreeValue → List ℕ → List ℕ → ℕ → Site → Edit → Type 0
+Over tree path over at site edit = LeadsTo (named edit) 1 tree.root path → path ≡ over ++ at ∷ [] → IsWay tree edit record { path = over; site = site }
 
 pub remove_way : (tree : TreeValue) (edit : Edit) (id : NodeId) (path over : List ℕ) (at : ℕ) → edit ≡ Remove id → IsWhole tree → Over tree path over at (Take at) edit
 remove_way tree edit id path over at is whole =

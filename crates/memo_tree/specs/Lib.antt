@@ -1,5 +1,6 @@
 pub mod Counted
 pub mod Followed
+pub mod Marked
 pub mod Reversing
 pub mod Rooms
 pub mod States

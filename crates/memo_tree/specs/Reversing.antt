@@ -1,15 +1,17 @@
 -- What takes a change of a tree with its kept layouts back.
 use Rattle.std.specs.Prelude.{◌≡◌, ℕ, List}
+use Rattle.splices.specs.declared.splice.Splice.{Splice}
 use Rattle.tree_edits.specs.Applying.{CanRestore, TakenValue, restored}
+use Rattle.kept_results.specs.declared.memo.Memo.{Memo}
 use Rattle.kept_edits.specs.Changed.{FitsMemo, undone_memo}
-use Rattle.kept_edits.specs.declared.change.MemoChange.{MemoChange}
 use Rattle.memo_tree.specs.Trees.{MemoTreeValue}
 
--- what undoes the change of the tree, and the change of memos that undoes theirs, at the end of this path
+-- what undoes the change of the tree, and the splice of memos that undoes theirs, at the end of
+-- this path
 pub record ReversalValue : Type 0 where
   pub taken : TakenValue
   pub path : List ℕ
-  pub back : MemoChange
+  pub back : Splice Memo
 
 -- the tree before the change, and what was kept of it
 abbrev pub reversed : ReversalValue → MemoTreeValue → MemoTreeValue

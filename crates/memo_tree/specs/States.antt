@@ -16,7 +16,8 @@ pub data State : Type 0 where
   -- and what it made is settled: neither an edit nor a pass is under way
   Sealed : State
 
--- what is kept agrees with the tree, no pass is under way, and nothing is marked below an element that isn't
+-- what is kept agrees with the tree, no pass is under way, and nothing is marked below an element
+-- that isn't
 pub record IsChanged (laid : MemoTreeValue) : Type 0 where
   pub ready : IsReadyFor laid.metrics laid.tree.root laid.memo
   pub tidy : IsTidy laid.memo
@@ -30,8 +31,8 @@ pub record IsStopped (laid : MemoTreeValue) : Type 0 where
   pub agrees : Agrees laid.metrics laid.tree.root laid.memo
   pub begun : IsChanged (without_pass laid)
 
--- so it is too where a pass was done; the layout of the root is kept, and nothing is marked or new below an element
--- that the edit and the pass left alone
+-- so it is too where a pass was done; the layout of the root is kept, and nothing is marked or new
+-- below an element that the edit and the pass left alone
 pub record IsPassed (laid : MemoTreeValue) : Type 0 where
   pub stopped : IsStopped laid
   pub kept : HoldsOne [] laid.memo (context_of laid.metrics laid.tree)

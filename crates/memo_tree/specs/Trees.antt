@@ -19,8 +19,8 @@ pub record MemoTreeValue : Type 0 where
 abbrev pub context_of : MetricsValue → TreeValue → Context
 context_of m tree = root_context m (out-Node tree.root).head
 
--- what is kept agrees with the tree, the layout of the root is among it, and neither an edit nor a pass is under
--- way; every layout that is made for the tree can be stored
+-- what is kept agrees with the tree, the layout of the root is among it, and neither an edit nor a
+-- pass is under way; every layout that is made for the tree can be stored
 pub record IsLaidOut (laid : MemoTreeValue) : Type 0 where
   pub sealed : IsSealedFor laid.metrics laid.tree.root (context_of laid.metrics laid.tree) laid.memo
   pub fit : is_tree_in_range laid.metrics laid.tree ≡ true

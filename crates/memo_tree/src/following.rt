@@ -1,45 +1,45 @@
 //! The kept layouts of a tree after an edit of it.
 ghost use Rattle.std.specs.Prelude.{◌≡◌, IfOk, OnErr};
 ghost use Rattle.kept_edits.specs.Known.{IsKnownOn};
-ghost use Rattle.kept_edits.specs.Laws.{back_of};
-ghost use Rattle.kept_edits.specs.declared.change.MemoChange.{MemoChange as Changed};
-ghost use Rattle.memo_tree.specs.Followed.{HasPlace, IsBefore, IsFollowed, IsOfElement, IsOfPlace, IsOfWay};
+ghost use Rattle.memo_tree.specs.Followed.{HasPlace, IsBefore, IsFollowed, IsOfElement, IsOfWay};
 ghost use Rattle.memo_tree.specs.Rooms.{HasRoom};
 
-use crate::way::{Place, Way};
+use crate::way::Way;
 use fixed_units::{List, Memory, Room};
-use kept_edits::{MemoChange, Renewal, blank, change_memo, known_on};
+use kept_edits::{Renewal, blank, change_memo, known_on};
 use kept_results::Memo;
 use math_tree::Node;
+use splices::{Site, Splice};
 use std::alloc::Global;
 use tree_edits::{Parents, element_at};
 
 /// Changes memos as an edit changed their tree, of which this is the root by now, and answers the
-/// change that takes this back. What the edit put in is noted.
+/// splice that takes this back. What the edit put in is noted.
 pub fn follow(
     alloc: Global,
     root: &Node,
     memo: &mut Memo,
     parents: &mut Parents,
     way: &Way,
-) -> Result<MemoChange, Memory>
+) -> Result<Splice<Memo>, Memory>
     requires before { IsBefore root.now memo.old way.now }
-    ensures followed { IfOk result (λ back. (before : IsBefore root.now memo.old way.now) → IsFollowed root.now memo.old way.now before memo.new back) }
+    ensures followed { IfOk result (λ back. (before : IsBefore root.now memo.old way.now) →
+        IsFollowed root.now memo.old way.now before memo.new back) }
     ensures unchanged { OnErr result (memo.new ≡ memo.old) }
 {
     let Prepared {
-        change,
+        splice,
         known,
         room,
     } = prepare(alloc, root, memo, parents, way)?;
-    let taken = change_memo(memo, way.path.as_slice(), known.as_slice(), change);
-    Ok(back_of(&way.place, taken, room))
+    let taken = change_memo(memo, way.path.as_slice(), known.as_slice(), splice);
+    Ok(way.site.inverse(taken, room))
 }
 
-/// All memory that a change of memos and the change back take.
+/// All memory that a splice of memos and the one back take.
 #[derive(Debug, Drop)]
 struct Prepared {
-    change: MemoChange,
+    splice: Splice<Memo>,
     /// What the elements on the way are after the edit.
     known: List<Renewal>,
     /// Room for what is taken out, to put it back.
@@ -54,71 +54,53 @@ fn prepare(
     way: &Way,
 ) -> Result<Prepared, Memory>
     requires { IsBefore root.now memo.now way.now }
-    ensures change { IfOk result (λ made. IsOfWay root.now way.now made.change) }
+    ensures splice { IfOk result (λ made. IsOfWay root.now way.now made.splice) }
     ensures known { IfOk result (λ made. IsKnownOn way.now.path root.now memo.now made.known) }
     ensures room { IfOk result (λ made. HasRoom made.room way.now.path memo.now) }
 {
     let path = way.path.as_slice();
     let element = element_at(root, path);
-    note_new(root, parents, element, &way.place)?;
-    let change = memo_change(alloc, element, &way.place)?;
-    let known = known_on(alloc, root, memo, path, &change)?;
+    note_new(root, parents, element, way.site)?;
+    let splice = memo_splice(alloc, element, way.site)?;
+    let known = known_on(alloc, root, memo, path, &splice)?;
     let room = Room::make(alloc, element.children.as_slice().len() + 2)?;
     Ok(Prepared {
-        change,
+        splice,
         known,
         room,
     })
 }
 
 /// Notes what was put in among the children of an element.
-fn note_new(root: &Node, parents: &mut Parents, element: &Node, place: &Place) -> Result<(), Memory>
-    requires { HasPlace place.now element.now }
+fn note_new(root: &Node, parents: &mut Parents, element: &Node, site: Site) -> Result<(), Memory>
+    requires { HasPlace site element.now }
 {
-    match place {
-        Place::Put(index) | Place::Swap(index) => {
-            let child = &element.children.as_slice()[*index];
+    match site {
+        Site::Put(index) | Site::Swap(index) => {
+            let child = &element.children.as_slice()[index];
             parents.note(root, element.head.id, child)
         }
-        Place::Stay | Place::Take(_) => Ok(()),
+        Site::Stay | Site::Take(_) => Ok(()),
     }
 }
 
-/// The change of memos for what became of the children of an element.
-fn memo_change(alloc: Global, element: &Node, place: &Place) -> Result<MemoChange, Memory>
-    requires { HasPlace place.now element.now }
-    ensures { IfOk result (IsOfElement place.now element.now) }
+/// The splice of memos for what became of the children of an element.
+fn memo_splice(alloc: Global, element: &Node, site: Site) -> Result<Splice<Memo>, Memory>
+    requires { HasPlace site element.now }
+    ensures { IfOk result (IsOfElement site element.now) }
 {
     let children = element.children.as_slice();
-    match place {
-        Place::Stay => Ok(MemoChange::Stay),
-        Place::Put(index) => {
-            let child = blank(alloc, &children[*index])?;
+    match site {
+        Site::Stay => Ok(Splice::Stay),
+        Site::Put(index) => {
+            let child = blank(alloc, &children[index])?;
             let room = Room::make(alloc, children.len() + 2)?;
-            Ok(MemoChange::PutMemo(*index, child, room))
+            Ok(Splice::Put(index, child, room))
         }
-        Place::Take(index) => Ok(MemoChange::TakeMemo(*index)),
-        Place::Swap(index) => {
-            let child = blank(alloc, &children[*index])?;
-            Ok(MemoChange::SwapMemo(*index, child))
+        Site::Take(index) => Ok(Splice::Take(index)),
+        Site::Swap(index) => {
+            let child = blank(alloc, &children[index])?;
+            Ok(Splice::Swap(index, child))
         }
-    }
-}
-
-/// The change that takes one back, where this was taken out.
-fn back_of(place: &Place, taken: Option<Memo>, room: Room<Memo>) -> MemoChange
-    ensures { (change : Changed) → IsOfPlace change place.now → result ≡ back_of change taken room }
-{
-    match place {
-        Place::Stay => MemoChange::Stay,
-        Place::Put(index) => MemoChange::TakeMemo(*index),
-        Place::Take(index) => match taken {
-            Some(former) => MemoChange::PutMemo(*index, former, room),
-            None => MemoChange::Stay,
-        },
-        Place::Swap(index) => match taken {
-            Some(former) => MemoChange::SwapMemo(*index, former),
-            None => MemoChange::Stay,
-        },
     }
 }

@@ -2,9 +2,10 @@ ghost use Rattle.std.specs.Prelude.{◌≡◌};
 ghost use Rattle.tree_edits.specs.Applying.{CanRestore, restored};
 ghost use Rattle.kept_edits.specs.Changed.{FitsMemo, undone_memo};
 
-use kept_edits::{MemoChange, undo_memo};
+use kept_edits::undo_memo;
 use kept_results::Memo;
 use math_tree::Tree;
+use splices::Splice;
 use std::marker::Model;
 use tree_edits::{Path, Taken, restore};
 
@@ -13,25 +14,30 @@ use tree_edits::{Path, Taken, restore};
 pub struct Reversal {
     taken: Taken,
     path: Path,
-    back: MemoChange,
+    back: Splice<Memo>,
 }
 
 impl Model for Reversal {
     ghost use Rattle.std.specs.Coded.{codes};
-    ghost use Rattle.kept_edits.specs.contracts.change.MemoChange as memos;
+    ghost use Rattle.kept_results.specs.contracts.memo.Memo as kept;
+    ghost use Rattle.splices.specs.contracts.splice.Splice as spliced;
     ghost use Rattle.tree_edits.specs.contracts.change.Change as one;
     ghost use Rattle.memo_tree.specs.Reversing.{ReversalValue};
 
     ghost Value = { ReversalValue };
 
-    ghost coded = { Prim.hlevel (codes, one.the_row.coded, memos.the_row.coded) };
+    ghost coded = { Prim.hlevel (codes, one.the_row.coded, (spliced.the_row kept.the_row).coded) };
 
-    ghost view = { λ reversal. record { taken = reversal.taken; path = reversal.path; back = reversal.back } };
+    ghost view = { λ reversal. record {
+      taken = reversal.taken;
+      path = reversal.path;
+      back = reversal.back;
+    } };
 }
 
 impl Reversal {
-    /// By what undoes the change of the tree, and the change of memos that undoes theirs.
-    pub(crate) fn of(taken: Taken, path: Path, back: MemoChange) -> Reversal
+    /// By what undoes the change of the tree, and the splice of memos that undoes theirs.
+    pub(crate) fn of(taken: Taken, path: Path, back: Splice<Memo>) -> Reversal
         ensures { result ≡ record { taken = taken; path = path; back = back } }
     {
         Reversal { taken, path, back }

@@ -10,6 +10,7 @@ ghost use Rattle.kept_edits.specs.Blank.{blank};
 ghost use Rattle.kept_edits.specs.Passed.{TakesMissing};
 ghost use Rattle.kept_sweep.specs.Swept.{CountsNeeded, IsPartOf, KeepsNeeded};
 ghost use Rattle.memo_tree.specs.Counted.{EntriesStay, MissingIsCounted, TakesVisits};
+ghost use Rattle.memo_tree.specs.Marked.{EachStays, MarksPath, NewIsBlank};
 ghost use Rattle.memo_tree.specs.Reversing.{CanReverse, Reverses, reversed};
 ghost use Rattle.memo_tree.specs.States.{Changed, IsIn, Passed, Sealed, Stopped};
 ghost use Rattle.memo_tree.specs.Trees.{context_of, root_box};
@@ -128,6 +129,9 @@ impl MemoTree {
         ensures tree { OnOk result (self.new.tree ≡ edited self.old.tree edit) }
         ensures metrics { self.new.metrics ≡ self.old.metrics }
         ensures changed { OnOk result (IsIn Changed self.new) }
+        ensures new { OnOk result (NewIsBlank self.old edit self.new) }
+        ensures marked { OnOk result (MarksPath self.old edit self.new) }
+        ensures kept { OnOk result (EachStays self.old edit self.new) }
         ensures stays { OnOk result (EntriesStay self.old edit self.new) }
         ensures counted { OnOk result (MissingIsCounted self.old edit self.new) }
         ensures reversal { IfOk result (λ reversal. Reverses reversal self.new self.old) }

@@ -6,30 +6,18 @@ ghost use Rattle.tree_edits.specs.Paths.{Finds, LeadsTo};
 ghost use Rattle.memo_tree.specs.Ways.{HasWay};
 
 use math_tree::Tree;
+use splices::Site;
 use tree_edits::{Edit, Path};
-
-/// What becomes of the children of an element.
-#[derive(Debug, Drop)]
-pub enum Place {
-    /// They stay.
-    Stay,
-    /// There is one more at this place.
-    Put(usize),
-    /// The one at this place is gone.
-    Take(usize),
-    /// There is another one at this place.
-    Swap(usize),
-}
 
 /// The way to the element that an edit changes, and what becomes of its children.
 #[derive(Debug, Drop)]
 pub struct Way {
     pub path: Path,
-    pub place: Place,
+    pub site: Site,
 }
 
-/// Where an edit changes a tree, by the way to the element that the edit names, or none where no element
-/// has its id. There is an answer at least where the edit isn't refused.
+/// Where an edit changes a tree, by the way to the element that the edit names, or none where no
+/// element has its id. There is an answer at least where the edit isn't refused.
 pub fn way_along(tree: &Tree, found: &Option<Path>, edit: &Edit) -> Option<Way>
     requires whole { IsWhole tree.now }
     requires found { Finds (named edit.now) 1 tree.now.root found.now }
@@ -43,36 +31,37 @@ pub fn way_along(tree: &Tree, found: &Option<Path>, edit: &Edit) -> Option<Way>
 
 /// The same, where the path leads to the element that the edit names.
 fn end_of(path: Path, edit: &Edit) -> Option<Way>
-    ensures { (tree : TreeValue) → IsWhole tree → refusal_of tree edit.now ≡ NoReason → LeadsTo (named edit.now) 1 tree.root path → HasWay tree edit.now result }
+    ensures { (tree : TreeValue) → IsWhole tree → refusal_of tree edit.now ≡ NoReason →
+        LeadsTo (named edit.now) 1 tree.root path → HasWay tree edit.now result }
 {
     match edit {
         Edit::Text(_, _) => {
-            let place = Place::Stay;
-            Some(Way { path, place })
+            let site = Site::Stay;
+            Some(Way { path, site })
         }
         Edit::Attr(_, _, _) => {
-            let place = Place::Stay;
-            Some(Way { path, place })
+            let site = Site::Stay;
+            Some(Way { path, site })
         }
         Edit::Insert(_, index, _) => {
-            let place = Place::Put(*index as usize);
-            Some(Way { path, place })
+            let site = Site::Put(*index as usize);
+            Some(Way { path, site })
         }
         Edit::Remove(_) => {
             if path.level() == 1 {
                 return None;
             }
             let (path, place) = path.split();
-            let place = Place::Take(place);
-            Some(Way { path, place })
+            let site = Site::Take(place);
+            Some(Way { path, site })
         }
         Edit::Replace(_, _) => {
             if path.level() == 1 {
                 return None;
             }
             let (path, place) = path.split();
-            let place = Place::Swap(place);
-            Some(Way { path, place })
+            let site = Site::Swap(place);
+            Some(Way { path, site })
         }
     }
 }

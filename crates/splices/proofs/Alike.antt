@@ -2,6 +2,7 @@
 use Rattle.std.proofs.Common.{◌≡◌, ◌∙◌, ◌⊎◌, inl, inr, refl, sym, ap, subst, ℕ, zero, suc, ◌<◌, ◌≤◌, arith, List, [], ◌∷◌, length, length-set, insert, remove, set, Some, slice_get}
 use Rattle.std.specs.Bool.{⊤}
 use Rattle.std.proofs.lemmas.Option.{none-some, same_Some}
+use Rattle.splices.proofs.Origins.{all_brought}
 use Rattle.splices.proofs.Places.{length_insert, length_remove}
 use Rattle.splices.specs.Splicing.{AllBrought, Brings, FitsIn, IsAlike, IsRoomy, site_of, spliced}
 use Rattle.splices.specs.declared.site.Site.{Site}
@@ -22,6 +23,45 @@ place_in Still = 0
 place_in (PutAt index) = index
 place_in (TakeAt index) = index
 place_in (SwapAt index) = index
+
+-- a splice there brings an item to this place
+abbrev HasItem : Site → ℕ → Type 0
+HasItem Still place = ⊥
+HasItem (PutAt index) place = place ≡ index
+HasItem (TakeAt index) place = ⊥
+HasItem (SwapAt index) place = place ≡ index
+
+-- there is such a place among so many items
+abbrev HasPlace : Site → ℕ → Type 0
+HasPlace Still count = ⊤
+HasPlace (PutAt index) count = index ≤ count
+HasPlace (TakeAt index) count = index < count
+HasPlace (SwapAt index) count = index < count
+
+module _ {A : Type 0} where
+  has_item : (splice : Splice A) (place : ℕ) (x : A) → Brings splice place x → HasItem (site_of splice) place
+  has_item Stay place x b = b
+  has_item (Put index item room) place x b = b.0
+  has_item (Take index) place x b = b
+  has_item (Swap index item) place x b = b.0
+
+  item_of : (splice : Splice A) (place : ℕ) → HasItem (site_of splice) place → (x : A) × Brings splice place x
+  item_of Stay place h = absurd h
+  item_of (Put index item room) place h = (item, (h, refl))
+  item_of (Take index) place h = absurd h
+  item_of (Swap index item) place h = (item, (h, refl))
+
+  place_of : (splice : Splice A) (list : List A) → FitsIn splice list → HasPlace (site_of splice) (length list)
+  place_of Stay list fits = tt
+  place_of (Put index item room) list fits = fits.0
+  place_of (Take index) list fits = fits
+  place_of (Swap index item) list fits = fits
+
+  fits_of : (splice : Splice A) (list : List A) → HasPlace (site_of splice) (length list) → IsRoomy (length list) splice → FitsIn splice list
+  fits_of Stay list h roomy = tt
+  fits_of (Put index item room) list h roomy = (h, roomy)
+  fits_of (Take index) list h roomy = h
+  fits_of (Swap index item) list h roomy = h
 
 -- ---- two lists
 
@@ -86,7 +126,7 @@ module _ {A B : Type 0} where
       each = λ j a b p q. let t = both_remove xs ys i j a b h.as_many p q in h.each t.0 a b t.1 t.2;
     }
 
-    paired_set : (i : ℕ) (x : A) (y : B) → R x y → Paired R (set xs i x) (set ys i y)
+    pub paired_set : (i : ℕ) (x : A) (y : B) → R x y → Paired R (set xs i x) (set ys i y)
     paired_set i x y new = record {
       as_many = length-set ys i y ∙ h.as_many ∙ sym (length-set xs i x);
       each = λ j a b p q.
@@ -100,143 +140,45 @@ module _ {A B : Type 0} where
     pub paired_spliced : (splice : Splice A) (other : Splice B) → FitsIn splice xs → IsAlike R splice other → Paired R (spliced splice xs) (spliced other ys)
     paired_spliced Stay Stay fits s = h
     paired_spliced (Put index item room) (Put place made space) fits s =
-        subst (λ (p : ℕ). Paired R (insert xs index item) (insert ys p made)) (sym s.0) (paired_insert index item made fits.0 s.1)
+        let same : place ≡ index = ap place_in s.one_site in
+        subst (λ (p : ℕ). Paired R (insert xs index item) (insert ys p made)) (sym same)
+        (paired_insert index item made fits.0 (s.related index item made (refl, refl) (sym same, refl)))
     paired_spliced (Take index) (Take place) fits s =
-        subst (λ (p : ℕ). Paired R (remove xs index) (remove ys p)) (sym s) (paired_remove index fits)
+        subst (λ (p : ℕ). Paired R (remove xs index) (remove ys p)) (sym (ap place_in s.one_site)) (paired_remove index fits)
     paired_spliced (Swap index item) (Swap place made) fits s =
-        subst (λ (p : ℕ). Paired R (set xs index item) (set ys p made)) (sym s.0) (paired_set index item made s.1)
-    paired_spliced Stay (Put place made space) fits s = absurd s
-    paired_spliced Stay (Take place) fits s = absurd s
-    paired_spliced Stay (Swap place made) fits s = absurd s
-    paired_spliced (Put index item room) Stay fits s = absurd s
-    paired_spliced (Put index item room) (Take place) fits s = absurd s
-    paired_spliced (Put index item room) (Swap place made) fits s = absurd s
-    paired_spliced (Take index) Stay fits s = absurd s
-    paired_spliced (Take index) (Put place made space) fits s = absurd s
-    paired_spliced (Take index) (Swap place made) fits s = absurd s
-    paired_spliced (Swap index item) Stay fits s = absurd s
-    paired_spliced (Swap index item) (Put place made space) fits s = absurd s
-    paired_spliced (Swap index item) (Take place) fits s = absurd s
+        let same : place ≡ index = ap place_in s.one_site in
+        subst (λ (p : ℕ). Paired R (set xs index item) (set ys p made)) (sym same)
+        (paired_set index item made (s.related index item made (refl, refl) (sym same, refl)))
+    paired_spliced Stay (Put place made space) fits s = let k = ap kind_of s.one_site in absurd (omega (arith, k))
+    paired_spliced Stay (Take place) fits s = let k = ap kind_of s.one_site in absurd (omega (arith, k))
+    paired_spliced Stay (Swap place made) fits s = let k = ap kind_of s.one_site in absurd (omega (arith, k))
+    paired_spliced (Put index item room) Stay fits s = let k = ap kind_of s.one_site in absurd (omega (arith, k))
+    paired_spliced (Put index item room) (Take place) fits s = let k = ap kind_of s.one_site in absurd (omega (arith, k))
+    paired_spliced (Put index item room) (Swap place made) fits s = let k = ap kind_of s.one_site in absurd (omega (arith, k))
+    paired_spliced (Take index) Stay fits s = let k = ap kind_of s.one_site in absurd (omega (arith, k))
+    paired_spliced (Take index) (Put place made space) fits s = let k = ap kind_of s.one_site in absurd (omega (arith, k))
+    paired_spliced (Take index) (Swap place made) fits s = let k = ap kind_of s.one_site in absurd (omega (arith, k))
+    paired_spliced (Swap index item) Stay fits s = let k = ap kind_of s.one_site in absurd (omega (arith, k))
+    paired_spliced (Swap index item) (Put place made space) fits s = let k = ap kind_of s.one_site in absurd (omega (arith, k))
+    paired_spliced (Swap index item) (Take place) fits s = let k = ap kind_of s.one_site in absurd (omega (arith, k))
 
-  -- they splice at one site
-  pub one_site : (R : A → B → Type 0) (splice : Splice A) (other : Splice B) → IsAlike R splice other → site_of other ≡ site_of splice
-  one_site R Stay Stay s = refl
-  one_site R (Put index item room) (Put place made space) s = ap PutAt s.0
-  one_site R (Take index) (Take place) s = ap TakeAt s
-  one_site R (Swap index item) (Swap place made) s = ap SwapAt s.0
-  one_site R Stay (Put place made space) s = absurd s
-  one_site R Stay (Take place) s = absurd s
-  one_site R Stay (Swap place made) s = absurd s
-  one_site R (Put index item room) Stay s = absurd s
-  one_site R (Put index item room) (Take place) s = absurd s
-  one_site R (Put index item room) (Swap place made) s = absurd s
-  one_site R (Take index) Stay s = absurd s
-  one_site R (Take index) (Put place made space) s = absurd s
-  one_site R (Take index) (Swap place made) s = absurd s
-  one_site R (Swap index item) Stay s = absurd s
-  one_site R (Swap index item) (Put place made space) s = absurd s
-  one_site R (Swap index item) (Take place) s = absurd s
+  -- ---- what they bring
 
-  -- and so they do where they splice at one site and what they bring stands to one another
-  pub alike_at : (R : A → B → Type 0) (splice : Splice A) (other : Splice B) → site_of other ≡ site_of splice
-      → ((place : ℕ) (x : A) (y : B) → Brings splice place x → Brings other place y → R x y) → IsAlike R splice other
-  alike_at R Stay Stay e each = tt
-  alike_at R (Put index item room) (Put place made space) e each = (ap place_in e, each index item made (refl, refl) (sym (ap place_in e), refl))
-  alike_at R (Take index) (Take place) e each = ap place_in e
-  alike_at R (Swap index item) (Swap place made) e each = (ap place_in e, each index item made (refl, refl) (sym (ap place_in e), refl))
-  alike_at R Stay (Put place made space) e each = let k = ap kind_of e in absurd (omega (arith, k))
-  alike_at R Stay (Take place) e each = let k = ap kind_of e in absurd (omega (arith, k))
-  alike_at R Stay (Swap place made) e each = let k = ap kind_of e in absurd (omega (arith, k))
-  alike_at R (Put index item room) Stay e each = let k = ap kind_of e in absurd (omega (arith, k))
-  alike_at R (Put index item room) (Take place) e each = let k = ap kind_of e in absurd (omega (arith, k))
-  alike_at R (Put index item room) (Swap place made) e each = let k = ap kind_of e in absurd (omega (arith, k))
-  alike_at R (Take index) Stay e each = let k = ap kind_of e in absurd (omega (arith, k))
-  alike_at R (Take index) (Put place made space) e each = let k = ap kind_of e in absurd (omega (arith, k))
-  alike_at R (Take index) (Swap place made) e each = let k = ap kind_of e in absurd (omega (arith, k))
-  alike_at R (Swap index item) Stay e each = let k = ap kind_of e in absurd (omega (arith, k))
-  alike_at R (Swap index item) (Put place made space) e each = let k = ap kind_of e in absurd (omega (arith, k))
-  alike_at R (Swap index item) (Take place) e each = let k = ap kind_of e in absurd (omega (arith, k))
+  -- what one brings, the other brings the like of
+  pub alike_gives : (R : A → B → Type 0) (splice : Splice A) (other : Splice B) (place : ℕ) (x : A) → IsAlike R splice other → Brings splice place x
+      → (y : B) × Brings other place y × R x y
+  alike_gives R splice other place x h b =
+      let twin = item_of other place (subst (λ (s : Site). HasItem s place) (sym h.one_site) (has_item splice place x b)) in
+      (twin.0, twin.1, h.related place x twin.0 b twin.1)
+
+  -- and what that makes of the other's item holds of it
+  pub alike_brought : (R : A → B → Type 0) (P : B → Type 0) (splice : Splice A) (other : Splice B) → ((x : A) (y : B) → R x y → P y) → IsAlike R splice other → AllBrought P other
+  alike_brought R P splice other each h = all_brought P other (λ place y b.
+      let twin = item_of splice place (subst (λ (s : Site). HasItem s place) h.one_site (has_item other place y b)) in
+      each twin.0 y (h.related place twin.0 y twin.1 b))
 
   -- where one fits a list, the other fits one as long, if it has room
   pub fits_alike : (splice : Splice A) (other : Splice B) (xs : List A) (ys : List B) → site_of other ≡ site_of splice → length ys ≡ length xs
       → FitsIn splice xs → IsRoomy (length ys) other → FitsIn other ys
-  fits_alike splice other xs ys e l fits roomy = by splice other (alike_at (λ x y. ⊤) splice other e (λ place x y a b. tt)) fits roomy
-    where
-      by : (splice : Splice A) (other : Splice B) → IsAlike (λ x y. ⊤) splice other → FitsIn splice xs → IsRoomy (length ys) other → FitsIn other ys
-      by Stay Stay s fits roomy = tt
-      by (Put index item room) (Put place made space) s fits roomy = (let e = s.0 in let w = fits.0 in omega (arith, e, w, l), roomy)
-      by (Take index) (Take place) s fits roomy = omega (arith, s, fits, l)
-      by (Swap index item) (Swap place made) s fits roomy = let e = s.0 in omega (arith, e, fits, l)
-      by Stay (Put place made space) s fits roomy = absurd s
-      by Stay (Take place) s fits roomy = absurd s
-      by Stay (Swap place made) s fits roomy = absurd s
-      by (Put index item room) Stay s fits roomy = absurd s
-      by (Put index item room) (Take place) s fits roomy = absurd s
-      by (Put index item room) (Swap place made) s fits roomy = absurd s
-      by (Take index) Stay s fits roomy = absurd s
-      by (Take index) (Put place made space) s fits roomy = absurd s
-      by (Take index) (Swap place made) s fits roomy = absurd s
-      by (Swap index item) Stay s fits roomy = absurd s
-      by (Swap index item) (Put place made space) s fits roomy = absurd s
-      by (Swap index item) (Take place) s fits roomy = absurd s
-
-  both_brought : (R : A → B → Type 0) (splice : Splice A) (other : Splice B) (at : ℕ) (x : A) (y : B) → IsAlike R splice other → Brings splice at x → Brings other at y → R x y
-  both_brought R Stay Stay at x y h a b = absurd a
-  both_brought R (Put index item room) (Put place made space) at x y h a b = subst (λ (z : A). R z y) (sym a.1) (subst (R item) (sym b.1) h.1)
-  both_brought R (Take index) (Take place) at x y h a b = absurd a
-  both_brought R (Swap index item) (Swap place made) at x y h a b = subst (λ (z : A). R z y) (sym a.1) (subst (R item) (sym b.1) h.1)
-  both_brought R Stay (Put place made space) at x y h p q = absurd h
-  both_brought R Stay (Take place) at x y h p q = absurd h
-  both_brought R Stay (Swap place made) at x y h p q = absurd h
-  both_brought R (Put index item room) Stay at x y h p q = absurd h
-  both_brought R (Put index item room) (Take place) at x y h p q = absurd h
-  both_brought R (Put index item room) (Swap place made) at x y h p q = absurd h
-  both_brought R (Take index) Stay at x y h p q = absurd h
-  both_brought R (Take index) (Put place made space) at x y h p q = absurd h
-  both_brought R (Take index) (Swap place made) at x y h p q = absurd h
-  both_brought R (Swap index item) Stay at x y h p q = absurd h
-  both_brought R (Swap index item) (Put place made space) at x y h p q = absurd h
-  both_brought R (Swap index item) (Take place) at x y h p q = absurd h
-
-  -- what the items that both bring are to one another, they are to one another in another way too
-  pub alike_then : (R Q : A → B → Type 0) (splice : Splice A) (other : Splice B) → ((x : A) (y : B) → R x y → Q x y) → IsAlike R splice other → IsAlike Q splice other
-  alike_then R Q splice other each h = alike_at Q splice other (one_site R splice other h) (λ place x y a b. each x y (both_brought R splice other place x y h a b))
-
-  -- and what that makes of the other's item holds of it
-  pub alike_brought : (R : A → B → Type 0) (P : B → Type 0) (splice : Splice A) (other : Splice B) → ((x : A) (y : B) → R x y → P y) → IsAlike R splice other → AllBrought P other
-  alike_brought R P Stay Stay each h = tt
-  alike_brought R P (Put index item room) (Put place made space) each h = each item made h.1
-  alike_brought R P (Take index) (Take place) each h = tt
-  alike_brought R P (Swap index item) (Swap place made) each h = each item made h.1
-  alike_brought R P Stay (Put place made space) each h = absurd h
-  alike_brought R P Stay (Take place) each h = absurd h
-  alike_brought R P Stay (Swap place made) each h = absurd h
-  alike_brought R P (Put index item room) Stay each h = absurd h
-  alike_brought R P (Put index item room) (Take place) each h = absurd h
-  alike_brought R P (Put index item room) (Swap place made) each h = absurd h
-  alike_brought R P (Take index) Stay each h = absurd h
-  alike_brought R P (Take index) (Put place made space) each h = absurd h
-  alike_brought R P (Take index) (Swap place made) each h = absurd h
-  alike_brought R P (Swap index item) Stay each h = absurd h
-  alike_brought R P (Swap index item) (Put place made space) each h = absurd h
-  alike_brought R P (Swap index item) (Take place) each h = absurd h
-
-  -- what one brings, the other brings the like of
-  pub alike_gives : (R : A → B → Type 0) (splice : Splice A) (other : Splice B) (at : ℕ) (x : A) → IsAlike R splice other → Brings splice at x
-      → (y : B) × Brings other at y × R x y
-  alike_gives R Stay Stay at x h b = absurd b
-  alike_gives R (Put index item room) (Put place made space) at x h b = (made, (b.0 ∙ sym h.0, refl), subst (λ (z : A). R z made) (sym b.1) h.1)
-  alike_gives R (Take index) (Take place) at x h b = absurd b
-  alike_gives R (Swap index item) (Swap place made) at x h b = (made, (b.0 ∙ sym h.0, refl), subst (λ (z : A). R z made) (sym b.1) h.1)
-  alike_gives R Stay (Put place made space) at x h p = absurd h
-  alike_gives R Stay (Take place) at x h p = absurd h
-  alike_gives R Stay (Swap place made) at x h p = absurd h
-  alike_gives R (Put index item room) Stay at x h p = absurd h
-  alike_gives R (Put index item room) (Take place) at x h p = absurd h
-  alike_gives R (Put index item room) (Swap place made) at x h p = absurd h
-  alike_gives R (Take index) Stay at x h p = absurd h
-  alike_gives R (Take index) (Put place made space) at x h p = absurd h
-  alike_gives R (Take index) (Swap place made) at x h p = absurd h
-  alike_gives R (Swap index item) Stay at x h p = absurd h
-  alike_gives R (Swap index item) (Put place made space) at x h p = absurd h
-  alike_gives R (Swap index item) (Take place) at x h p = absurd h
+  fits_alike splice other xs ys e l fits roomy =
+      fits_of other ys (subst (HasPlace (site_of other)) (sym l) (subst (λ (s : Site). HasPlace s (length xs)) (sym e) (place_of splice xs fits))) roomy

@@ -94,10 +94,9 @@ AllBrought P (Swap index item) = P item
 
 -- ---- two splices, of two lists
 
--- they splice at one place in one way, and the items that they bring stand to one another so
-abbrev pub IsAlike : {A B : Type 0} → (A → B → Type 0) → Splice A → Splice B → Type 0
-IsAlike R Stay Stay = ⊤
-IsAlike R (Put index item room) (Put place other space) = (place ≡ index) × R item other
-IsAlike R (Take index) (Take place) = place ≡ index
-IsAlike R (Swap index item) (Swap place other) = (place ≡ index) × R item other
-IsAlike R splice other = ⊥
+-- they splice at one site, and the items that they bring stand to one another so
+pub record IsAlike {A B : Type 0} (R : A → B → Type 0) (splice : Splice A)
+    (other : Splice B) : Type 0 where
+  pub one_site : site_of other ≡ site_of splice
+  pub related : (place : ℕ) (item : A) (twin : B) → Brings splice place item →
+      Brings other place twin → R item twin

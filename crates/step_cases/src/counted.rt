@@ -1,4 +1,5 @@
-//! Lines of a script, carried out by the calls of `memo_tree` as a session does, where layouts are counted.
+//! Lines of a script, carried out by the calls of `memo_tree` as a session does, where layouts are
+//! counted.
 ghost use Rattle.std.specs.Prelude.{OnOk};
 ghost use Rattle.memo_tree.specs.States.{IsIn, Sealed};
 ghost use Rattle.tree_edits.specs.Applying.{IsProperEdit};
@@ -57,7 +58,8 @@ pub fn carry_out_counted<L: Ledger>(
     }
 }
 
-/// Carries an edit out as a session does. A pass that is done keeps as many layouts more as it made.
+/// Carries an edit out as a session does. A pass that is done keeps as many layouts more as it
+/// made.
 fn edit_counted<L: Ledger>(
     alloc: Global,
     laid: &mut MemoTree,
@@ -96,7 +98,8 @@ fn not_laid(refusal: LayRefusal) -> Result<(Outcome, usize), Fault> {
     }
 }
 
-/// Drops what the tree doesn't need where a session keeps fewer layouts: it does so by itself after many edits.
+/// Drops what the tree doesn't need where a session keeps fewer layouts: it does so by itself after
+/// many edits.
 pub fn drop_as_session(laid: &mut MemoTree, kept: usize)
     requires { IsIn Sealed laid.old }
     ensures { IsIn Sealed laid.new }

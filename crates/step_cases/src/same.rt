@@ -9,7 +9,8 @@ use memo_tree::MemoTree;
 use std::alloc::Global;
 use std::sync::ledger::Ledger;
 
-/// Whether two trees are the same, with as many layouts that are kept of them, and with the same box of the root.
+/// Whether two trees are the same, with as many layouts that are kept of them, and with the same
+/// box of the root.
 pub fn is_equal(alloc: Global, one: &MemoTree, other: &MemoTree) -> Result<bool, Fault>
     requires one { IsIn Sealed one.now }
     requires other { IsIn Sealed other.now }

@@ -28,8 +28,8 @@ pub fn carry_out<L: Ledger>(
     }
 }
 
-/// Shows a session. Like the other calls that stand alone in a function here, it has long clauses that nothing needs
-/// behind it.
+/// Shows a session. Like the other calls that stand alone in a function here, it has long clauses
+/// that nothing needs behind it.
 pub fn show(alloc: Global, session: &mut Session) -> Result<Outcome, Fault> {
     match session.show(alloc) {
         Ok(_placed) => Ok(Outcome::Shown),
@@ -57,7 +57,8 @@ fn outcome_of(edited: Result<(), SessionRefusal>) -> Result<Outcome, Fault> {
     }
 }
 
-/// Whether a session holds what stands beside it: the same tree, as many layouts, and the same box of the root.
+/// Whether a session holds what stands beside it: the same tree, as many layouts, and the same box
+/// of the root.
 pub fn is_held(alloc: Global, session: &Session, laid: &MemoTree) -> Result<bool, Fault>
     requires { IsIn Sealed laid.now }
 {

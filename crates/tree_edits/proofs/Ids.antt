@@ -5,7 +5,7 @@ use Rattle.std.proofs.lemmas.List.{map-append}
 use Rattle.std.specs.List.{AllByRecursion, IsDistinct}
 use Rattle.math_tree.proofs.Nodes.{all_parts}
 use Rattle.math_tree.specs.Trees.{Listed, ids_of}
-use Rattle.tree_edits.proofs.Splices.{Spliced, all_join}
+use Rattle.tree_edits.proofs.Exchanges.{Exchanged, all_join}
 
 -- ---- numbers
 
@@ -71,33 +71,33 @@ same_first : (front : List Listed) (own made : Listed) (middle : List Listed) �
 same_first front own made middle same =
     ids-append front (own ∷ middle) ∙ ap (λ n. ids_of front ++ (n ∷ ids_of middle)) same ∙ sym (ids-append front (made ∷ middle))
 
-module _ {before after : List Listed} {own made : Listed} {gone new : List Listed} (splice : Spliced before after own made gone new) (same : id_of own ≡ id_of made) where
-  were : ids_of before ≡ ids_of (splice.front ++ (made ∷ splice.middle)) ++ (ids_of gone ++ ids_of splice.back)
+module _ {before after : List Listed} {own made : Listed} {gone new : List Listed} (exchange : Exchanged before after own made gone new) (same : id_of own ≡ id_of made) where
+  were : ids_of before ≡ ids_of (exchange.front ++ (made ∷ exchange.middle)) ++ (ids_of gone ++ ids_of exchange.back)
   were =
-      ap ids_of splice.was
-      ∙ grouped (splice.front ++ (own ∷ splice.middle)) gone splice.back
-      ∙ ap (λ l. l ++ (ids_of gone ++ ids_of splice.back)) (same_first splice.front own made splice.middle same)
+      ap ids_of exchange.was
+      ∙ grouped (exchange.front ++ (own ∷ exchange.middle)) gone exchange.back
+      ∙ ap (λ l. l ++ (ids_of gone ++ ids_of exchange.back)) (same_first exchange.front own made exchange.middle same)
 
-  are : ids_of after ≡ ids_of (splice.front ++ (made ∷ splice.middle)) ++ (ids_of new ++ ids_of splice.back)
-  are = ap ids_of splice.is ∙ grouped (splice.front ++ (made ∷ splice.middle)) new splice.back
+  are : ids_of after ≡ ids_of (exchange.front ++ (made ∷ exchange.middle)) ++ (ids_of new ++ ids_of exchange.back)
+  are = ap ids_of exchange.is ∙ grouped (exchange.front ++ (made ∷ exchange.middle)) new exchange.back
 
   -- they differ still
-  pub distinct_spliced : (bound : ℕ) → IsDistinct nat_eq (ids_of before) → AllByRecursion (λ n. n < bound) (ids_of before)
+  pub distinct_exchanged : (bound : ℕ) → IsDistinct nat_eq (ids_of before) → AllByRecursion (λ n. n < bound) (ids_of before)
       → IsDistinct nat_eq (ids_of new) → AllByRecursion (λ n. bound ≤ n) (ids_of new) → IsDistinct nat_eq (ids_of after)
-  distinct_spliced bound d low e high =
-      let first = ids_of (splice.front ++ (made ∷ splice.middle)) in
-      let back = ids_of splice.back in
+  distinct_exchanged bound d low e high =
+      let first = ids_of (exchange.front ++ (made ∷ exchange.middle)) in
+      let back = ids_of exchange.back in
       let left = distinct_without first (ids_of gone) back (subst (IsDistinct nat_eq) were d) in
       let below = all_without (λ n. n < bound) first (ids_of gone) back (subst (AllByRecursion (λ n. n < bound)) were low) in
       subst (IsDistinct nat_eq) (sym are) (distinct_with bound first (ids_of new) back left below e high)
 
   -- and are below a bound, where these are and those that come
-  pub given_spliced : (bound : ℕ) → AllByRecursion (λ n. n < bound) (ids_of before) → AllByRecursion (λ n. n < bound) (ids_of new)
+  pub given_exchanged : (bound : ℕ) → AllByRecursion (λ n. n < bound) (ids_of before) → AllByRecursion (λ n. n < bound) (ids_of new)
       → AllByRecursion (λ n. n < bound) (ids_of after)
-  given_spliced bound low more =
+  given_exchanged bound low more =
       let P : ℕ → Type 0 = λ n. n < bound in
-      let first = ids_of (splice.front ++ (made ∷ splice.middle)) in
-      let back = ids_of splice.back in
+      let first = ids_of (exchange.front ++ (made ∷ exchange.middle)) in
+      let back = ids_of exchange.back in
       let both = all_parts P first (ids_of gone ++ back) (subst (AllByRecursion P) were low) in
       subst (AllByRecursion P) (sym are)
       (all_join P first (ids_of new ++ back) both.0 (all_join P (ids_of new) back more (all_parts P (ids_of gone) back both.1).1))

@@ -1,11 +1,9 @@
 -- A change that takes another back gives the element, and the tree, as they were.
 use Rattle.std.proofs.Common.{◌≡◌, ◌∙◌, sym, ap, refl, subst, ℕ, zero, suc, ◌+◌, ◌≤◌, List, [], ◌∷◌, length, slice_get, slice_set, true, false, not, cond, Ordering, Less, Equal, Greater, Option, Some, None, option_map, arith}
 use Rattle.std.proofs.lemmas.Cmp.{nat_list_cmp_total, tied_itself}
-use Rattle.std.proofs.lemmas.List.{length-set}
-use Rattle.std.proofs.lemmas.List.Edits.{length-insert, length-remove}
 use Rattle.std.proofs.lemmas.Option.{none-some, same_Some}
 use Rattle.std.proofs.lemmas.Slice.Eq.{bytes_eq-Decides}
-use Rattle.std.specs.List.{AllByRecursion, insert, remove}
+use Rattle.std.specs.List.{AllByRecursion}
 use Rattle.std.specs.List.Sorted.{IsStrictlySortedBy}
 use Rattle.std.specs.Option.{option_and_then, option_map_or}
 use Rattle.std.specs.Ordering.{match_ordering, ordering_reverse}
@@ -18,37 +16,23 @@ use Rattle.math_tree.specs.declared.node.Head.{Head}
 use Rattle.math_tree.specs.declared.node.Node.{Node}
 use Rattle.math_tree.specs.declared.node.Node.TheOpen.{Node-F}
 use Rattle.math_tree.specs.declared.node.Node.TheViews.{roll-out-Node, out-roll-Node}
-use Rattle.tree_edits.proofs.Frames.{changed_below, children_rolled, down, put_back}
+use Rattle.tree_edits.proofs.Frames.{changed_below, children_rolled, down, head_rolled, put_back}
+use Rattle.splices.proofs.Places.{set_here}
+use Rattle.splices.proofs.Splicing.{fits_back, led_back}
+use Rattle.splices.specs.Splicing.{FitsIn, inverse, room_back, site_of, spliced, taken}
+use Rattle.splices.specs.declared.splice.Splice.{Splice}
 use Rattle.tree_edits.specs.Edits.{head_of, with_attribute, with_text, with_value}
-use Rattle.tree_edits.specs.Paths.{children_of, node_at, changed, changed_at, Fits, FitsAt, former_of}
-use Rattle.tree_edits.specs.Undoing.{undo_of, HasRoom, IsOrdered}
+use Rattle.tree_edits.specs.Paths.{children_of, node_at, changed, changed_at, Fits, FitsAt}
+use Rattle.tree_edits.specs.Undoing.{inverse_of, room_for, IsOrdered}
 use Rattle.tree_edits.specs.declared.change.Change.{Change}
-use Rattle.tree_edits.specs.declared.change.Change.TheVariants.{SetText, SetValue, PutChild, TakeChild, SwapChild}
-use Rattle.tree_edits.specs.declared.change.Former.{Former}
-use Rattle.tree_edits.specs.declared.change.Former.TheVariants.{WasText, WasValue, WasChild, WasNothing}
+use Rattle.tree_edits.specs.declared.change.Change.TheVariants.{SetText, SetValue, Children}
 
--- ---- a child that is put in, taken out or exchanged
-
-pub removed_again : {A : Type 0} (xs : List A) (i : ℕ) (x : A) → i ≤ length xs → remove (insert xs i x) i ≡ xs
-removed_again [] zero x h = refl
-removed_again [] (suc i) x h = absurd (omega (arith, h))
-removed_again (y ∷ xs) zero x h = refl
-removed_again (y ∷ xs) (suc i) x h = ap (◌∷◌ y) (removed_again xs i x (omega (arith, h)))
-
-pub inserted_again : {A : Type 0} (xs : List A) (i : ℕ) (x : A) → slice_get xs i ≡ Some x → insert (remove xs i) i x ≡ xs
-inserted_again [] i x at = absurd (none-some x at)
-inserted_again (y ∷ xs) zero x at = ap (λ z. z ∷ xs) (sym (same_Some y x at))
-inserted_again (y ∷ xs) (suc i) x at = ap (◌∷◌ y) (inserted_again xs i x at)
+-- ---- an item that is set twice
 
 pub set_again : {A : Type 0} (xs : List A) (i : ℕ) (x y : A) → slice_set (slice_set xs i x) i y ≡ slice_set xs i y
 set_again [] i x y = refl
 set_again (z ∷ xs) zero x y = refl
 set_again (z ∷ xs) (suc i) x y = ap (◌∷◌ z) (set_again xs i x y)
-
-pub got_again : {A : Type 0} (xs : List A) (i : ℕ) (x y : A) → slice_get xs i ≡ Some x → slice_get (slice_set xs i y) i ≡ Some y
-got_again [] i x y at = absurd (none-some x at)
-got_again (z ∷ xs) zero x y at = refl
-got_again (z ∷ xs) (suc i) x y at = got_again xs i x y at
 
 -- ---- an attribute that is set or removed
 
@@ -187,60 +171,32 @@ module _ (element : Node) where
   as_it_was : (other : Head) (nodes : List Node) → other ≡ head → nodes ≡ kids → node other nodes ≡ element
   as_it_was other nodes e k = ap (λ h. node h nodes) e ∙ ap (node head) k ∙ roll-out-Node element
 
-  child_at : (index : ℕ) (former : Former) → option_map WasChild (slice_get kids index) ≡ Some former
-      → (child : Node) × (slice_get kids index ≡ Some child) × (former ≡ WasChild child)
-  child_at index former was = by (slice_get kids index) was
-    where
-      by : (o : Option Node) → option_map WasChild o ≡ Some former → (child : Node) × (o ≡ Some child) × (former ≡ WasChild child)
-      by None is = absurd (none-some former is)
-      by (Some child) is = (child, refl, sym (same_Some (WasChild child) former is))
-
   -- the change that takes another back gives the element as it was
-  pub undone : (change : Change) (room : ℕ) (former : Former) → Fits change element → IsOrdered change element → former_of change element ≡ Some former
-      → changed (undo_of change room former) (changed change element) ≡ element
-  undone (SetText text) room former fits order was =
-      ap (λ f. changed (undo_of (SetText text) room f) (changed (SetText text) element)) (sym (same_Some (WasText head.text) former was))
-      ∙ of_parts (λ h nodes. node (with_text head.text h) nodes) (with_text text head) kids
+  pub undone : (change : Change) (room : ℕ) → Fits change element → IsOrdered change element
+      → changed (inverse_of change room element) (changed change element) ≡ element
+  undone (SetText text) room fits order =
+      of_parts (λ h nodes. node (with_text head.text h) nodes) (with_text text head) kids
       ∙ as_it_was head kids refl refl
-  undone (SetValue name value own) room former fits order was =
-      ap (λ f. changed (undo_of (SetValue name value own) room f) (changed (SetValue name value own) element)) (sym (same_Some (WasValue (value_of name head.attributes)) former was))
-      ∙ of_parts (λ h nodes. node (with_attribute name (value_of name head.attributes) h) nodes) (with_attribute name value head) kids
+  undone (SetValue name value own) room fits order =
+      of_parts (λ h nodes. node (with_attribute name (value_of name head.attributes) h) nodes) (with_attribute name value head) kids
       ∙ as_it_was (record head { attributes = with_value name (value_of name head.attributes) (with_value name value head.attributes) }) kids
       (ap (λ (all : List Attribute). record head { attributes = all }) (value_again name value head.attributes order)) refl
-  undone (PutChild index child own) room former fits order was =
-      ap (λ f. changed (undo_of (PutChild index child own) room f) (changed (PutChild index child own) element)) (sym (same_Some WasNothing former was))
-      ∙ of_parts (λ h nodes. node h (remove nodes index)) head (insert kids index child)
-      ∙ as_it_was head (remove (insert kids index child) index) refl (removed_again kids index child fits.0)
-  undone (TakeChild index) room former fits order was =
-      let found = child_at index former was in
-      ap (λ f. changed (undo_of (TakeChild index) room f) (changed (TakeChild index) element)) found.2
-      ∙ of_parts (λ h nodes. node h (insert nodes index found.0)) head (remove kids index)
-      ∙ as_it_was head (insert (remove kids index) index found.0) refl (inserted_again kids index found.0 found.1)
-  undone (SwapChild index child) room former fits order was =
-      let found = child_at index former was in
-      ap (λ f. changed (undo_of (SwapChild index child) room f) (changed (SwapChild index child) element)) found.2
-      ∙ of_parts (λ h nodes. node h (slice_set nodes index found.0)) head (slice_set kids index child)
-      ∙ as_it_was head (slice_set (slice_set kids index child) index found.0) refl (set_again kids index child found.0 ∙ put_back kids index found.0 found.1)
+  undone (Children splice) room fits order =
+      let back : Splice Node = inverse (site_of splice) (taken splice kids) room in
+      of_parts (λ h nodes. node h (spliced back nodes)) head (spliced splice kids)
+      ∙ as_it_was head (spliced back (spliced splice kids)) refl (led_back splice kids room fits)
 
-  -- and it can be carried out
-  pub undo_fits : (change : Change) (room : ℕ) (former : Former) → Fits change element → former_of change element ≡ Some former → HasRoom change room element
-      → Fits (undo_of change room former) (changed change element)
-  undo_fits (SetText text) room former fits was some =
-      subst (λ f. Fits (undo_of (SetText text) room f) (changed (SetText text) element)) (same_Some (WasText head.text) former was) tt
-  undo_fits (SetValue name value own) room former fits was some =
-      subst (λ f. Fits (undo_of (SetValue name value own) room f) (changed (SetValue name value own) element)) (same_Some (WasValue (value_of name head.attributes)) former was) some
-  undo_fits (PutChild index child own) room former fits was some =
-      let more = ap length (children_rolled head (insert kids index child)) ∙ length-insert kids index child fits.0 in
-      subst (λ f. Fits (undo_of (PutChild index child own) room f) (changed (PutChild index child own) element)) (same_Some WasNothing former was) (omega (arith, more, fits.0))
-  undo_fits (TakeChild index) room former fits was some =
-      let found = child_at index former was in
-      let less = length-remove kids index fits in
-      let is = ap length (children_rolled head (remove kids index)) in
-      subst (λ f. Fits (undo_of (TakeChild index) room f) (changed (TakeChild index) element)) (sym found.2) (omega (arith, less, is, fits), some)
-  undo_fits (SwapChild index child) room former fits was some =
-      let found = child_at index former was in
-      let same = ap length (children_rolled head (slice_set kids index child)) ∙ length-set kids index child in
-      subst (λ f. Fits (undo_of (SwapChild index child) room f) (changed (SwapChild index child) element)) (sym found.2) (omega (arith, same, fits))
+  -- and it can be carried out, with the room for it
+  pub undo_fits : (change : Change) → Fits change element → Fits (inverse_of change (room_for change element) element) (changed change element)
+  undo_fits (SetText text) fits = tt
+  undo_fits (SetValue name value own) fits =
+      let attributes = head.attributes in
+      let is = ap (λ h. length h.attributes) (head_rolled (with_attribute name value head) kids) in
+      omega (arith, is, length_with_value name value attributes)
+  undo_fits (Children splice) fits =
+      let room = room_back splice kids in
+      subst (FitsIn (inverse (site_of splice) (taken splice kids) room)) (sym (children_rolled head (spliced splice kids)))
+      (fits_back splice kids room fits (omega arith))
 
 -- ---- at the end of a path
 
@@ -255,7 +211,7 @@ step_twice f g h i n None at each = ap (stepped g i n) at
 step_twice f g h i n (Some child) at each =
     let nodes = slice_set (children_of n) i (f child) in
     of_parts (λ top all. option_map_or (λ c. node top (slice_set all i (g c))) (slice_get all i) (node (head_of n) nodes)) (head_of n) nodes
-    ∙ ap (λ o. option_map_or (λ c. node (head_of n) (slice_set nodes i (g c))) o (node (head_of n) nodes)) (got_again (children_of n) i child (f child) at)
+    ∙ ap (λ o. option_map_or (λ c. node (head_of n) (slice_set nodes i (g c))) o (node (head_of n) nodes)) (set_here (children_of n) i child (f child) at)
     ∙ ap (node (head_of n)) (set_again (children_of n) i (f child) (g (f child)) ∙ ap (slice_set (children_of n) i) (each child))
 
 -- two changes, one after the other, are one
@@ -282,26 +238,26 @@ changed_there f (i ∷ path) n element at =
     let after = changed_at f path below.0 in
     ap (node_at (i ∷ path)) (changed_below f i path n below.0 below.1)
     ∙ ap (λ nodes. option_and_then (node_at path) (slice_get nodes i)) (children_rolled (head_of n) (slice_set (children_of n) i after))
-    ∙ ap (option_and_then (node_at path)) (got_again (children_of n) i below.0 after below.1)
+    ∙ ap (option_and_then (node_at path)) (set_here (children_of n) i below.0 after below.1)
     ∙ changed_there f path below.0 element below.2
 
 -- ---- a change at the end of a path, and back
 
-module _ (change : Change) (room : ℕ) (former : Former) (path : List ℕ) (root : Node) (fits : FitsAt change path root) (was : option_and_then (former_of change) (node_at path root) ≡ Some former) where
-  was_there : former_of change fits.element ≡ Some former
-  was_there = ap (option_and_then (former_of change)) (sym fits.at) ∙ was
+module _ (change : Change) (path : List ℕ) (root : Node) (fits : FitsAt change path root) where
+  abbrev pub back_there : Change
+  back_there = inverse_of change (room_for change fits.element) fits.element
 
   -- the root is as it was
-  pub undone_at : IsOrdered change fits.element → changed_at (changed (undo_of change room former)) path (changed_at (changed change) path root) ≡ root
+  pub undone_at : IsOrdered change fits.element → changed_at (changed back_there) path (changed_at (changed change) path root) ≡ root
   undone_at order =
-      changed_twice (changed change) (changed (undo_of change room former)) path root
-      ∙ changed_nowhere (λ x. changed (undo_of change room former) (changed change x)) path root fits.element fits.at
-      (undone fits.element change room former fits.fits order was_there)
+      changed_twice (changed change) (changed back_there) path root
+      ∙ changed_nowhere (λ x. changed back_there (changed change x)) path root fits.element fits.at
+      (undone fits.element change (room_for change fits.element) fits.fits order)
 
   -- and the change back can be carried out
-  pub undo_fits_at : HasRoom change room fits.element → FitsAt (undo_of change room former) path (changed_at (changed change) path root)
-  undo_fits_at some = record {
+  pub undo_fits_at : FitsAt back_there path (changed_at (changed change) path root)
+  undo_fits_at = record {
     element = changed change fits.element;
     at = changed_there (changed change) path root fits.element fits.at;
-    fits = undo_fits fits.element change room former fits.fits was_there some;
+    fits = undo_fits fits.element change fits.fits;
   }

@@ -7,6 +7,8 @@ pub mod OneElement
 mod StandIn
 mod Lines
 mod Worked
+-- what becomes of an element's children
+pub mod Children
 -- the elements of a tree in which one element is changed
 pub mod Frames
 -- at another level, and with ids that are given anew
@@ -15,7 +17,7 @@ pub mod Renumbered
 -- the element that an edit names, among those of a tree
 pub mod Target
 -- elements of which some go and others come
-pub mod Splices
+pub mod Exchanges
 pub mod Ids
 -- how many elements and bytes there are after an edit, and of how many levels
 pub mod Sizes

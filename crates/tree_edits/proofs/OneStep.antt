@@ -12,19 +12,19 @@ use Rattle.tree_edits.proofs.PathEnds.{EndsAt, ends_at}
 use Rattle.tree_edits.specs.Edits.{edited}
 use Rattle.tree_edits.specs.Paths.{node_at, changed, changed_at, FitsAt}
 use Rattle.tree_edits.specs.Planning.{Allows, IsStep, Makes, SetsValue, PutsIn}
-use Rattle.tree_edits.specs.Undoing.{IsOrdered}
-use Rattle.tree_edits.specs.WaysBack.{back_from, room_for}
+use Rattle.tree_edits.specs.Undoing.{IsOrdered, room_for, undo_of}
 use Rattle.tree_edits.specs.declared.change.Change.{Change}
-use Rattle.tree_edits.specs.declared.change.Change.TheVariants.{SetText, TakeChild, SwapChild}
+use Rattle.tree_edits.specs.declared.change.Change.TheVariants.{SetText, Children}
 use Rattle.tree_edits.specs.declared.edit.Edit.TheVariants.{Text, Attr, Insert, Remove, Replace}
 use Rattle.tree_edits.specs.declared.planning.Step.{Step}
-use Rattle.tree_edits.specs.declared.way_back.WayBack.{WayBack}
+use Rattle.tree_edits.specs.declared.undo.Undo.{Undo}
+use Rattle.splices.specs.declared.splice.Splice.TheVariants.{Take, Swap}
 
--- a change with the way back from it is a step
-pub is_step : (root : Node) (path : List ℕ) (change : Change) (back : WayBack) (found : Node) → FitsAt change path root
-    → node_at path root ≡ Some found → IsOrdered change found → back ≡ back_from change (room_for change found)
-    → IsStep path change root (record { path = path; change = change; back = back })
-is_step root path change back found fits at order is =
+-- a change with its undo record is a step
+pub is_step : (root : Node) (path : List ℕ) (change : Change) (undo : Undo) (found : Node) → FitsAt change path root
+    → node_at path root ≡ Some found → IsOrdered change found → undo ≡ undo_of change (room_for change found)
+    → IsStep path change root (record { path = path; change = change; undo = undo })
+is_step root path change undo found fits at order is =
     let same : found ≡ fits.element = same_Some found fits.element (sym at ∙ fits.at) in
     record {
       path_is = refl;
@@ -32,7 +32,7 @@ is_step root path change back found fits at order is =
       ready = record {
         fits = fits;
         order = subst (IsOrdered change) same order;
-        back = is ∙ ap (λ n. back_from change (room_for change n)) same;
+        undo_is = is ∙ ap (λ n. undo_of change (room_for change n)) same;
       };
     }
 
@@ -64,24 +64,24 @@ module _ (tree : TreeValue) (path : List ℕ) (element : Node) where
     over : node_at path tree.root ≡ Some element → EndsAt front place tree.root element
     over at = ends_at front place tree.root element (ap (λ p. node_at p tree.root) (sym is) ∙ at)
 
-    pub taking_fits : (id : NodeId) → Allows (Remove id) tree path element → FitsAt (TakeChild place) front tree.root
+    pub taking_fits : (id : NodeId) → Allows (Remove id) tree path element → FitsAt (Children (Take place)) front tree.root
     taking_fits id allows =
         let parent = over allows.at in
         record { element = parent.parent; at = parent.at; fits = slice_get_within _ place element parent.there }
 
     pub taking_made : (id : NodeId) → Allows (Remove id) tree path element
-        → (edited tree (Remove id)).root ≡ changed_at (changed (TakeChild place)) front tree.root
+        → (edited tree (Remove id)).root ≡ changed_at (changed (Children (Take place))) front tree.root
     taking_made id allows =
         let parent = over allows.at in
         parent_change_law tree (Remove id) front parent.parent place element allows.whole tt parent.at parent.there allows.has
 
-    pub swapping_fits : (id : NodeId) (new child : Node) → Allows (Replace id new) tree path element → FitsAt (SwapChild place child) front tree.root
+    pub swapping_fits : (id : NodeId) (new child : Node) → Allows (Replace id new) tree path element → FitsAt (Children (Swap place child)) front tree.root
     swapping_fits id new child allows =
         let parent = over allows.at in
         record { element = parent.parent; at = parent.at; fits = slice_get_within _ place element parent.there }
 
     pub swapping_made : (id : NodeId) (new child : Node) → Allows (Replace id new) tree path element → child ≡ renumbered tree.next_id new
-        → (edited tree (Replace id new)).root ≡ changed_at (changed (SwapChild place child)) front tree.root
+        → (edited tree (Replace id new)).root ≡ changed_at (changed (Children (Swap place child))) front tree.root
     swapping_made id new child allows child_is =
         let parent = over allows.at in
         rw child_is (parent_change_law tree (Replace id new) front parent.parent place element allows.whole tt parent.at parent.there allows.has)

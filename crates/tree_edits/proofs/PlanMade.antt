@@ -10,14 +10,14 @@ use Rattle.tree_edits.specs.Planning.{Allows, IsPlan, Makes, planned}
 use Rattle.tree_edits.specs.Reasons.{broken_limit}
 use Rattle.tree_edits.specs.Sizes.{totals_of}
 use Rattle.tree_edits.specs.declared.edit.Edit.{Edit}
-use Rattle.tree_edits.specs.declared.planning.Plan.{Plan}
+use Rattle.tree_edits.specs.declared.planning.EditPlan.{EditPlan}
 use Rattle.tree_edits.specs.declared.totals.Totals.{Totals}
 
 same_tree : (tree other : TreeValue) → tree.root ≡ other.root → tree.next_id ≡ other.next_id → tree ≡ other
 same_tree tree other root next =
     ap (λ n. record tree { root = n }) root ∙ ap (λ (n : ℕ). record { root = other.root; next_id = n }) next
 
-pub is_plan : (tree : TreeValue) (edit : Edit) (path : List ℕ) (element : Node) (totals : Totals) (plan : Plan) → IsProperEdit edit
+pub is_plan : (tree : TreeValue) (edit : Edit) (path : List ℕ) (element : Node) (totals : Totals) (plan : EditPlan) → IsProperEdit edit
     → Allows edit tree path element → totals ≡ totals_of (edited tree edit)
     → broken_limit totals.deep totals.size.elements totals.size.bytes totals.next_id ≡ None
     → Makes tree.root (edited tree edit).root plan.step

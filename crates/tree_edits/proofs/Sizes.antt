@@ -14,11 +14,12 @@ use Rattle.tree_edits.proofs.Frames.{entry, flat_set}
 use Rattle.tree_edits.proofs.Levels.{bytes_in, bytes_at, length_at}
 use Rattle.tree_edits.proofs.OneElement.{own_change_law, parent_change_law}
 use Rattle.tree_edits.proofs.Renumbered.{bytes_renumbered, count_renumbered, deep_renumbered}
-use Rattle.tree_edits.proofs.Splices.{Spliced, spliced_at, ahead, behind, beyond, parted, inserted, removed, standing, count_spliced, bytes_spliced, deep_spliced}
+use Rattle.tree_edits.proofs.Exchanges.{Exchanged, exchanged_at, ahead, behind, beyond, parted, inserted, removed, standing, count_exchanged, bytes_exchanged, deep_exchanged}
 use Rattle.tree_edits.specs.Edits.{has_id, head_of, with_text, with_attribute, edited, is_deep}
 use Rattle.tree_edits.specs.Paths.{children_of, node_at, changed}
 use Rattle.tree_edits.specs.Reasons.{shown}
-use Rattle.tree_edits.specs.declared.change.Change.TheVariants.{SetText, SetValue, PutChild, TakeChild, SwapChild}
+use Rattle.splices.specs.declared.splice.Splice.TheVariants.{Put, Take, Swap}
+use Rattle.tree_edits.specs.declared.change.Change.TheVariants.{SetText, SetValue, Children}
 use Rattle.tree_edits.specs.declared.edit.Edit.{Edit}
 use Rattle.tree_edits.specs.declared.edit.Edit.TheVariants.{Text, Attr, Insert, Remove, Replace}
 
@@ -31,7 +32,7 @@ module _ (tree : TreeValue) (path : List ℕ) (element : Node) (whole : IsWhole 
 
   abbrev pub SplicedBy : Edit → Head → ℕ → List Listed → List Listed → Type 0
   SplicedBy edit head children gone new =
-      Spliced (listed 1 tree.root) (listed 1 (edited tree edit).root) (shown (1 + length path) element) (entry (1 + length path) head children) gone new
+      Exchanged (listed 1 tree.root) (listed 1 (edited tree edit).root) (shown (1 + length path) element) (entry (1 + length path) head children) gone new
 
   abbrev list : Node → List Listed
   list = listed (1 + length path + 1)
@@ -39,51 +40,51 @@ module _ (tree : TreeValue) (path : List ℕ) (element : Node) (whole : IsWhole 
   abbrev nodes : List Node
   nodes = children_of element
 
-  pub text_spliced : (id : NodeId) (text : List ℕ) → has_id id.0 (head_of element) ≡ true
+  pub text_exchanged : (id : NodeId) (text : List ℕ) → has_id id.0 (head_of element) ≡ true
       → SplicedBy (Text id text) (with_text text (head_of element)) (length (children_of element)) [] []
-  text_spliced id text has =
+  text_exchanged id text has =
       let head = with_text text (head_of element) in
-      subst (λ r. Spliced (listed 1 tree.root) (listed 1 r) (shown level element) (entry level head (length nodes)) [] [])
+      subst (λ r. Exchanged (listed 1 tree.root) (listed 1 r) (shown level element) (entry level head (length nodes)) [] [])
       (sym (own_change_law tree (Text id text) path element whole tt at has))
-      (spliced_at tree.root path element (changed (SetText text)) head nodes [] [] [] (flat_map list nodes) at refl refl refl)
+      (exchanged_at tree.root path element (changed (SetText text)) head nodes [] [] [] (flat_map list nodes) at refl refl refl)
 
-  pub attribute_spliced : (id : NodeId) (name : List ℕ) (value : Option (List ℕ)) → has_id id.0 (head_of element) ≡ true
+  pub attribute_exchanged : (id : NodeId) (name : List ℕ) (value : Option (List ℕ)) → has_id id.0 (head_of element) ≡ true
       → SplicedBy (Attr id name value) (with_attribute name value (head_of element)) (length (children_of element)) [] []
-  attribute_spliced id name value has =
+  attribute_exchanged id name value has =
       let head = with_attribute name value (head_of element) in
-      subst (λ r. Spliced (listed 1 tree.root) (listed 1 r) (shown level element) (entry level head (length nodes)) [] [])
+      subst (λ r. Exchanged (listed 1 tree.root) (listed 1 r) (shown level element) (entry level head (length nodes)) [] [])
       (sym (own_change_law tree (Attr id name value) path element whole tt at has))
-      (spliced_at tree.root path element (changed (SetValue name value 0)) head nodes [] [] [] (flat_map list nodes) at refl refl refl)
+      (exchanged_at tree.root path element (changed (SetValue name value 0)) head nodes [] [] [] (flat_map list nodes) at refl refl refl)
 
-  pub insert_spliced : (id : NodeId) (index : ℕ) (new : Node) → has_id id.0 (head_of element) ≡ true
+  pub insert_exchanged : (id : NodeId) (index : ℕ) (new : Node) → has_id id.0 (head_of element) ≡ true
       → SplicedBy (Insert id index new) (head_of element) (length (insert (children_of element) index (renumbered tree.next_id new))) []
       (listed (1 + length path + 1) (renumbered tree.next_id new))
-  insert_spliced id index new has =
+  insert_exchanged id index new has =
       let child = renumbered tree.next_id new in
       let after = insert nodes index child in
-      subst (λ r. Spliced (listed 1 tree.root) (listed 1 r) (shown level element) (entry level (head_of element) (length after)) [] (list child))
+      subst (λ r. Exchanged (listed 1 tree.root) (listed 1 r) (shown level element) (entry level (head_of element) (length after)) [] (list child))
       (sym (own_change_law tree (Insert id index new) path element whole tt at has))
-      (spliced_at tree.root path element (changed (PutChild index child 0)) (head_of element) after
+      (exchanged_at tree.root path element (changed (Children (Put index child 0))) (head_of element) after
       (ahead list nodes index) [] (list child) (behind list nodes index) at refl (parted list nodes index) (inserted list nodes index child))
 
-  pub remove_spliced : (id : NodeId) (place : ℕ) (child : Node) → slice_get (children_of element) place ≡ Some child → has_id id.0 (head_of child) ≡ true
+  pub remove_exchanged : (id : NodeId) (place : ℕ) (child : Node) → slice_get (children_of element) place ≡ Some child → has_id id.0 (head_of child) ≡ true
       → SplicedBy (Remove id) (head_of element) (length (remove (children_of element) place)) (listed (1 + length path + 1) child) []
-  remove_spliced id place child there has =
+  remove_exchanged id place child there has =
       let after = remove nodes place in
-      subst (λ r. Spliced (listed 1 tree.root) (listed 1 r) (shown level element) (entry level (head_of element) (length after)) (list child) [])
+      subst (λ r. Exchanged (listed 1 tree.root) (listed 1 r) (shown level element) (entry level (head_of element) (length after)) (list child) [])
       (sym (parent_change_law tree (Remove id) path element place child whole tt at there has))
-      (spliced_at tree.root path element (changed (TakeChild place)) (head_of element) after
+      (exchanged_at tree.root path element (changed (Children (Take place))) (head_of element) after
       (ahead list nodes place) (list child) [] (beyond list nodes place) at refl (standing list nodes place child there) (removed list nodes place))
 
-  pub replace_spliced : (id : NodeId) (new : Node) (place : ℕ) (child : Node) → slice_get (children_of element) place ≡ Some child → has_id id.0 (head_of child) ≡ true
+  pub replace_exchanged : (id : NodeId) (new : Node) (place : ℕ) (child : Node) → slice_get (children_of element) place ≡ Some child → has_id id.0 (head_of child) ≡ true
       → SplicedBy (Replace id new) (head_of element) (length (slice_set (children_of element) place (renumbered tree.next_id new)))
       (listed (1 + length path + 1) child) (listed (1 + length path + 1) (renumbered tree.next_id new))
-  replace_spliced id new place child there has =
+  replace_exchanged id new place child there has =
       let other = renumbered tree.next_id new in
       let after = slice_set nodes place other in
-      subst (λ r. Spliced (listed 1 tree.root) (listed 1 r) (shown level element) (entry level (head_of element) (length after)) (list child) (list other))
+      subst (λ r. Exchanged (listed 1 tree.root) (listed 1 r) (shown level element) (entry level (head_of element) (length after)) (list child) (list other))
       (sym (parent_change_law tree (Replace id new) path element place child whole tt at there has))
-      (spliced_at tree.root path element (changed (SwapChild place other)) (head_of element) after
+      (exchanged_at tree.root path element (changed (Children (Swap place other))) (head_of element) after
       (ahead list nodes place) (list child) (list other) (beyond list nodes place) at refl (standing list nodes place child there)
       (flat_set list nodes place child other there))
 
@@ -105,15 +106,15 @@ pub record Changes (before after : Node) (was is : Head) : Type 0 where
   pub bytes : byte_count after + bytes_of_head was ≡ byte_count before + bytes_of_head is
   pub shallow : is_deep (listed 1 after) ≡ false
 
-changes : (before after : Node) (own made : Listed) → Spliced (listed 1 before) (listed 1 after) own made [] [] → own.level ≡ made.level
+changes : (before after : Node) (own made : Listed) → Exchanged (listed 1 before) (listed 1 after) own made [] [] → own.level ≡ made.level
     → is_deep (listed 1 before) ≡ false → Changes before after own.head made.head
-changes before after own made splice level shallow =
-    let count = count_spliced splice in
-    let bytes = bytes_spliced splice in
+changes before after own made exchange level shallow =
+    let count = count_exchanged exchange in
+    let bytes = bytes_exchanged exchange in
     record {
       elements = omega (arith, count);
       bytes = omega (arith, bytes);
-      shallow = deep_spliced splice level shallow;
+      shallow = deep_exchanged exchange level shallow;
     }
 
 pub text_sizes : (tree : TreeValue) (path : List ℕ) (element : Node) → IsWhole tree → node_at path tree.root ≡ Some element
@@ -122,7 +123,7 @@ pub text_sizes : (tree : TreeValue) (path : List ℕ) (element : Node) → IsWho
 text_sizes tree path element whole at id text has =
     let head = with_text text (head_of element) in
     changes tree.root (edited tree (Text id text)).root (shown (1 + length path) element) (entry (1 + length path) head (length (children_of element)))
-    (text_spliced tree path element whole at id text has) refl (shallow_tree tree whole)
+    (text_exchanged tree path element whole at id text has) refl (shallow_tree tree whole)
 
 pub attribute_sizes : (tree : TreeValue) (path : List ℕ) (element : Node) → IsWhole tree → node_at path tree.root ≡ Some element
     → (id : NodeId) (name : List ℕ) (value : Option (List ℕ)) → has_id id.0 (head_of element) ≡ true
@@ -130,7 +131,7 @@ pub attribute_sizes : (tree : TreeValue) (path : List ℕ) (element : Node) → 
 attribute_sizes tree path element whole at id name value has =
     let head = with_attribute name value (head_of element) in
     changes tree.root (edited tree (Attr id name value)).root (shown (1 + length path) element) (entry (1 + length path) head (length (children_of element)))
-    (attribute_spliced tree path element whole at id name value has) refl (shallow_tree tree whole)
+    (attribute_exchanged tree path element whole at id name value has) refl (shallow_tree tree whole)
 
 -- ---- a child more
 
@@ -157,13 +158,13 @@ pub insert_sizes : (tree : TreeValue) (path : List ℕ) (element : Node) → IsW
 insert_sizes tree path element whole at id index new has =
     let level = 1 + length path + 1 in
     let next = tree.next_id in
-    let splice = insert_spliced tree path element whole at id index new has in
-    let count = count_spliced splice in
-    let bytes = bytes_spliced splice in
+    let exchange = insert_exchanged tree path element whole at id index new has in
+    let count = count_exchanged exchange in
+    let bytes = bytes_exchanged exchange in
     record {
       elements = omega (arith, count, new_count level next new);
       bytes = omega (arith, bytes, new_bytes level next new);
-      levels = deep_spliced splice refl (shallow_tree tree whole) ∙ new_levels path next new;
+      levels = deep_exchanged exchange refl (shallow_tree tree whole) ∙ new_levels path next new;
     }
 
 -- ---- a child less
@@ -178,13 +179,13 @@ pub remove_sizes : (tree : TreeValue) (path : List ℕ) (element : Node) → IsW
     → Loses tree.root (edited tree (Remove id)).root child
 remove_sizes tree path element whole at id place child there has =
     let level = 1 + length path + 1 in
-    let splice = remove_spliced tree path element whole at id place child there has in
-    let count = count_spliced splice in
-    let bytes = bytes_spliced splice in
+    let exchange = remove_exchanged tree path element whole at id place child there has in
+    let count = count_exchanged exchange in
+    let bytes = bytes_exchanged exchange in
     record {
       elements = omega (arith, count, length_at level child);
       bytes = omega (arith, bytes, bytes_at level child);
-      shallow = deep_spliced splice refl (shallow_tree tree whole);
+      shallow = deep_exchanged exchange refl (shallow_tree tree whole);
     }
 
 -- ---- a child in place of another
@@ -200,11 +201,11 @@ pub replace_sizes : (tree : TreeValue) (path : List ℕ) (element : Node) → Is
 replace_sizes tree path element whole at id new place child there has =
     let level = 1 + length path + 1 in
     let next = tree.next_id in
-    let splice = replace_spliced tree path element whole at id new place child there has in
-    let count = count_spliced splice in
-    let bytes = bytes_spliced splice in
+    let exchange = replace_exchanged tree path element whole at id new place child there has in
+    let count = count_exchanged exchange in
+    let bytes = bytes_exchanged exchange in
     record {
       elements = omega (arith, count, length_at level child, new_count level next new);
       bytes = omega (arith, bytes, bytes_at level child, new_bytes level next new);
-      levels = deep_spliced splice refl (shallow_tree tree whole) ∙ new_levels path next new;
+      levels = deep_exchanged exchange refl (shallow_tree tree whole) ∙ new_levels path next new;
     }

@@ -12,15 +12,15 @@ use Rattle.math_tree.specs.declared.node.Head.{Head}
 use Rattle.math_tree.specs.declared.node.Node.{Node}
 use Rattle.math_tree.specs.declared.node.NodeId.{NodeId}
 use Rattle.tree_edits.proofs.Frames.{entry, head_rolled}
-use Rattle.tree_edits.proofs.Ids.{distinct_spliced, given_spliced}
+use Rattle.tree_edits.proofs.Ids.{distinct_exchanged, given_exchanged}
 use Rattle.tree_edits.proofs.Levels.{bytes_in, proper_at}
 use Rattle.tree_edits.proofs.OneElement.{own_change_law, parent_change_law}
 use Rattle.tree_edits.proofs.ProperHeads.{proper_attribute, proper_text, proper_children}
 use Rattle.tree_edits.proofs.Reached.{ParentOf, reached, parent_of, root_keeps}
 use Rattle.tree_edits.proofs.Refusals.{AcceptedBy, accepted}
 use Rattle.tree_edits.proofs.Renumbered.{HasNewIds, new_ids, proper_renumbered}
-use Rattle.tree_edits.proofs.Sizes.{text_spliced, attribute_spliced, insert_spliced, remove_spliced, replace_spliced}
-use Rattle.tree_edits.proofs.Splices.{Spliced, all_spliced, own_of_all}
+use Rattle.tree_edits.proofs.Sizes.{text_exchanged, attribute_exchanged, insert_exchanged, remove_exchanged, replace_exchanged}
+use Rattle.tree_edits.proofs.Exchanges.{Exchanged, all_exchanged, own_of_all}
 use Rattle.tree_edits.proofs.Target.{found_at, is_below_the_root}
 use Rattle.tree_edits.specs.Applying.{IsProperEdit}
 use Rattle.tree_edits.specs.Edits.{named, has_id, head_of, with_text, with_attribute, added, edited, is_deep, at_target, is_in_text, is_not_text, refusal_of, target}
@@ -46,7 +46,7 @@ further bound more (id ∷ ids) h =
 
 -- what an edit brings is proper and has ids of its own, and it leaves the root's name and id
 record Fitting (tree : TreeValue) (edit : Edit) (own made : Listed) (gone new : List Listed) : Type 0 where
-  splice : Spliced (listed 1 tree.root) (listed 1 (edited tree edit).root) own made gone new
+  exchange : Exchanged (listed 1 tree.root) (listed 1 (edited tree edit).root) own made gone new
   same : own.head.id.0 ≡ made.head.id.0
   here : IsProper own → IsProper made
   proper : AllByRecursion IsProper new
@@ -60,18 +60,18 @@ fits_whole tree edit own made gone new whole passes fitting =
     let before = listed 1 tree.root in
     let after = listed 1 (edited tree edit).root in
     let next = tree.next_id + added edit in
-    let splice = fitting.splice in
+    let exchange = fitting.exchange in
     let proper = recursion_from_All IsProper before whole.proper in
     let given = recursion_from_All (λ n. n < tree.next_id) (ids_of before) whole.given in
     let large = or_parts (nat_lt most_elements (length after)) (nat_lt most_bytes (bytes_in after)) passes.small in
     record {
       name = fitting.name ∙ whole.name;
       first = fitting.id ∙ whole.first;
-      proper = All-from_recursion IsProper after (all_spliced splice IsProper proper (fitting.here (own_of_all splice IsProper proper)) fitting.proper);
+      proper = All-from_recursion IsProper after (all_exchanged exchange IsProper proper (fitting.here (own_of_all exchange IsProper proper)) fitting.proper);
       shallow = All-from_recursion (λ e. e.level ≤ most_levels) after (levels_within after passes.shallow);
-      distinct = distinct_spliced splice fitting.same tree.next_id whole.distinct given fitting.ids.distinct fitting.ids.new;
+      distinct = distinct_exchanged exchange fitting.same tree.next_id whole.distinct given fitting.ids.distinct fitting.ids.new;
       given = All-from_recursion (λ n. n < next) (ids_of after)
-          (given_spliced splice fitting.same next (further tree.next_id (added edit) (ids_of before) given) fitting.ids.given);
+          (given_exchanged exchange fitting.same next (further tree.next_id (added edit) (ids_of before) given) fitting.ids.given);
       next = ltb-false (2 ^ 32) next passes.left;
       few = ltb-false most_elements (length after) large.0;
       small = ltb-false most_bytes (bytes_in after) large.1;
@@ -126,7 +126,7 @@ module _ (tree : TreeValue) (path : List ℕ) (element : Node) (whole : IsWhole 
       let made = entry level head (length nodes) in
       let is_text = not-false (is_text_kind (head_of element).kind) (test_at tree edit path element (is_not_text edit) whole at has passes.on_text) in
       fits_whole tree edit own made [] [] whole passes (record {
-        splice = text_spliced tree path element whole at id text has;
+        exchange = text_exchanged tree path element whole at id text has;
         same = refl;
         here = proper_text level (length nodes) (head_of element) text is_text (not-false (is_short_enough text) passes.short);
         proper = tt;
@@ -142,7 +142,7 @@ module _ (tree : TreeValue) (path : List ℕ) (element : Node) (whole : IsWhole 
       let head = with_attribute name value (head_of element) in
       let made = entry level head (length nodes) in
       fits_whole tree edit own made [] [] whole passes (record {
-        splice = attribute_spliced tree path element whole at id name value has;
+        exchange = attribute_exchanged tree path element whole at id name value has;
         same = refl;
         here = proper_attribute level (length nodes) (head_of element) name value (not-false (is_name name) passes.named) passes.short passes.left_to_right;
         proper = tt;
@@ -166,7 +166,7 @@ module _ (tree : TreeValue) (path : List ℕ) (element : Node) (whole : IsWhole 
       let made = entry level (head_of element) (length after) in
       let other : is_text_kind (head_of element).kind ≡ false = test_at tree edit path element (is_in_text edit) whole at has passes.in_other in
       fits_whole tree edit own made [] (listed (level + 1) child) whole passes (record {
-        splice = insert_spliced tree path element whole at id index new has;
+        exchange = insert_exchanged tree path element whole at id index new has;
         same = refl;
         here = proper_children level (length nodes) (length after) (head_of element) (λ is_text. absurd (true≢false (sym is_text ∙ other)));
         proper = new_proper new brought;
@@ -189,7 +189,7 @@ module _ (tree : TreeValue) (path : List ℕ) (element : Node) (whole : IsWhole 
       let after = remove nodes place in
       let made = entry level (head_of element) (length after) in
       fits_whole tree edit own made (listed (level + 1) child) [] whole passes (record {
-        splice = remove_spliced tree path element whole at id place child there has;
+        exchange = remove_exchanged tree path element whole at id place child there has;
         same = refl;
         here = still_childless place child (length after) there;
         proper = tt;
@@ -206,7 +206,7 @@ module _ (tree : TreeValue) (path : List ℕ) (element : Node) (whole : IsWhole 
       let after = slice_set nodes place other in
       let made = entry level (head_of element) (length after) in
       fits_whole tree edit own made (listed (level + 1) child) (listed (level + 1) other) whole passes (record {
-        splice = replace_spliced tree path element whole at id new place child there has;
+        exchange = replace_exchanged tree path element whole at id new place child there has;
         same = refl;
         here = still_childless place child (length after) there;
         proper = new_proper new brought;

@@ -64,7 +64,8 @@ without_fault (Err fault) = None
 
 -- an element that is to stand in a tree
 unfoldable pub element_in : Data → Option Node
-element_in value = option_and_then (λ element. without_fault (part_of element)) (get (codes "element") value)
+element_in value =
+    option_and_then (λ element. without_fault (part_of element)) (get (codes "element") value)
 
 -- ---- the commands
 
@@ -105,14 +106,22 @@ text_edit value =
 
 abbrev pub attribute_edit : Data → Option Edit
 attribute_edit value =
-    option_and_then (λ id. option_and_then (λ name. option_map (Attr id name) (value_in value)) (text_at (codes "name") value)) (id_in value)
+    option_and_then
+    (λ id.
+    option_and_then (λ name. option_map (Attr id name) (value_in value))
+    (text_at (codes "name") value))
+    (id_in value)
 
 abbrev pub insert_edit : Data → Option Edit
 insert_edit value =
-    option_and_then (λ id. option_and_then (λ index. option_map (Insert id index) (element_in value)) (index_in value)) (id_in value)
+    option_and_then
+    (λ id.
+    option_and_then (λ index. option_map (Insert id index) (element_in value)) (index_in value))
+    (id_in value)
 
 abbrev pub replace_edit : Data → Option Edit
-replace_edit value = option_and_then (λ id. option_map (Replace id) (element_in value)) (id_in value)
+replace_edit value =
+    option_and_then (λ id. option_map (Replace id) (element_in value)) (id_in value)
 
 -- what a line asks for
 abbrev pub command_by : Op → Data → Option Command

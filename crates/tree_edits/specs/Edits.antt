@@ -55,11 +55,13 @@ made (Text id text) next head children =
 made (Attr id name value) next head children =
     node (if has_id id.0 head then with_attribute name value head else head) children
 made (Insert id index element) next head children =
-    node head (if has_id id.0 head then insert children index (renumbered next element) else children)
+    node head
+    (if has_id id.0 head then insert children index (renumbered next element) else children)
 made (Remove id) next head children =
     node head (filter (λ child. not (has_id id.0 (head_of child))) children)
 made (Replace id element) next head children =
-    node head (map (λ child. if has_id id.0 (head_of child) then renumbered next element else child) children)
+    node head
+    (map (λ child. if has_id id.0 (head_of child) then renumbered next element else child) children)
 
 abbrev pub layer_made : Edit → ℕ → Node-F Node → Node
 layer_made edit next layer = made edit next layer.head layer.children
@@ -155,7 +157,8 @@ is_deep elements = list_any (λ e. nat_lt most_levels e.level) elements
 
 abbrev pub is_large : List Listed → Bool
 is_large elements =
-    nat_lt most_elements (length elements) || nat_lt most_bytes (sum_by (λ e. bytes_of_head e.head) elements)
+    nat_lt most_elements (length elements)
+    || nat_lt most_bytes (sum_by (λ e. bytes_of_head e.head) elements)
 
 -- ---- the refusals
 

@@ -10,4 +10,3 @@ pub mod Sizes
 pub mod Spare
 pub mod Texts
 pub mod Undoing
-pub mod WaysBack

@@ -1,5 +1,6 @@
 -- An edit as it is planned before it is carried out.
 use Rattle.std.specs.Prelude.{◌≡◌, ℕ, ◌+◌, ◌≤◌, List, length, true, Option, Some, None}
+use Rattle.splices.specs.declared.splice.Splice.TheVariants.{Put}
 use Rattle.math_tree.specs.Forms.{most_levels}
 use Rattle.math_tree.specs.Trees.{TreeValue, IsWhole, IsTotalled}
 use Rattle.math_tree.specs.declared.node.Node.{Node}
@@ -7,13 +8,12 @@ use Rattle.tree_edits.specs.Edits.{named, has_id, head_of, edited, refusal_of}
 use Rattle.tree_edits.specs.Paths.{node_at, changed, changed_at, Fits, FitsAt}
 use Rattle.tree_edits.specs.Reasons.{broken_limit, own_reason, shown}
 use Rattle.tree_edits.specs.Sizes.{totals_of}
-use Rattle.tree_edits.specs.Undoing.{IsOrdered}
-use Rattle.tree_edits.specs.WaysBack.{back_from, room_for}
+use Rattle.tree_edits.specs.Undoing.{IsOrdered, room_for, undo_of}
 use Rattle.tree_edits.specs.declared.change.Change.{Change}
-use Rattle.tree_edits.specs.declared.change.Change.TheVariants.{SetValue, PutChild}
+use Rattle.tree_edits.specs.declared.change.Change.TheVariants.{SetValue, Children}
 use Rattle.tree_edits.specs.declared.edit.Edit.{Edit}
 use Rattle.tree_edits.specs.declared.planning.Accepted.{Accepted}
-use Rattle.tree_edits.specs.declared.planning.Plan.{Plan}
+use Rattle.tree_edits.specs.declared.planning.EditPlan.{EditPlan}
 use Rattle.tree_edits.specs.declared.planning.Step.{Step}
 
 -- a path leads to the element that an edit of a whole tree names, and no reason against the edit
@@ -35,15 +35,17 @@ pub record IsAccepted (tree : TreeValue) (edit : Edit) (accepted : Accepted) : T
   pub element : Node
   pub allows : Allows edit tree accepted.path element
   pub totals_are : accepted.totals ≡ totals_of (edited tree edit)
-  pub within : broken_limit accepted.totals.deep accepted.totals.size.elements accepted.totals.size.bytes accepted.totals.next_id ≡ None
+  pub within :
+      broken_limit accepted.totals.deep accepted.totals.size.elements accepted.totals.size.bytes
+      accepted.totals.next_id ≡ None
 
 -- ---- one step
 
--- the change can be carried out, and with what it answers the way back can be gone
+-- the change can be carried out, and its undo record is there
 pub record IsReady (root : Node) (step : Step) : Type 0 where
   pub fits : FitsAt step.change step.path root
   pub order : IsOrdered step.change fits.element
-  pub back : step.back ≡ back_from step.change (room_for step.change fits.element)
+  pub undo_is : step.undo ≡ undo_of step.change (room_for step.change fits.element)
 
 -- a step that is this change at the end of this path
 pub record IsStep (path : List ℕ) (change : Change) (root : Node) (step : Step) : Type 0 where
@@ -57,32 +59,33 @@ pub record Makes (root after : Node) (step : Step) : Type 0 where
   pub makes : changed_at (changed step.change) step.path root ≡ after
 
 -- a change of an element that sets a value, and one that puts a child in
-pub record SetsValue (name : List ℕ) (value : Option (List ℕ)) (element : Node) (change : Change) : Type 0 where
+pub record SetsValue (name : List ℕ) (value : Option (List ℕ)) (element : Node)
+    (change : Change) : Type 0 where
   pub room : ℕ
   pub is : change ≡ SetValue name value room
   pub fits : Fits change element
 
 pub record PutsIn (index : ℕ) (child element : Node) (change : Change) : Type 0 where
   pub room : ℕ
-  pub is : change ≡ PutChild index child room
+  pub is : change ≡ Children (Put index child room)
   pub fits : Fits change element
 
 -- ---- a plan
 
 -- the tree that a plan makes of another
-abbrev pub planned : Plan → TreeValue → TreeValue
+abbrev pub planned : EditPlan → TreeValue → TreeValue
 planned plan tree = record {
   root = changed_at (changed plan.step.change) plan.step.path tree.root;
   next_id = plan.next_id;
 }
 
 -- it can be carried out, and makes a whole tree with the totals of the plan
-pub record CanCarryOut (plan : Plan) (tree : TreeValue) : Type 0 where
+pub record CanCarryOut (plan : EditPlan) (tree : TreeValue) : Type 0 where
   pub ready : IsReady tree.root plan.step
   pub totalled : IsTotalled (planned plan tree) plan.elements plan.bytes
 
 -- the plan of an edit that isn't refused
-pub record IsPlan (tree : TreeValue) (edit : Edit) (plan : Plan) : Type 0 where
+pub record IsPlan (tree : TreeValue) (edit : Edit) (plan : EditPlan) : Type 0 where
   pub accepted : refusal_of tree edit ≡ None
   pub can : CanCarryOut plan tree
   pub makes : planned plan tree ≡ edited tree edit

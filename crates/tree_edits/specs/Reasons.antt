@@ -14,7 +14,8 @@ use Rattle.tree_edits.specs.declared.edit.EditRefusal.TheVariants.{NotText, IsTe
 
 -- an element at a level as a list shows it
 abbrev pub shown : ℕ → Node → Listed
-shown level element = record { level = level; head = head_of element; children = length (children_of element) }
+shown level element =
+    record { level = level; head = head_of element; children = length (children_of element) }
 
 -- the first of these that holds
 abbrev pub first_reason : List (Bool × EditRefusal) → Option EditRefusal

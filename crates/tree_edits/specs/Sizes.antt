@@ -13,7 +13,8 @@ capped n = min n (2 ^ 64 - 1)
 
 -- an element with all below it
 abbrev pub size_of : Node → Size
-size_of element = record { elements = capped (element_count element); bytes = capped (byte_count element) }
+size_of element =
+    record { elements = capped (element_count element); bytes = capped (byte_count element) }
 
 abbrev pub totals_of : TreeValue → Totals
 totals_of tree = record {
@@ -29,7 +30,9 @@ attribute_bytes name value = option_map_or (λ v. length name + length v) value 
 -- some bytes more, and some less
 abbrev pub with_bytes : ℕ → ℕ → Totals → Totals
 with_bytes more less totals =
-    record totals { size = record { elements = totals.size.elements; bytes = totals.size.bytes + more - less } }
+    record totals {
+      size = record { elements = totals.size.elements; bytes = totals.size.bytes + more - less };
+    }
 
 -- an element less, with all below it
 abbrev pub without : Node → Totals → Totals

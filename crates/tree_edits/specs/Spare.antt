@@ -6,7 +6,8 @@ use Rattle.math_tree.specs.declared.node.Head.{Head}
 use Rattle.math_tree.specs.declared.node.Node.{Node}
 
 abbrev pub spare_head : Head
-spare_head = record { id = record { 0 = 1 }; name = codes "math"; kind = Math; attributes = []; text = [] }
+spare_head =
+    record { id = record { 0 = 1 }; name = codes "math"; kind = Math; attributes = []; text = [] }
 
 unfoldable pub spare_root : Node
 spare_root = node spare_head []

@@ -7,7 +7,7 @@ ghost use Rattle.tree_edits.specs.Planning.{planned, CanCarryOut};
 
 use crate::change::{Change, carry_out_at};
 use crate::path::{Path, path_to};
-use crate::planning::{Plan, Step};
+use crate::planning::{EditPlan, Step};
 use crate::spare::Spare;
 use crate::{Edit, EditRefusal};
 use math_tree::Tree;
@@ -72,31 +72,31 @@ pub fn apply_at(
     ensures refused { IfErr result (IsReason tree.old edit) }
     ensures unchanged { OnErr result (tree.new ≡ tree.old) }
 {
-    let plan = Plan::make(alloc, tree, found, edit)?;
+    let plan = EditPlan::make(alloc, tree, found, edit)?;
     Ok(carry_out_plan(tree, plan))
 }
 
 /// Carries a plan out. It takes no memory.
-fn carry_out_plan(tree: &mut Tree, plan: Plan) -> Taken
+fn carry_out_plan(tree: &mut Tree, plan: EditPlan) -> Taken
     requires { CanCarryOut plan tree.old }
     ensures tree { tree.new ≡ planned plan tree.old }
     ensures taken { Undoes result tree.new tree.old }
 {
-    let Plan {
+    let EditPlan {
         step,
         next_id,
         elements,
         bytes,
         spare,
     } = plan;
-    let Step { path, change, back } = step;
+    let Step { path, change, undo } = step;
     let before = (tree.next_id(), tree.elements(), tree.bytes());
     let mut root = tree.exchange(spare.into_root(), 2, 1, 4);
-    let former = carry_out_at(&mut root, path.as_slice(), change);
+    let replaced = carry_out_at(&mut root, path.as_slice(), change);
     let stand_in = tree.exchange(root, next_id, elements, bytes);
     Taken {
         path,
-        change: back.undoing(former),
+        change: undo.completed(replaced),
         next_id: before.0,
         elements: before.1,
         bytes: before.2,

@@ -1,4 +1,5 @@
-//! Laws of the definitions. Each is a contract, so that it is proved; the functions compute nothing.
+//! Laws of the definitions. Each is a contract, so that it is proved; the functions compute
+//! nothing.
 ghost use Rattle.tree_edits.specs.Laws.{OwnChangeLaw, ParentChangeLaw};
 
 /// In a whole tree an edit of the element that it names changes that element and no other.

@@ -37,10 +37,10 @@ mod read;
 mod reasons; // against an edit of an element
 mod spare; // a root for the meantime
 mod totals; // of an edited tree
-mod way_back; // what undoing takes
+mod undo; // what undoing takes
 
 pub use applying::{Taken, apply, apply_at, restore};
-pub use change::{Change, Former, carry_out_at};
+pub use change::{Change, Replaced, carry_out_at};
 pub use command::{Command, CommandRefusal};
 pub use edit::{Edit, EditRefusal};
 pub use parents::Parents;

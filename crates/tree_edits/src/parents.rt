@@ -16,9 +16,9 @@ use std::marker::Model;
 /// So many notes are kept beside twice as many as a tree has elements.
 const SPARE_NOTES: usize = 512;
 
-/// By the ids of elements, the id of the element right over each, as it was last noted. This is a hint, and
-/// no answer rests on it: what is noted is looked up in the tree at each use. Contracts see how many notes
-/// there are, and how many there may be before they are begun anew.
+/// By the ids of elements, the id of the element right over each, as it was last noted. This is a
+/// hint, and no answer rests on it: what is noted is looked up in the tree at each use. Contracts
+/// see how many notes there are, and how many there may be before they are begun anew.
 #[derive(Drop)]
 pub struct Parents {
     over: IndexMap<u32, u32>,
@@ -48,9 +48,9 @@ impl Parents {
         Ok(parents)
     }
 
-    /// Notes a part that was put below an element, with all below it. Notes of elements that are gone stay
-    /// until there are some hundreds more than twice as many as the root had below it when they were begun;
-    /// then all below the root, this part too, is noted anew.
+    /// Notes a part that was put below an element, with all below it. Notes of elements that are
+    /// gone stay until there are some hundreds more than twice as many as the root had below it
+    /// when they were begun; then all below the root, this part too, is noted anew.
     pub fn note(&mut self, root: &Node, over: NodeId, part: &Node) -> Result<(), Memory>
         ensures few { AreMore root.now part.now self.old self.new }
     {
@@ -62,8 +62,8 @@ impl Parents {
         }
     }
 
-    /// The way to the element of an id, from the root of a tree. It takes no memory, and looks through the
-    /// tree only where what was noted doesn't lead to such an element.
+    /// The way to the element of an id, from the root of a tree. It takes no memory, and looks
+    /// through the tree only where what was noted doesn't lead to such an element.
     pub fn find(&self, tree: &Tree, id: NodeId) -> Option<Path>
         ensures { Finds id.0 1 tree.now.root result }
     {
@@ -113,8 +113,8 @@ impl Parents {
         }
     }
 
-    /// The ids from one up to a root, without that of the root, as they were noted. A tree has at most 60
-    /// levels, so more of them lead nowhere.
+    /// The ids from one up to a root, without that of the root, as they were noted. A tree has at
+    /// most 60 levels, so more of them lead nowhere.
     fn ids_up(&self, id: NodeId, root: NodeId) -> Option<ArrayVec<u32, 59>> {
         let mut ids = ArrayVec::new();
         let mut id = id.0;
@@ -129,8 +129,8 @@ impl Parents {
     }
 }
 
-/// Whether ids, the last of them first, lead from an element at that level down to the element of an id. The
-/// way there is written where it is wanted.
+/// Whether ids, the last of them first, lead from an element at that level down to the element of
+/// an id. The way there is written where it is wanted.
 #[tactic(auto, using(crate::proofs::Paths::leads_here, crate::proofs::Paths::leads_further))]
 fn leads(node: &Node, ids: &[u32], id: NodeId, level: usize, path: &mut Path) -> bool
     requires short { level + length ids.now ≤ most_levels }

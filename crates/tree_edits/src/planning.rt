@@ -15,15 +15,16 @@ use crate::path::{Path, element_at};
 use crate::reasons::own_reason;
 use crate::spare::Spare;
 use crate::totals::Totals;
-use crate::way_back::WayBack;
+use crate::undo::Undo;
 use crate::{Edit, EditRefusal};
 use fixed_units::{Memory, Room, Txt};
 use math_tree::{Node, Tree};
+use splices::Splice;
 use std::alloc::Global;
 
 /// An edit of a tree with all that carrying it out takes.
 #[derive(Drop)]
-pub struct Plan {
+pub struct EditPlan {
     pub step: Step,
     /// The next id that the tree then has, and its totals.
     pub next_id: u64,
@@ -32,8 +33,8 @@ pub struct Plan {
     pub spare: Spare,
 }
 
-/// What is found by looks at a tree where nothing is against an edit: the way to the element that it
-/// names, and the numbers of the edited tree; with the root for the meantime.
+/// What is found by looks at a tree where nothing is against an edit: the way to the element that
+/// it names, and the numbers of the edited tree; with the root for the meantime.
 #[derive(Drop)]
 pub struct Accepted {
     pub path: Path,
@@ -41,29 +42,30 @@ pub struct Accepted {
     pub spare: Spare,
 }
 
-/// A change of the element at the end of a way, and the way back from it.
+/// A change of the element at the end of a way, with its undo record.
 #[derive(Drop)]
 pub struct Step {
     pub path: Path,
     pub change: Change,
-    pub back: WayBack,
+    pub undo: Undo,
 }
 
-impl Plan {
-    /// The plan of an edit, or the first reason against it, by the way to the element that it names.
+impl EditPlan {
+    /// The plan of an edit, or the first reason against it, by the way to the element that it
+    /// names.
     pub fn make(
         alloc: Global,
         tree: &Tree,
         found: Option<Path>,
         edit: Edit,
-    ) -> Result<Plan, EditRefusal>
+    ) -> Result<EditPlan, EditRefusal>
         requires proper { IsProperEdit edit }
         requires found { Finds (named edit) 1 tree.now.root found }
         ensures planned { IfOk result (IsPlan tree.now edit) }
         ensures refused { IfErr result (IsReason tree.now edit) }
     {
         match Accepted::make(alloc, tree, found, &edit) {
-            Ok(accepted) => Plan::of_accepted(alloc, tree, accepted, edit),
+            Ok(accepted) => EditPlan::of_accepted(alloc, tree, accepted, edit),
             Err(refusal) => {
                 drop(edit);
                 Err(refusal)
@@ -77,7 +79,7 @@ impl Plan {
         tree: &Tree,
         accepted: Accepted,
         edit: Edit,
-    ) -> Result<Plan, EditRefusal>
+    ) -> Result<EditPlan, EditRefusal>
         requires proper { IsProperEdit edit }
         requires accepted { IsAccepted tree.now edit accepted }
         ensures planned { IfOk result (IsPlan tree.now edit) }
@@ -88,7 +90,7 @@ impl Plan {
             totals,
             spare,
         } = accepted;
-        Ok(Plan {
+        Ok(EditPlan {
             step: Step::of_edit(alloc, tree, path, edit)?,
             next_id: totals.next_id,
             elements: totals.size.elements as u32,
@@ -153,24 +155,29 @@ impl Step {
             }
             Edit::Remove(_) => {
                 let (over, place) = path.split();
-                Step::make(alloc, tree, over, Change::TakeChild(place))
+                Step::make(alloc, tree, over, Change::Children(Splice::Take(place)))
             }
             Edit::Replace(_, new) => {
                 let (over, place) = path.split();
                 let new = numbered(new, tree.next_id());
-                Step::make(alloc, tree, over, Change::SwapChild(place, new))
+                Step::make(
+                    alloc,
+                    tree,
+                    over,
+                    Change::Children(Splice::Swap(place, new)),
+                )
             }
         }
     }
 
-    /// A change of the element at the end of a way, with the way back from it.
+    /// A change of the element at the end of a way, with its undo record.
     fn make(alloc: Global, tree: &Tree, path: Path, change: Change) -> Result<Step, Memory>
         requires { FitsAt change path tree.now.root }
         ensures { IfOk result (IsStep path change tree.now.root) }
     {
         let element = element_at(tree.root(), path.as_slice());
-        match WayBack::from(alloc, &change, element) {
-            Ok(back) => Ok(Step { path, change, back }),
+        match Undo::make(alloc, &change, element) {
+            Ok(undo) => Ok(Step { path, change, undo }),
             Err(memory) => {
                 drop(change);
                 Err(memory)
@@ -198,7 +205,7 @@ fn child_change(alloc: Global, element: &Node, index: usize, child: Node) -> Res
     ensures { IfOk result (PutsIn index child element.now) }
 {
     let room = Room::make(alloc, element.children.as_slice().len() + 1)?;
-    Ok(Change::PutChild(index, child, room))
+    Ok(Change::Children(Splice::Put(index, child, room)))
 }
 
 /// An element with new ids from this one on.

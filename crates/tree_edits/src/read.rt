@@ -85,7 +85,8 @@ fn command_by(alloc: Global, op: Op, value: &Value) -> Result<Command, CommandRe
 
 /// The change that an edit is, where there is one.
 fn change(edit: Result<Edit, CommandRefusal>) -> Result<Command, CommandRefusal>
-    ensures reads { (meant : Option EditValue) → Gives meant edit → Gives (option_map Change meant) result }
+    ensures reads { (meant : Option EditValue) → Gives meant edit →
+        Gives (option_map Change meant) result }
     ensures proper { IfOk edit IsProperEdit → IfOk result IsProperCommand }
 {
     Ok(Command::Change(edit?))

@@ -6,8 +6,8 @@ use math_tree::{Attributes, Head, Kind, Node, NodeId};
 use std::alloc::Global;
 use std::marker::Model;
 
-/// A root without children. It stands in a tree while the elements of that tree are changed, so that
-/// the tree is whole at any time.
+/// A root without children. It stands in a tree while the elements of that tree are changed, so
+/// that the tree is whole at any time.
 #[derive(Debug, Drop)]
 pub struct Spare {
     root: Node,

@@ -1,5 +1,5 @@
-//! `relay`: a tree of which no layout is kept is laid out, and then as much of it is kept as of one that was laid out
-//! from the start.
+//! `relay`: a tree of which no layout is kept is laid out, and then as much of it is kept as of one
+//! that was laid out from the start.
 ghost use Rattle.std.specs.Prelude.{◌≡◌, ◌<◌};
 ghost use Rattle.memo_tree.specs.States.{Changed, IsIn, Sealed};
 

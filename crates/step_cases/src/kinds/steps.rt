@@ -1,8 +1,10 @@
-//! `steps`: a session goes through a script, and how many layouts are made at its start and by each edit is told.
+//! `steps`: a session goes through a script, and how many layouts are made at its start and by each
+//! edit is told.
 //!
-//! A step is a layout that is made. How many were taken can't be read, since they take no bytes, and an edit of a
-//! session also drops what it had of the elements that were changed. So an equal tree goes the same way beside it, by
-//! the calls of `memo_tree`, where layouts are counted; at each line both have to hold the same.
+//! A step is a layout that is made. How many were taken can't be read, since they take no bytes,
+//! and an edit of a session also drops what it had of the elements that were changed. So an equal
+//! tree goes the same way beside it, by the calls of `memo_tree`, where layouts are counted; at
+//! each line both have to hold the same.
 ghost use Rattle.std.specs.Prelude.{◌≡◌, ◌<◌, OnOk};
 ghost use Rattle.memo_tree.specs.States.{IsIn, Sealed};
 
@@ -103,8 +105,8 @@ impl<'a> Script<'a> {
         add_judged("; copy", is_copied, words)
     }
 
-    /// Adds what comes of the start and of each line, and says whether an equal tree beside the session holds the same
-    /// each time.
+    /// Adds what comes of the start and of each line, and says whether an equal tree beside the
+    /// session holds the same each time.
     fn add_beside<L: Ledger>(
         self,
         session: &mut Session,
@@ -156,7 +158,8 @@ impl<'a> Script<'a> {
         Ok(is_same)
     }
 
-    /// Whether a session over a copy of a session's tree holds the same, also after an edit of both.
+    /// Whether a session over a copy of a session's tree holds the same, also after an edit of
+    /// both.
     fn is_copied<L: Ledger>(
         self,
         session: &mut Session,
@@ -181,7 +184,8 @@ impl<'a> Script<'a> {
     }
 }
 
-/// Carries a line out in a session and beside it, adds what came of it, and says whether both hold the same.
+/// Carries a line out in a session and beside it, adds what came of it, and says whether both hold
+/// the same.
 fn add_line<L: Ledger>(
     alloc: Global,
     line: &[u8],
@@ -201,8 +205,8 @@ fn add_line<L: Ledger>(
     Ok(is_so && outcome == beside)
 }
 
-/// Whether two sessions hold the same, and after the same edit of both too; and whether a copy of the tree is as before
-/// when the edit was made of it and taken back.
+/// Whether two sessions hold the same, and after the same edit of both too; and whether a copy of
+/// the tree is as before when the edit was made of it and taken back.
 fn stays_same<L: Ledger>(
     alloc: Global,
     session: &mut Session,

@@ -15,20 +15,20 @@ use Rattle.kept_edits.proofs.known.+known_on.Goals as goal
 
 pub child_at-child-requires : goal.child_at-child-requires
 child_at-child-requires t c =
-    let f = beside_further c.args.change.now c.args.path.now c.args.node.now c.args.memo.now c.if-path-eq0.false c.requires.beside in
+    let f = beside_further c.args.splice.now c.args.path.now c.args.node.now c.args.memo.now c.if-path-eq0.false c.requires.beside in
     slice_get_within (out-Node c.args.node.now).children (get_or c.args.path.now 0 0) f.child f.at
 
 pub memo_at-below-requires : goal.memo_at-below-requires
 memo_at-below-requires t c =
-    let f = beside_further c.args.change.now c.args.path.now c.args.node.now c.args.memo.now c.if-path-eq0.false c.requires.beside in
+    let f = beside_further c.args.splice.now c.args.path.now c.args.node.now c.args.memo.now c.if-path-eq0.false c.requires.beside in
     slice_get_within (out-Memo c.args.memo.now).below (get_or c.args.path.now 0 0) f.kept f.memo_at
 
 pub known_on-requires : goal.known_on-requires
 known_on-requires t c =
     let path = c.args.path.now in
-    let change = c.args.change.now in
-    let f = beside_further change path c.args.node.now c.args.memo.now c.if-path-eq0.false c.requires.beside in
-    let m = further change path c.args.memo.now c.if-path-eq0.false c.requires.fits in
+    let splice = c.args.splice.now in
+    let f = beside_further splice path c.args.node.now c.args.memo.now c.if-path-eq0.false c.requires.beside in
+    let m = further splice path c.args.memo.now c.if-path-eq0.false c.requires.fits in
     let child = same_Some f.child c.child_at-child.result.now (sym f.at ∙ c.child_at-child.ensures) in
     let kept = same_Some f.kept c.memo_at-below.result.now (sym f.memo_at ∙ c.memo_at-below.ensures) in
     let other = same_Some m.kept c.memo_at-below.result.now (sym m.at ∙ c.memo_at-below.ensures) in
@@ -39,14 +39,14 @@ known_on-requires t c =
     let falls : length (take (length path - 1) (drop 1 path)) < length path = omega (arith, one, two) in (
       omega arith,
       (
-        subst (FitsMemo change rest) other m.fits,
-        subst (λ (z : Memo). IsBeside change rest c.child_at-child.result.now z) kept (subst (λ (n : Node). IsBeside change rest n f.kept) child f.beside),
+        subst (FitsMemo splice rest) other m.fits,
+        subst (λ (z : Memo). IsBeside splice rest c.child_at-child.result.now z) kept (subst (λ (n : Node). IsBeside splice rest n f.kept) child f.beside),
       ),
     )
 
 pub kids_with-requires : goal.kids_with-requires
 kids_with-requires t c =
-    let f = beside_further c.args.change.now c.args.path.now c.args.node.now c.args.memo.now c.if-path-eq0.false c.requires.beside in
+    let f = beside_further c.args.splice.now c.args.path.now c.args.node.now c.args.memo.now c.if-path-eq0.false c.requires.beside in
     slice_get_within (out-Memo c.args.memo.now).below (get_or c.args.path.now 0 0) f.kept f.memo_at
 
 ok_then : {E : Type 0} (result : Result (List Renewal) E) (P Q : List Renewal → Type 0) → ((known : List Renewal) → P known → Q known) → IfOk result P → IfOk result Q
@@ -56,7 +56,7 @@ ok_then (Err error) P Q f h = tt
 pub add_own-requires-else-path-eq0 : goal.add_own-requires-else-path-eq0
 add_own-requires-else-path-eq0 t c =
     let path = c.args.path.now in
-    let f = beside_further c.args.change.now path c.args.node.now c.args.memo.now c.if-path-eq0.false c.requires.beside in
+    let f = beside_further c.args.splice.now path c.args.node.now c.args.memo.now c.if-path-eq0.false c.requires.beside in
     let child = same_Some f.child c.child_at-child.result.now (sym f.at ∙ c.child_at-child.ensures) in
     kids_are c.in_ok-kids-2.kids c.as_slice.result.now c.in_ok-known.known (out-Memo c.args.memo.now).below c.args.node.now f.child c.child_at-child.result.now c.memo_at-below.result.now path _
     c.if-path-eq0.false (c.in_ok-kids-2.ensures {u = tt}) c.as_slice.ensures (c.in_ok-known.ensures {u = tt}) child f.kids
@@ -75,7 +75,7 @@ returns-then-is_same t c =
     let node = c.args.node.now in
     let memo = c.args.memo.now in
     let kept = c.memo_at-below.result.now in
-    let f = beside_further c.args.change.now path node memo c.if-path-eq0.false c.requires.beside in
+    let f = beside_further c.args.splice.now path node memo c.if-path-eq0.false c.requires.beside in
     let child = same_Some f.child c.child_at-child.result.now (sym f.at ∙ c.child_at-child.ensures) in
     let kept_is = same_Some f.kept kept (sym f.memo_at ∙ c.memo_at-below.ensures) in
     let read = last_read c.as_slice.result.now c.in_ok-known.known path f.child c.child_at-child.result.now kept _ c.if-path-eq0.false c.as_slice.ensures (c.in_ok-known.ensures {u = tt}) child in

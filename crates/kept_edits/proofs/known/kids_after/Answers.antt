@@ -2,12 +2,13 @@ use Rattle.std.proofs.Common.{◌≡◌, ◌∙◌, sym, ap, subst, map, List, I
 use Rattle.std.proofs.lemmas.List.{map-set}
 use Rattle.embellished.specs.declared.facts.Facts.{Facts}
 use Rattle.kept_results.specs.Looking.{own_facts}
-use Rattle.kept_edits.specs.Changed.{changed_below}
-use Rattle.kept_edits.specs.declared.change.MemoChange.{MemoChange}
+use Rattle.splices.specs.Splicing.{spliced}
+use Rattle.splices.specs.declared.splice.Splice.{Splice}
+use Rattle.kept_results.specs.declared.memo.Memo.{Memo}
 use Rattle.kept_edits.proofs.known.kids_after.Goals as goal
 
-pub returns-in-SwapMemo : goal.returns-in-SwapMemo
-returns-in-SwapMemo c =
+pub returns-in-Swap : goal.returns-in-Swap
+returns-in-Swap c =
     subst (λ (l : List Facts). IfOk c.kids_with.result (λ kids. kids ≡ l))
-    (sym (map-set own_facts c.args.below.now c.in-SwapMemo.index c.in-SwapMemo.memo)
-    ∙ ap (λ (change : MemoChange). map own_facts (changed_below change c.args.below.now)) (sym c.in-SwapMemo.is)) c.kids_with.ensures
+    (sym (map-set own_facts c.args.below.now c.in-Swap.index c.in-Swap.memo)
+    ∙ ap (λ (splice : Splice Memo). map own_facts (spliced splice c.args.below.now)) (sym c.in-Swap.is)) c.kids_with.ensures

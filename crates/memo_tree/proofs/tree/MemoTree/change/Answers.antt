@@ -1,8 +1,9 @@
 use Rattle.std.proofs.Common.{sym, subst}
 use Rattle.memo_tree.specs.Counted.{EntriesStay, MissingIsCounted}
+use Rattle.memo_tree.specs.Marked.{EachStays, MarksPath, NewIsBlank}
 use Rattle.memo_tree.specs.Reversing.{ReversalValue, Reverses}
 use Rattle.memo_tree.specs.Trees.{IsLaidOut, MemoTreeValue}
-use Rattle.memo_tree.proofs.Changes.{before, changed_now, counted, reverses, stays}
+use Rattle.memo_tree.proofs.Changes.{before, changed_now, counted, each_stays, marks_path, new_blank, reverses, stays}
 use Rattle.memo_tree.proofs.tree.MemoTree.change.Goals as goal
 
 pub returns-in-Ok-clause-changed : goal.returns-in-Ok-clause-changed
@@ -55,3 +56,42 @@ returns-in-Ok-clause-reversal c =
     (subst (λ (r : ReversalValue). Reverses r new old) (sym c.of.ensures)
     (reverses old c.args.edit way c.apply_at.new.tree root laid is done.tree c.root.ensures.exact c.follow.new.memo c.in-Ok.back
     ((c.in-Ok.ensures {u = tt}).followed (before old c.args.edit way c.apply_at.new.tree root laid is done.tree c.root.ensures.exact)) c.in_ok-taken.taken done.taken))
+
+pub returns-in-Ok-clause-new : goal.returns-in-Ok-clause-new
+returns-in-Ok-clause-new c =
+    let old : MemoTreeValue = record { tree = c.self.inside.tree; metrics = c.self.inside.metrics; memo = c.self.inside.memo } in
+    let new : MemoTreeValue = record { tree = c.apply_at.new.tree; metrics = c.self.inside.metrics; memo = c.follow.new.memo } in
+    let laid = subst IsLaidOut (sym c.self.view_is) c.requires.sealed in
+    let done = c.in_ok-taken.ensures {u = tt} in
+    let way = c.in-Some.way in
+    let is = c.in-Some.ensures done.accepted in
+    let root = c.root.result.now in
+    subst (λ (o : MemoTreeValue). NewIsBlank o c.args.edit new) c.self.view_is
+    (new_blank old c.args.edit way c.apply_at.new.tree root laid is done.tree c.root.ensures.exact c.follow.new.memo c.in-Ok.back
+    ((c.in-Ok.ensures {u = tt}).followed (before old c.args.edit way c.apply_at.new.tree root laid is done.tree c.root.ensures.exact)) c.self.invariant c.root.ensures.whole)
+
+pub returns-in-Ok-clause-marked : goal.returns-in-Ok-clause-marked
+returns-in-Ok-clause-marked c =
+    let old : MemoTreeValue = record { tree = c.self.inside.tree; metrics = c.self.inside.metrics; memo = c.self.inside.memo } in
+    let new : MemoTreeValue = record { tree = c.apply_at.new.tree; metrics = c.self.inside.metrics; memo = c.follow.new.memo } in
+    let laid = subst IsLaidOut (sym c.self.view_is) c.requires.sealed in
+    let done = c.in_ok-taken.ensures {u = tt} in
+    let way = c.in-Some.way in
+    let is = c.in-Some.ensures done.accepted in
+    let root = c.root.result.now in
+    subst (λ (o : MemoTreeValue). MarksPath o c.args.edit new) c.self.view_is
+    (marks_path old c.args.edit way c.apply_at.new.tree root laid is done.tree c.root.ensures.exact c.follow.new.memo c.in-Ok.back
+    ((c.in-Ok.ensures {u = tt}).followed (before old c.args.edit way c.apply_at.new.tree root laid is done.tree c.root.ensures.exact)))
+
+pub returns-in-Ok-clause-kept : goal.returns-in-Ok-clause-kept
+returns-in-Ok-clause-kept c =
+    let old : MemoTreeValue = record { tree = c.self.inside.tree; metrics = c.self.inside.metrics; memo = c.self.inside.memo } in
+    let new : MemoTreeValue = record { tree = c.apply_at.new.tree; metrics = c.self.inside.metrics; memo = c.follow.new.memo } in
+    let laid = subst IsLaidOut (sym c.self.view_is) c.requires.sealed in
+    let done = c.in_ok-taken.ensures {u = tt} in
+    let way = c.in-Some.way in
+    let is = c.in-Some.ensures done.accepted in
+    let root = c.root.result.now in
+    subst (λ (o : MemoTreeValue). EachStays o c.args.edit new) c.self.view_is
+    (each_stays old c.args.edit way c.apply_at.new.tree root laid is done.tree c.root.ensures.exact c.follow.new.memo c.in-Ok.back
+    ((c.in-Ok.ensures {u = tt}).followed (before old c.args.edit way c.apply_at.new.tree root laid is done.tree c.root.ensures.exact)) c.self.invariant c.root.ensures.whole)

@@ -1,7 +1,8 @@
 use Rattle.tree_edits.proofs.Allowed.{as_is}
 use Rattle.tree_edits.proofs.OneStep
 use Rattle.tree_edits.specs.Edits.{edited}
-use Rattle.tree_edits.specs.declared.change.Change.TheVariants.{SetText, TakeChild, SwapChild}
+use Rattle.tree_edits.specs.declared.change.Change.TheVariants.{SetText, Children}
+use Rattle.splices.specs.declared.splice.Splice.TheVariants.{Take, Swap}
 use Rattle.tree_edits.proofs.planning.Step.of_edit.Goals as goal
 
 pub returns-in-Text : goal.returns-in-Text
@@ -45,7 +46,7 @@ returns-in-Remove c =
     let tree = c.args.tree.now in
     let element = c.requires.allowed.element in
     let allows = as_is tree c.args.path element c.in-Remove.is c.requires.allowed.allows in
-    rw c.in-Remove.is (OneStep.made_by tree.root (edited tree _).root c.split-over.result.0 (TakeChild c.split-over.result.1) c.make-in-Remove.result
+    rw c.in-Remove.is (OneStep.made_by tree.root (edited tree _).root c.split-over.result.0 (Children (Take c.split-over.result.1)) c.make-in-Remove.result
     (OneStep.taking_made tree c.args.path element c.split-over.result.0 c.split-over.result.1 c.split-over.ensures c.in-Remove.field-0 allows)
     c.make-in-Remove.ensures)
 
@@ -64,6 +65,6 @@ returns-in-Replace c =
     let child = c.numbered-new-in-Replace.result in
     let allows = as_is tree c.args.path element c.in-Replace.is c.requires.allowed.allows in
     let numbered = rw c.next_id-in-Replace.ensures.exact at c.numbered-new-in-Replace.ensures in
-    rw c.in-Replace.is (OneStep.made_by tree.root (edited tree _).root c.split-over-in-Replace.result.0 (SwapChild c.split-over-in-Replace.result.1 child)
+    rw c.in-Replace.is (OneStep.made_by tree.root (edited tree _).root c.split-over-in-Replace.result.0 (Children (Swap c.split-over-in-Replace.result.1 child))
     c.make-in-Replace.result (OneStep.swapping_made tree c.args.path element c.split-over-in-Replace.result.0 c.split-over-in-Replace.result.1
     c.split-over-in-Replace.ensures c.in-Replace.field-0 c.in-Replace.new child allows numbered) c.make-in-Replace.ensures)

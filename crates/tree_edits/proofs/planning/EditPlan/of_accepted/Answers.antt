@@ -1,6 +1,6 @@
 use Rattle.std.proofs.Common.{refl}
 use Rattle.tree_edits.proofs.PlanMade.{is_plan}
-use Rattle.tree_edits.proofs.planning.Plan.of_accepted.Goals as goal
+use Rattle.tree_edits.proofs.planning.EditPlan.of_accepted.Goals as goal
 
 pub returns-clause-planned : goal.returns-clause-planned
 returns-clause-planned c =

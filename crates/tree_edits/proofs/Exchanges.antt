@@ -18,7 +18,7 @@ use Rattle.tree_edits.specs.Edits.{is_deep}
 use Rattle.tree_edits.specs.Paths.{children_of, node_at, changed_at}
 use Rattle.tree_edits.specs.Reasons.{shown}
 
-pub record Spliced (before after : List Listed) (own made : Listed) (gone new : List Listed) : Type 0 where
+pub record Exchanged (before after : List Listed) (own made : Listed) (gone new : List Listed) : Type 0 where
   pub front : List Listed
   pub middle : List Listed
   pub back : List Listed
@@ -34,12 +34,12 @@ regroup front e middle own rest back =
     ∙ sym (append_assoc front (e ∷ middle) (own ++ (rest ++ back)))
 
 -- its children are those that stay, round those that go or come
-pub spliced_at : (root : Node) (path : List ℕ) (element : Node) (change : Node → Node) (head : Head) (nodes : List Node)
+pub exchanged_at : (root : Node) (path : List ℕ) (element : Node) (change : Node → Node) (head : Head) (nodes : List Node)
     (middle gone new rest : List Listed) → node_at path root ≡ Some element → change element ≡ node head nodes
     → flat_map (listed (1 + length path + 1)) (children_of element) ≡ middle ++ (gone ++ rest)
     → flat_map (listed (1 + length path + 1)) nodes ≡ middle ++ (new ++ rest)
-    → Spliced (listed 1 root) (listed 1 (changed_at change path root)) (shown (1 + length path) element) (entry (1 + length path) head (length nodes)) gone new
-spliced_at root path element change head nodes middle gone new rest at changes were are =
+    → Exchanged (listed 1 root) (listed 1 (changed_at change path root)) (shown (1 + length path) element) (entry (1 + length path) head (length nodes)) gone new
+exchanged_at root path element change head nodes middle gone new rest at changes were are =
     let level = 1 + length path in
     let own = shown level element in
     let made = entry level head (length nodes) in
@@ -84,24 +84,24 @@ module _ (list : Node → List Listed) (nodes : List Node) (place : ℕ) where
 
 -- ---- how many they are, and their bytes
 
-module _ {before after : List Listed} {own made : Listed} {gone new : List Listed} (splice : Spliced before after own made gone new) where
-  pub count_spliced : length after + length gone ≡ length before + length new
-  count_spliced =
-      let front = splice.front in
-      let middle = splice.middle in
-      let back = splice.back in
-      let was = ap length splice.was ∙ length-append (front ++ (own ∷ middle)) (gone ++ back) in
-      let is = ap length splice.is ∙ length-append (front ++ (made ∷ middle)) (new ++ back) in
+module _ {before after : List Listed} {own made : Listed} {gone new : List Listed} (exchange : Exchanged before after own made gone new) where
+  pub count_exchanged : length after + length gone ≡ length before + length new
+  count_exchanged =
+      let front = exchange.front in
+      let middle = exchange.middle in
+      let back = exchange.back in
+      let was = ap length exchange.was ∙ length-append (front ++ (own ∷ middle)) (gone ++ back) in
+      let is = ap length exchange.is ∙ length-append (front ++ (made ∷ middle)) (new ++ back) in
       omega (arith, was, is, length-append front (own ∷ middle), length-append front (made ∷ middle), length-append gone back, length-append new back)
 
-  pub bytes_spliced : bytes_in after + (bytes_of_head own.head + bytes_in gone) ≡ bytes_in before + (bytes_of_head made.head + bytes_in new)
-  bytes_spliced =
-      let front = splice.front in
-      let middle = splice.middle in
-      let back = splice.back in
+  pub bytes_exchanged : bytes_in after + (bytes_of_head own.head + bytes_in gone) ≡ bytes_in before + (bytes_of_head made.head + bytes_in new)
+  bytes_exchanged =
+      let front = exchange.front in
+      let middle = exchange.middle in
+      let back = exchange.back in
       let held : Listed → ℕ = λ e. bytes_of_head e.head in
-      let was = ap bytes_in splice.was ∙ sum_by-append held (front ++ (own ∷ middle)) (gone ++ back) in
-      let is = ap bytes_in splice.is ∙ sum_by-append held (front ++ (made ∷ middle)) (new ++ back) in
+      let was = ap bytes_in exchange.was ∙ sum_by-append held (front ++ (own ∷ middle)) (gone ++ back) in
+      let is = ap bytes_in exchange.is ∙ sum_by-append held (front ++ (made ∷ middle)) (new ++ back) in
       omega (arith, was, is, sum_by-append held front (own ∷ middle), sum_by-append held front (made ∷ middle), sum_by-append held gone back, sum_by-append held new back, sum_by-cons held own middle, sum_by-cons held made middle)
 
 -- ---- what holds of all of them
@@ -110,22 +110,22 @@ pub all_join : {X : Type 0} (P : X → Type 0) (xs ys : List X) → AllByRecursi
 all_join P [] ys h more = more
 all_join P (x ∷ xs) ys h more = (h.0, all_join P xs ys h.1 more)
 
-module _ {before after : List Listed} {own made : Listed} {gone new : List Listed} (splice : Spliced before after own made gone new) where
+module _ {before after : List Listed} {own made : Listed} {gone new : List Listed} (exchange : Exchanged before after own made gone new) where
   pub own_of_all : (P : Listed → Type 0) → AllByRecursion P before → P own
   own_of_all P h =
-      let front = splice.front in
-      let both = all_parts P (front ++ (own ∷ splice.middle)) (gone ++ splice.back) (subst (AllByRecursion P) splice.was h) in
-      (all_parts P front (own ∷ splice.middle) both.0).1.0
+      let front = exchange.front in
+      let both = all_parts P (front ++ (own ∷ exchange.middle)) (gone ++ exchange.back) (subst (AllByRecursion P) exchange.was h) in
+      (all_parts P front (own ∷ exchange.middle) both.0).1.0
 
-  pub all_spliced : (P : Listed → Type 0) → AllByRecursion P before → P made → AllByRecursion P new → AllByRecursion P after
-  all_spliced P h here more =
-      let front = splice.front in
-      let middle = splice.middle in
-      let back = splice.back in
-      let both = all_parts P (front ++ (own ∷ middle)) (gone ++ back) (subst (AllByRecursion P) splice.was h) in
+  pub all_exchanged : (P : Listed → Type 0) → AllByRecursion P before → P made → AllByRecursion P new → AllByRecursion P after
+  all_exchanged P h here more =
+      let front = exchange.front in
+      let middle = exchange.middle in
+      let back = exchange.back in
+      let both = all_parts P (front ++ (own ∷ middle)) (gone ++ back) (subst (AllByRecursion P) exchange.was h) in
       let first = all_parts P front (own ∷ middle) both.0 in
       let last = all_parts P gone back both.1 in
-      subst (AllByRecursion P) (sym splice.is)
+      subst (AllByRecursion P) (sym exchange.is)
       (all_join P (front ++ (made ∷ middle)) (new ++ back)
       (all_join P front (made ∷ middle) first.0 (here, first.1.1))
       (all_join P new back more last.1))
@@ -137,15 +137,15 @@ or_none true b h = refl
 or_none false b h = h
 
 -- where none was too deep, those that come alone can be
-pub deep_spliced : {before after : List Listed} {own made : Listed} {gone new : List Listed} → Spliced before after own made gone new
+pub deep_exchanged : {before after : List Listed} {own made : Listed} {gone new : List Listed} → Exchanged before after own made gone new
     → own.level ≡ made.level → is_deep before ≡ false → is_deep after ≡ is_deep new
-deep_spliced {before} {after} {own} {made} {gone} {new} splice level shallow =
+deep_exchanged {before} {after} {own} {made} {gone} {new} exchange level shallow =
     let deep : Listed → Bool = λ e. nat_lt most_levels e.level in
-    let front = splice.front in
-    let middle = splice.middle in
-    let back = splice.back in
+    let front = exchange.front in
+    let middle = exchange.middle in
+    let back = exchange.back in
     let both = or_parts (is_deep (front ++ (own ∷ middle))) (is_deep (gone ++ back))
-    (sym (list_any-append deep (front ++ (own ∷ middle)) (gone ++ back)) ∙ sym (ap is_deep splice.was) ∙ shallow) in
+    (sym (list_any-append deep (front ++ (own ∷ middle)) (gone ++ back)) ∙ sym (ap is_deep exchange.was) ∙ shallow) in
     let first = or_parts (is_deep front) (is_deep (own ∷ middle)) (sym (list_any-append deep front (own ∷ middle)) ∙ both.0) in
     let last = or_parts (is_deep gone) (is_deep back) (sym (list_any-append deep gone back) ∙ both.1) in
     let here = or_parts (deep own) (is_deep middle) first.1 in
@@ -153,7 +153,7 @@ deep_spliced {before} {after} {own} {made} {gone} {new} splice level shallow =
     let stay : is_deep (front ++ (made ∷ middle)) ≡ false =
     list_any-append deep front (made ∷ middle)
     ∙ or_from (is_deep front) (is_deep (made ∷ middle)) first.0 (or_from (deep made) (is_deep middle) still here.1) in
-    ap is_deep splice.is
+    ap is_deep exchange.is
     ∙ list_any-append deep (front ++ (made ∷ middle)) (new ++ back)
     ∙ ap (λ b. b || is_deep (new ++ back)) stay
     ∙ list_any-append deep new back
