@@ -22,6 +22,6 @@ mod places; // which children may be in flow
 
 pub use amount::{count, count_or_most};
 pub use boxes::box_of;
-pub use laid::laid_of;
-pub use lookup::{root_answer, root_box};
+pub use laid::{KeptLayout, kept_kids, laid_of};
+pub use lookup::{kept_entry, root_answer, root_box};
 pub use places::may_show;

@@ -1,8 +1,8 @@
 -- How many entries there are, as the pairs that are kept.
-use Rattle.std.proofs.Common.{◌≡◌, ◌∙◌, ◌⊎◌, inl, inr, refl, sym, ap, ℕ, zero, suc, ◌+◌, ◌≤◌, arith, Bool, true, false, cond, List, [], ◌∷◌, ◌++◌, filter, length, length-append, map, take, Some, slice_get}
+use Rattle.std.proofs.Common.{◌≡◌, ◌∙◌, ◌⊎◌, inl, inr, refl, sym, ap, subst, ℕ, zero, suc, ◌+◌, ◌≤◌, arith, Bool, true, false, cond, List, [], ◌∷◌, ◌++◌, filter, length, length-append, map, take, Some, slice_get}
 use Rattle.std.proofs.lemmas.List.{length-map}
 use Rattle.std.proofs.lemmas.List.Sums.{sum_by-cons}
-use Rattle.std.proofs.lemmas.Option.{none-some, same_Some, slice_get-map}
+use Rattle.std.proofs.lemmas.Option.{none-some, same_Some, slice_get-map, slice_get_within}
 use Rattle.std.specs.List.{AllByRecursion, sum}
 use Rattle.std.specs.Option.{option_map}
 use Rattle.math_tree.specs.declared.node.Node.{Node}
@@ -68,11 +68,18 @@ others_in ys i x at (y ∷ xs) h k = (
   others_in ys i x at xs h.1 k.1,
 )
 
-no_more_than : (xs ys : List Pair) → HasNoRepeat xs → AllByRecursion (IsIn ys) xs → length xs ≤ length ys
-no_more_than [] ys h k = omega arith
-no_more_than (x ∷ xs) ys h k =
-    let rest = no_more_than xs (without ys k.0.0) h.1 (others_in ys k.0.0 x k.0.1 xs h.0 k.1) in
-    omega (arith, rest, one_less ys k.0.0 x k.0.1)
+-- a list of as many holds nothing but them
+none_else : (xs ys : List Pair) → HasNoRepeat xs → AllByRecursion (IsIn ys) xs → length ys ≤ length xs → (y : Pair) → IsIn ys y → IsIn xs y
+none_else [] ys h k few y at = absurd (omega (arith, few, slice_get_within ys at.0 y at.1))
+none_else (x ∷ xs) ys h k few y at =
+    elim (still_there ys k.0.0 at.0 y at.1) [
+      | inl e ↦ (0, sym k.0.1 ∙ ap (slice_get ys) (sym e) ∙ at.1)
+      | inr there ↦
+          let rest = without ys k.0.0 in
+          let fewer : length rest ≤ length xs = omega (arith, few, one_less ys k.0.0 x k.0.1) in
+          let r = none_else xs rest h.1 (others_in ys k.0.0 x k.0.1 xs h.0 k.1) fewer y there in
+          (suc r.0, r.1)
+    ]
 
 -- ---- the pairs that are kept
 
@@ -163,9 +170,17 @@ all_in : (memo : Memo) (pairs : List Pair) → AllByRecursion (IsPairKept memo) 
 all_in memo [] h = tt
 all_in memo (pair ∷ pairs) h = (held_in pair.path memo pair.context h.0.entry h.0.held h.0.in_context, all_in memo pairs h.1)
 
--- pairs that are kept are no more than the entries
-pub kept_many : (memo : Memo) (pairs : List Pair) → HasNoRepeat pairs → AllByRecursion (IsPairKept memo) pairs → length pairs ≤ kept_count memo
-kept_many memo pairs h k = omega (arith, no_more_than pairs (pairs_of memo) h (all_in memo pairs k), count_pairs memo)
+-- where there are as many entries as pairs that are kept, they are those of these pairs
+pub kept_among : (memo : Memo) (pairs : List Pair) → HasNoRepeat pairs → AllByRecursion (IsPairKept memo) pairs → kept_count memo ≡ length pairs
+    → (pair : Pair) → IsPairKept memo pair → (i : ℕ) × (slice_get pairs i ≡ Some pair)
+kept_among memo pairs h k many pair kept =
+    none_else pairs (pairs_of memo) h (all_in memo pairs k) (omega (arith, many, count_pairs memo)) pair (held_in pair.path memo pair.context kept.entry kept.held kept.in_context)
+
+-- what holds of all pairs of a list holds of each
+pub each_of : (P : Pair → Type 0) (pairs : List Pair) → AllByRecursion P pairs → (i : ℕ) (pair : Pair) → slice_get pairs i ≡ Some pair → P pair
+each_of P [] h i pair at = absurd (none-some pair at)
+each_of P (x ∷ pairs) h zero pair at = subst P (same_Some x pair at) h.0
+each_of P (x ∷ pairs) h (suc i) pair at = each_of P pairs h.1 i pair at
 
 -- ---- memos with other marks and flags
 

@@ -6,7 +6,6 @@ ghost use Rattle.kept_results.specs.Contexts.{Suits};
 ghost use Rattle.kept_results.specs.Ends.{kept_count};
 ghost use Rattle.kept_sweep.specs.Swept.{CountsNeeded, KeepsNeeded};
 
-use crate::sweep::sweep_layouts;
 use fixed_units::{LayRefusal, Steps};
 use font_metrics::Metrics;
 use kept_edits::blank;
@@ -37,6 +36,5 @@ pub fn start_layout<L: Ledger>(
     let mut memo = blank(alloc, node)?;
     relay_element(alloc, node, &mut memo, context, metrics, steps)?;
     seal(&mut memo);
-    sweep_layouts(node, &mut memo, context, metrics);
     Ok(memo)
 }
