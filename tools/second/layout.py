@@ -17,8 +17,13 @@ class OutOfRange(Exception):
 
 
 def lay_tree(metrics, tree):
-    """The layout of a tree, whose root is infix, and which nothing stretches."""
-    return lay(metrics, tree.root, Context(root_style(metrics, tree.root), INFIX, None))
+    """The layout of a tree."""
+    return lay(metrics, tree.root, root_context(metrics, tree))
+
+
+def root_context(metrics, tree):
+    """The root is infix, and nothing stretches it."""
+    return Context(root_style(metrics, tree.root), INFIX, None)
 
 
 def lay(metrics, node, context):
@@ -50,3 +55,18 @@ def fits(made):
     numbers = (*made.box, made.before, made.after, *made.cells)
     places = (number for offset in made.offsets for number in offset)
     return all(map(is_stored, numbers)) and all(map(is_stored, places)) and all(mark.fits() for mark in made.marks)
+
+
+def needed(metrics, tree):
+    """All layouts that are made for that of a tree, each once: pairs of an element's id and a context."""
+    found, waiting = set(), [(tree.root, root_context(metrics, tree))]
+    lay(metrics, *waiting[0])
+    while waiting:
+        node, context = waiting.pop()
+        if (node.id, context) not in found:
+            found.add((node.id, context))
+            flow, first = facts_of(node).flow, first_questions(metrics, node, context)
+            answers = [lay(metrics, flow[place], asked) for place, asked in first]
+            asked_all = first + second_questions(metrics, node, context, answers)
+            waiting += [(flow[place], asked) for place, asked in asked_all]
+    return found
