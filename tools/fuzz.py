@@ -48,7 +48,7 @@ WIDTH = 100  # bytes of a line that are told
 engine.read_metrics = functools.lru_cache(maxsize=8)(engine.read_metrics)
 
 
-def main():
+def main(arguments=None):
     text = __doc__.replace("KINDS", ", ".join(KINDS))
     parser = argparse.ArgumentParser(prog="fuzz", description=text, formatter_class=argparse.RawDescriptionHelpFormatter)
     parser.add_argument("program", metavar="PROGRAM", help="the built program")
@@ -58,7 +58,7 @@ def main():
     parser.add_argument("--jobs", type=int, default=len(os.sched_getaffinity(0)), help="how many run at a time (here %(default)s)")
     parser.add_argument("--out", type=Path, help="a folder for the cases that failed")
     parser.add_argument("--harm", action="store_true", help="run the program alone over changed bytes")
-    words = parser.parse_args()
+    words = parser.parse_args(arguments)
     if not os.access(words.program, os.X_OK):
         parser.error(f"{words.program} is no program")
     kinds = words.kinds.split(",") if words.kinds else list(KINDS)
@@ -202,12 +202,12 @@ def harm_of(path, case):
 
 def smaller(path, case):
     """The case with as much left out as can be while something differs."""
-    tries = [STEPS]
+    tries = iter(range(STEPS))
+    return smaller_case(case, lambda other: next(tries, None) is not None and difference(path, other) is not None)
 
-    def differs(other):
-        tries[0] -= 1
-        return tries[0] > 0 and difference(path, other) is not None
 
+def smaller_case(case, differs):
+    """The script is made smaller first, then the others."""
     for name in sorted(case.files, key=lambda name: name != "s"):
         if case.files[name] is not FOLDER:
             case = smaller_file(case, name, differs)
