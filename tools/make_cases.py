@@ -1,21 +1,24 @@
 #!/usr/bin/env python3
 """Writes what must come of each case: crates/NAME/stdout of crates/NAME/stdin, for each program of cases.
 
-    python3 tools/make_cases.py REFERENCE [--check]
+    python3 tools/make_cases.py [--check | --diff] [NAME..]
 
-The expected values aren't the product's: they come from the modules of the folder REFERENCE, a second program of the
-same behaviour that was written on its own, and from a small model of inputs and sinks in memory (cases/runs.py).
+The expected values aren't the product's: they come from the second engine (second/), which was written from the documents
+without a look at the product, and from a small model of inputs and sinks in memory (cases/runs.py).
 A program of cases sees the files of its own folder data/ alone. So fonts are written in crates/run_cases/data and copied
 from there into the data/ of each program that loads them, and the formulas of samples/ with their font and a script are
 copied from there.
-With --check nothing is written: the first line that differs from a stored file is told, and the status is 1.
+With --check nothing is written: of each stored file that differs the first line that does is told, and the status is 1.
+With --diff nothing is written either, and all lines that would change are told, `-` before one as it is stored and `+`
+before one as it would be, each with the case that it belongs to. With a NAME only that program's files are made.
 """
 
 import argparse
+import difflib
 import sys
 from pathlib import Path
 
-from cases import kinds, reference
+from cases import kinds
 from cases.faults import UNKNOWN_KIND, LineFault, Undetermined
 from cases.source import Known, take_line
 from cases.values import value_of
@@ -28,6 +31,10 @@ OWNERS = {
     path.name: path.parent for path in (TOP / "samples").iterdir() if path.suffix in (".json", ".metrics", ".script")}
 
 
+# How many lines stand round one that changes, and how much of a line is told.
+CONTEXT, WIDTH = 1, 300
+
+
 class Parser(argparse.ArgumentParser):
     """Tells of wrong words in one line."""
 
@@ -37,31 +44,33 @@ class Parser(argparse.ArgumentParser):
 
 def main():
     parser = Parser(description=__doc__, formatter_class=argparse.RawDescriptionHelpFormatter)
-    parser.add_argument("reference", metavar="REFERENCE", help="the folder of the second program")
-    parser.add_argument("--check", action="store_true", help="compare with the stored files, and write nothing")
+    parser.add_argument("names", metavar="NAME", nargs="*", help=f"a program of cases: {', '.join(kinds.PROGRAMS)}")
+    how = parser.add_mutually_exclusive_group()
+    how.add_argument("--check", dest="keep", action="store_const", const=check, help="tell the first line that differs")
+    how.add_argument("--diff", dest="keep", action="store_const", const=show, help="tell all lines that would change")
     words = parser.parse_args()
-    keep = check if words.check else write
+    unknown = [name for name in words.names if name not in kinds.PROGRAMS]
+    if unknown:
+        parser.error(f"no program {unknown[0]}: there are {', '.join(kinds.PROGRAMS)}")
+    keep = words.keep or write
     try:
-        modules = reference.load(words.reference)
-        differing = [keep(path, content) for path, content in made_files(modules)]
+        differing = [keep(path, content) for path, content in made_files(words.names or kinds.PROGRAMS)]
         return int(any(differing))
-    except ImportError as fault:
-        parser.error(f"{words.reference} isn't the second program: {fault}")
     except Undetermined as fault:
         parser.error(str(fault))
     except OSError as fault:
         parser.error(f"{fault.filename}: {fault.strerror}")
 
 
-def made_files(modules):
+def made_files(names):
     """Each file that is made, with its content: the copies first, since the cases behind them load these."""
-    for name in kinds.PROGRAMS:
+    for name in names:
         for file in loaded_files(name):
             owner, here = OWNERS.get(file), CRATES / name / "data"
             if owner not in (None, here):
                 yield here / file, (owner / file).read_bytes()
-    for name in kinds.PROGRAMS:
-        yield CRATES / name / "stdout", outcome_of(modules, name)
+    for name in names:
+        yield CRATES / name / "stdout", outcome_of(name)
 
 
 def loaded_files(name):
@@ -70,7 +79,7 @@ def loaded_files(name):
     return sorted({line.removeprefix("load ") for line in lines if line.startswith("load ")})
 
 
-def outcome_of(modules, name):
+def outcome_of(name):
     """The whole output of a program for its whole input."""
     known = Known(CRATES / name / "data")
     lines = (CRATES / name / "stdin").read_bytes().split(b"\n")
@@ -81,7 +90,7 @@ def outcome_of(modules, name):
         try:
             case = take_line(known, line)
             if case is not None:
-                out += [line, *answer_to(modules, kinds.PROGRAMS[name], known, *case)]
+                out += [line, *answer_to(kinds.PROGRAMS[name], known, *case)]
         except LineFault as fault:
             out.append(b"line %d: %s" % (number, str(fault).encode()))
         except Undetermined as fault:
@@ -89,13 +98,13 @@ def outcome_of(modules, name):
     return b"".join(line + b"\n" for line in out)
 
 
-def answer_to(modules, program, known, kind, text):
+def answer_to(program, known, kind, text):
     """The lines of what comes of a case."""
-    value = value_of(modules, text)
+    value = value_of(text)
     if kind in program.runs:
-        return program.runs[kind](modules, known, value)
+        return program.runs[kind](known, value)
     if kind in program.one_answer:
-        return [b"= " + program.one_answer[kind](modules, known, value).encode()]
+        return [b"= " + program.one_answer[kind](known, value).encode()]
     raise LineFault(UNKNOWN_KIND)
 
 
@@ -115,6 +124,18 @@ def check(path, content):
     place = next((n for n, (a, b) in enumerate(zip(theirs, ours)) if a != b), min(len(theirs), len(ours)))
     here = [lines[place].decode("utf-8", "replace") if place < len(lines) else "nothing" for lines in (theirs, ours)]
     print(f"{path.relative_to(CRATES)}, line {place + 1}: has {here[0]!r}, expected {here[1]!r}")
+    return True
+
+
+def show(path, content):
+    """Tells all lines in which a stored file differs, and whether it does; lines that are long are cut."""
+    stored = path.read_bytes() if path.exists() else b""
+    if stored == content:
+        return False
+    texts = [each.decode("utf-8", "replace").split("\n") for each in (stored, content)]
+    place = str(path.relative_to(CRATES))
+    for line in difflib.unified_diff(*texts, fromfile=f"{place}, stored", tofile=f"{place}, expected", lineterm="", n=CONTEXT):
+        print(line if len(line) <= WIDTH else line[:WIDTH] + "...")
     return True
 
 

@@ -1,6 +1,16 @@
 """The kinds of case that give one answer each."""
 
-from . import reference as so_far
+from second import dictionary, lengths
+from second.facts import facts_of
+from second.facts import shown as shown_text
+from second.forms import form_at, properties_of
+from second.json_text import NotJson, read_json
+from second.kinds import UNKNOWN
+from second.metrics import Metrics
+from second.metrics_reading import MOST_BYTES as LONGEST_METRICS
+from second.metrics_reading import MetricsFault, read_metrics
+from second.tree_reading import TreeFault, tree_of
+
 from .faults import (
     NO_SUCH_LINES, NOT_AN_ELEMENT, NOT_METRICS, TOO_LONG, WRONG_VALUE, LineFault)
 from .source import lines_of
@@ -10,10 +20,10 @@ FORM_LETTERS = {"prefix": "p", "infix": "i", "postfix": "o"}
 TRUTHS = ("stretchy", "symmetric", "largeop", "movablelimits")
 
 
-def length(reference, _known, value):
+def length(_known, value):
     """A length text: its millionths and its unit."""
-    found = reference.units.read_length(text_in(value))
-    return "none" if found is None else f"{found[0]} {found[1]}"
+    found = lengths.length_of(text_in(value))
+    return "none" if found is None else f"{found.millionths} {found.unit}"
 
 
 def text_in(value):
@@ -23,136 +33,132 @@ def text_in(value):
     return value
 
 
-def resolve(reference, _known, value):
+def resolve(_known, value):
     """How many units a length text is."""
     fields = Fields(value, "length", "em", "ex", "percent_of")
     text = fields.text("length")
     bases = fields.within("em", 0, 2**20), fields.within("ex", 0, 2**32), fields.within("percent_of", -2**34, 2**34)
-    found = reference.units.read_length(text)
-    return "none" if found is None else str(reference.units.resolve(found, *bases))
+    found = lengths.length_of(text)
+    return "none" if found is None else str(lengths.resolved(found, *bases))
 
 
-def category(reference, known, value):
+def category(known, value):
     """The operator dictionary's category of a text in a form."""
     fields = Fields(value, "text", "form", "fixed", "metrics")
-    words = fields.text("text"), fields.choice("form", FORM_LETTERS), fields.flag("fixed")
-    return reference.dictionary.category(*words, metrics_in(reference, known, fields))
+    text, form, is_fixed = fields.text("text"), fields.choice("form", FORM_LETTERS), fields.flag("fixed")
+    return dictionary.category_of(metrics_in(known, fields), operator_text(text), form, is_fixed)
 
 
-def axis(reference, known, value):
+def axis(known, value):
     """The axis along which an operator stretches."""
     fields = Fields(value, "text", "metrics")
     text = fields.text("text")
-    return reference.dictionary.axis(text, metrics_in(reference, known, fields))
+    return dictionary.axis_of(metrics_in(known, fields), operator_text(text))
 
 
-def metrics_in(reference, known, fields):
+def operator_text(text):
+    """The text of an operator that shows these characters."""
+    return dictionary.text_of([ord(letter) for letter in text])
+
+
+def metrics_in(known, fields):
     """The metrics of the known file that is named; where none is, metrics without operator lines."""
     if not fields.has("metrics"):
-        return reference.metrics.Metrics()
-    data = metrics_bytes(reference, known.content(fields.text("metrics")))
+        return Metrics()
     try:
-        return so_far.read_metrics(reference, data)
-    except reference.metrics.Fault:
+        return read_metrics(metrics_bytes(known.content(fields.text("metrics"))))
+    except MetricsFault:
         raise LineFault(NOT_METRICS) from None
 
 
-def metrics_bytes(reference, data):
+def metrics_bytes(data):
     """The bytes of a metrics file, which are at most so many."""
-    if len(data) > reference.metrics.METRICS_LIMIT:
+    if len(data) > LONGEST_METRICS:
         raise LineFault(TOO_LONG)
     return data
 
 
-def facts(reference, _known, value):
+def facts(_known, value):
     """What an element is: kind, space or ink, core, forms of its children, place of its prescripts."""
-    node = only_child(reference, value)
-    about = reference.elements.facts(node)
-    forms = [reference.elements.form_of(node, place, "prefix") for place in range(len(about.flow))]
-    is_split = about.laid == "mmultiscripts"
+    about = facts_of(only_child(value))
+    forms = [form_at(about, place, dictionary.PREFIX) for place in range(len(about.flow))]
     return " ".join([
-        kind_word(reference, about.laid),
-        "space" if about.space_like else "ink",
-        *core_words(reference, about.core),
+        kind_word(about.laid),
+        "space" if about.is_space_like else "ink",
+        *core_words(about.core),
         "".join(FORM_LETTERS[form] for form in forms) or "-",
-        str(reference.elements.prescripts(node) if is_split else len(about.flow)),
+        str(about.prescripts),
     ])
 
 
-def facts_file(reference, known, value):
+def facts_file(known, value):
     """The same of the element that a known file holds."""
     content = known.content(text_in(value))
     try:
-        element = reference.jsontext.read_json(content)
-    except reference.jsontext.NoReading:
+        element = read_json(content)
+    except NotJson:
         raise LineFault(NOT_AN_ELEMENT) from None
-    return facts(reference, known, element)
+    return facts(known, element)
 
 
-def only_child(reference, value):
+def only_child(value):
     """An element that stands as only child of a `math`."""
     try:
-        return so_far.read_tree(reference, {"name": "math", "children": [value]}).root.children[0]
-    except reference.tree.TreeFault:
+        return tree_of({"name": "math", "children": [value]}).root.children[0]
+    except TreeFault:
         raise LineFault(NOT_AN_ELEMENT) from None
 
 
-def kind_word(reference, name):
+def kind_word(kind):
     """The word of a kind: `annotation-xml` is AnnotationXml."""
-    if name not in reference.stages.KNOWN:
-        return "Unknown"
-    return "".join(part.capitalize() for part in name.split("-"))
+    return "Unknown" if kind == UNKNOWN else "".join(part.capitalize() for part in kind.split("-"))
 
 
-def core_words(reference, core):
+def core_words(core):
     """The text of a core, and a letter for each of its attributes."""
     if core is None:
         return ["none"]
-    letters = FORM_LETTERS.get(reference.elements.core_form(core), "-")
-    for name in TRUTHS:
-        letters += {True: "t", False: "f", None: "-"}[reference.elements.truth(core.get(name))]
-    return [operator_word(reference.elements.shown_text(core)), letters]
+    letters = "".join({True: "t", False: "f", None: "-"}[getattr(core, name)] for name in TRUTHS)
+    return [operator_word(core), FORM_LETTERS.get(core.form, "-") + letters]
 
 
-def operator_word(shown):
+def operator_word(core):
     """No character, one, two that take four digits each, or others."""
-    if shown == "":
-        return "empty"
-    if len(shown) == 1 or (len(shown) == 2 and max(shown) <= "\uffff"):
-        return codes(shown)
-    return "other"
+    if core.text == dictionary.OTHER:
+        return "other"
+    return codes(map(chr, core.text)) or "empty"
 
 
 def codes(text):
     return "+".join(f"{ord(letter):04X}" for letter in text)
 
 
-def properties(reference, known, value):
+def properties(known, value):
     """The properties of an operator in a form: the dictionary's, and its attributes in their place."""
     fields = Fields(value, "element", "form", "metrics")
-    node, form = only_child(reference, fields.value("element")), fields.choice("form", FORM_LETTERS)
+    node, form = only_child(fields.value("element")), fields.choice("form", FORM_LETTERS)
     if node.name != "mo":
         raise LineFault(NOT_AN_ELEMENT)
-    found = reference.elements.operator_properties(node, form, metrics_in(reference, known, fields))
+    found = properties_of(metrics_in(known, fields), facts_of(node).core, form)
     letters = "".join("t" if getattr(found, name) else "f" for name in TRUTHS)
     return f"{found.lspace} {found.rspace} {letters}"
 
 
-def shown(reference, _known, value):
+def shown(_known, value):
     """The shown text of a token other than a one-character `mi`."""
-    node = only_child(reference, {"name": "mtext", "text": text_in(value)})
-    return codes(reference.elements.shown_text(node)) or "empty"
+    node = only_child({"name": "mtext", "text": text_in(value)})
+    return codes(shown_text(node.text)) or "empty"
 
 
-def metrics(reference, known, value):
+def metrics(known, value):
     """Whether a metrics file has a fault, as it is or with other lines in place of one."""
     fields = Fields(value, "file", "line", "lines")
     data = known.content(fields.text("file"))
     if fields.has("line") or fields.has("lines"):
         data = with_lines(data, fields)
     try:
-        so_far.read_metrics(reference, metrics_bytes(reference, data))
-    except reference.metrics.Fault as fault:
+        read_metrics(metrics_bytes(data))
+    except MetricsFault as fault:
         return f"fault {fault.line} {fault.kind}"
     return "ok"
 
@@ -167,19 +173,19 @@ def with_lines(data, fields):
     return b"".join(lines)
 
 
-def tree(reference, _known, value):
+def tree(_known, value):
     """Whether a JSON value is a tree."""
     try:
-        return f"ok {so_far.read_tree(reference, value).next_id}"
-    except reference.tree.TreeFault as fault:
+        return f"ok {tree_of(value).next_id}"
+    except TreeFault as fault:
         return f"fault {fault.element} {fault.kind}"
 
 
-def tree_file(reference, known, value):
+def tree_file(known, value):
     """Whether the JSON value of a known file of any size is a tree."""
     try:
-        return tree(reference, known, reference.jsontext.read_json(known.content(text_in(value))))
-    except reference.jsontext.NoReading:
+        return tree(known, read_json(known.content(text_in(value))))
+    except NotJson:
         return "json"
 
 

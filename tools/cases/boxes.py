@@ -1,5 +1,9 @@
 """What the kinds on layout share: how boxes, places, marks and pulls are read and told."""
 
+from second.boxes import Box
+from second.numbers import is_stored
+from second.placing import mark_words as words_at
+
 from .answers import metrics_in
 from .faults import out_of_range, wrong_type
 from .values import is_truth, is_whole
@@ -15,10 +19,10 @@ def is_list(value):
     return isinstance(value, list)
 
 
-def metrics_of(reference, known, fields):
+def metrics_of(known, fields):
     """The metrics of the known file that `metrics` names."""
     fields.text("metrics")
-    return metrics_in(reference, known, fields)
+    return metrics_in(known, fields)
 
 
 def size_in(fields):
@@ -35,19 +39,19 @@ def stored_in(key, value):
     return value
 
 
-def box_in(reference, key, value, wide=False):
+def box_in(key, value, wide=False):
     """A box of seven numbers that can be stored; a wide one's width and accent may reach further."""
     if not is_list(value) or len(value) != 7 or not all(map(is_whole, value)):
         raise wrong_type(key)
     bounds = [WIDE if wide and place in (0, 6) else STORED for place in range(7)]
     if not all(-most <= number <= most for number, most in zip(value, bounds)):
         raise out_of_range(key)
-    return reference.shaping.Box(*value)
+    return Box(*value)
 
 
-def box_of(reference, fields, key, wide=False):
+def box_of(fields, key, wide=False):
     """The box of a key."""
-    return box_in(reference, key, fields.value(key), wide)
+    return box_in(key, fields.value(key), wide)
 
 
 def items_of(fields, key):
@@ -58,9 +62,9 @@ def items_of(fields, key):
     return items
 
 
-def boxes_of(reference, fields, key):
+def boxes_of(fields, key):
     """The boxes of a key."""
-    return [box_in(reference, key, item) for item in items_of(fields, key)]
+    return [box_in(key, item) for item in items_of(fields, key)]
 
 
 def stored_of(fields, key):
@@ -109,10 +113,8 @@ def numbers(values):
 
 def mark_words(metrics, mark):
     """A mark as in the lines of the output."""
-    name = {"glyph": 4, "built": 5}.get(mark[0])
-    words = [metrics.glyphs[word].name if place == name else word for place, word in enumerate(mark)]
-    return " ".join(map(str, words))
+    return " ".join(map(str, words_at(metrics, mark, mark.x, mark.y)))
 
 
-def fits(reference, values):
-    return all(map(reference.units.fits, values))
+def fits(values):
+    return all(map(is_stored, values))

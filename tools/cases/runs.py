@@ -1,12 +1,15 @@
 """Runs of the program over inputs and a sink in memory.
 
-What a run writes is the second program's word. Here stands what becomes of it where calls of the inputs or of the sink
+What a run writes is the second engine's word. Here stands what becomes of it where calls of the inputs or of the sink
 fail, or where the sink has little room. How many calls a run makes is the product's own: only bounds of it follow
 from the formats, so a case whose outcome hangs on more is refused."""
 
 import json
+from io import BytesIO
 
-from . import reference as so_far
+from second import program
+from second.metrics_reading import MOST_BYTES as LONGEST_METRICS
+
 from .faults import Undetermined
 from .source import MOST_BYTES
 from .values import Fields, is_count, is_text
@@ -15,7 +18,28 @@ READ_FAULT = 5
 WRITE_FAULT = 6
 
 
-def run(reference, known, value):
+class Files:
+    """Known files in memory, and the names of those that were looked for, in their order."""
+
+    def __init__(self, files):
+        self.files, self.looked_for = files, []
+
+    def open(self, name):
+        self.looked_for.append(name)
+        if name not in self.files:
+            raise FileNotFoundError(name)
+        return BytesIO(self.files[name])
+
+
+def outcome(words, files):
+    """What a run with these words and files gives where no call fails: its status, the bytes it writes, and the names of
+    the files in the order in which they are looked for."""
+    inputs, written = Files(files), []
+    status = program.run(words, inputs, written.append)
+    return status, b"".join(written), inputs.looked_for
+
+
+def run(known, value):
     """The program's words over the known files that are named."""
     fields = Fields(value, "words", "files", "cut", "fail_read", "fail_write", "room", "sum")
     is_sum = fields.flag("sum", absent=False)
@@ -23,9 +47,9 @@ def run(reference, known, value):
     files = {name: known.content(name) for name in fields.items("files", is_text)}
     cuts, failing = fields.items("cut", is_count, absent=[]), fields.items("fail_read", is_count, absent=[])
     room = fields.within("room", 0, MOST_BYTES) if fields.has("room") else MOST_BYTES
-    status, text, looked_for = so_far.run(reference, words, files)
+    status, text, looked_for = outcome(words, files)
     if status != READ_FAULT:
-        bounds = calls_made(reference, [files[name] for name in looked_for], cuts)
+        bounds = calls_made([files[name] for name in looked_for], cuts)
         if has_call(failing, *bounds):
             status, text = READ_FAULT, b""
     return told(*written(status, text, fields.items("fail_write", is_count, absent=[]), room), is_sum)
@@ -34,17 +58,17 @@ def run(reference, known, value):
 def command(name):
     """A command over known metrics and a tree file that holds a value's text."""
 
-    def carried_out(reference, known, value):
+    def carried_out(known, value):
         fields = Fields(value, "metrics", "tree", "sum")
         is_sum = fields.flag("sum", absent=False)
         files = {"metrics": known.content(fields.text("metrics")), "tree": text_of(fields.value("tree"))}
-        status, out, _ = so_far.run(reference, [name, *files], files)
+        status, out, _ = outcome([name, *files], files)
         return told(status, out, is_sum)
 
     return carried_out
 
 
-def edit(reference, known, value):
+def edit(known, value):
     """The command `edit` over known metrics, a tree file that holds a value's text and a script that holds values' texts."""
     fields = Fields(value, "metrics", "tree", "script", "sum")
     is_sum = fields.flag("sum", absent=False)
@@ -53,7 +77,7 @@ def edit(reference, known, value):
         "tree": text_of(fields.value("tree")),
         "script": b"".join(text_of(line) + b"\n" for line in fields.items("script", lambda _line: True)),
     }
-    status, out, _ = so_far.run(reference, ["edit", *files], files)
+    status, out, _ = outcome(["edit", *files], files)
     return told(status, out, is_sum)
 
 
@@ -67,12 +91,12 @@ def failing_calls(of_sink):
     one without failing calls. All files are read before anything is written. So where a call of the inputs fails,
     nothing is; where one of the sink fails, a front is, since what is written grows with each call."""
 
-    def carried_out(reference, known, value):
+    def carried_out(known, value):
         fields = Fields(value, "words", "files", "cut")
         words = fields.items("words", is_text)
         files = {name: known.content(name) for name in fields.items("files", is_text)}
         fields.items("cut", is_count, absent=[])
-        status, text, looked_for = so_far.run(reference, words, files)
+        status, text, looked_for = outcome(words, files)
         is_called = text != b"" if of_sink else looked_for != [] and status != READ_FAULT
         fault = WRITE_FAULT if of_sink else READ_FAULT
         front = f"{fault} {'whole' if text == b'' else 'front'}; " if is_called else ""
@@ -81,11 +105,10 @@ def failing_calls(of_sink):
     return carried_out
 
 
-def calls_made(reference, contents, cuts):
+def calls_made(contents, cuts):
     """The least and the greatest number of calls in which these files are selected and read, one after the other; the
     first is the metrics file, the second the tree file, the third the script."""
-    program = reference.program
-    limits = (program.METRICS_LIMIT, program.TREE_LIMIT, program.OLD_SCRIPT_LIMIT)
+    limits = (LONGEST_METRICS, program.LONGEST_TREE, MOST_BYTES)
     least = most = 0
     for content, limit in zip(contents, limits):
         few, many = reads_made(len(content), limit, cuts)

@@ -1,7 +1,11 @@
 """Which layouts a session makes: those that a tree needs and that aren't kept."""
 
-from . import reference as so_far
-from .answers import metrics_in
+from second.edits import Refused, edited
+from second.layout import OutOfRange, needed
+from second.script import SHOW, NoCommand, command_in
+from second.tree_reading import TreeFault, tree_of
+
+from .boxes import metrics_of
 from .faults import NOT_AN_ELEMENT, LineFault
 from .runs import text_of
 from .values import Fields
@@ -18,38 +22,36 @@ START_SAME = "start same"
 MOST_UNSWEPT, EDIT_WEIGHT = 4_096, 4
 
 
-def steps(reference, known, value):
+def steps(known, value):
     """How many layouts are made at the start and by each edit of a script, and how many are kept after each; then that
     all is the same that is compared."""
     fields = Fields(value, "metrics", "tree", "script")
     script = fields.items("script", lambda _line: True)
-    tree = tree_of(reference, fields.value("tree"))
-    fields.text("metrics")
-    layouts = reference.layout.Layouts(metrics_in(reference, known, fields), so_far.SO_FAR)
-    if not layouts.is_in_range(tree):
+    tree, metrics = tree_in(fields), metrics_of(known, fields)
+    try:
+        held = Held(metrics, tree)
+    except OutOfRange:
         return OUT_OF_RANGE
-    held = Held(reference, layouts, tree)
     return "; ".join([made(len(held.kept), held.kept), *(held.answer(text_of(line)) for line in script), *ALL_SAME])
 
 
-def relay(reference, known, value):
+def relay(known, value):
     """How many layouts are made of a tree of which none is kept: those that it needs. Where it is out of range, none is
     kept."""
     fields = Fields(value, "metrics", "tree")
-    tree = tree_of(reference, fields.value("tree"))
-    fields.text("metrics")
-    layouts = reference.layout.Layouts(metrics_in(reference, known, fields), so_far.SO_FAR)
-    if not layouts.is_in_range(tree):
+    tree, metrics = tree_in(fields), metrics_of(known, fields)
+    try:
+        layouts = needed(metrics, tree)
+    except OutOfRange:
         return f"{OUT_OF_RANGE}, {told_kept(())}"
-    needed = layouts.visits(tree)
-    return f"{made(len(needed), needed)}; {START_SAME}"
+    return f"{made(len(layouts), layouts)}; {START_SAME}"
 
 
-def tree_of(reference, value):
+def tree_in(fields):
     """The tree of a value."""
     try:
-        return so_far.read_tree(reference, value)
-    except reference.tree.TreeFault:
+        return tree_of(fields.value("tree"))
+    except TreeFault:
         raise LineFault(NOT_AN_ELEMENT) from None
 
 
@@ -64,22 +66,23 @@ def told_kept(kept):
 class Held:
     """A tree, and the layouts that are kept of it: pairs of an id and a context."""
 
-    def __init__(self, reference, layouts, tree):
-        self.reference, self.layouts, self.tree = reference, layouts, tree
+    def __init__(self, metrics, tree):
+        self.metrics, self.tree = metrics, tree
         self.drop()
 
     def drop(self):
         """What the tree doesn't need is dropped."""
-        self.kept, self.unswept = self.layouts.visits(self.tree), 0
+        self.kept, self.unswept = needed(self.metrics, self.tree), 0
 
     def answer(self, line):
         """What comes of a line of a script."""
-        program = self.reference.program
         try:
-            command = program.read_command(line, so_far.SO_FAR)
-        except program.BadLine:
+            command = command_in(line)
+            return self.shown() if command is SHOW else self.edited(command)
+        except (NoCommand, Refused):
             return REFUSED
-        return self.shown() if command == program.SHOW else self.edited(command)
+        except OutOfRange:
+            return OUT_OF_RANGE
 
     def shown(self):
         """A show drops what the tree doesn't need."""
@@ -89,29 +92,33 @@ class Held:
     def edited(self, command):
         """An edit drops what is kept of the elements on its way and of those that it takes out; after many others it
         drops all that the tree doesn't need."""
-        program = self.reference.program
-        try:
-            new, path = program.edited(self.tree, command, so_far.SO_FAR)
-        except program.Refused:
-            return REFUSED
-        if not self.layouts.is_in_range(new):
-            return OUT_OF_RANGE
-        ids = {node.id for node in new.root.all()} - set(path)
-        needed, stay = self.layouts.visits(new), {pair for pair in self.kept if pair[0] in ids}
-        count = len(needed - stay)
-        self.compare(count, new, path)
-        self.tree, self.kept = new, stay | needed
+        tree = edited(self.tree, command)
+        layouts = needed(self.metrics, tree)
+        before = {id(node) for node in elements(self.tree.root)}
+        calm = {node.id for node in elements(tree.root) if id(node) in before}
+        stay = {pair for pair in self.kept if pair[0] in calm}
+        count = len(layouts - stay)
+        self.compare(count, layouts, calm)
+        self.tree, self.kept = tree, stay | layouts
         self.unswept += EDIT_WEIGHT + count
-        if self.unswept > MOST_UNSWEPT + 2 * len(list(new.root.all())):
+        if self.unswept > MOST_UNSWEPT + 2 * tree.root.count:
             self.drop()
         return made(count, self.kept)
 
-    def compare(self, count, new, path):
-        """The second program counts what an edit needs where just what the tree needs is kept before it: so many layouts
-        are made, and where more is kept no more of them."""
-        old = self.layouts.visits(self.tree)
-        bound = self.layouts.need(old, {node.id for node in self.tree.root.all()}, path, new)
+    def compare(self, count, layouts, calm):
+        """An edit may have to make layouts that the edited tree needs: those of elements that it changes or brings, and
+        those that the tree before didn't need. Where just what that tree needs is kept, so many are made, and where more
+        is kept no more of them."""
+        old = needed(self.metrics, self.tree)
+        bound = sum(1 for pair in layouts if pair[0] not in calm or pair not in old)
         assert count == bound if self.kept == old else count <= bound
+
+
+def elements(node):
+    """An element and all below it. An edit leaves an element as it is, or makes another one in its place."""
+    yield node
+    for child in node.children:
+        yield from elements(child)
 
 
 KINDS = {"relay": relay, "steps": steps}

@@ -1,45 +1,47 @@
 """`style`: the style and the font size of an element, from the root down."""
 
-from . import reference as so_far
+from second.facts import facts_of
+from second.styles import child_style, font_size, root_style
+from second.tree import Node
+
 from .answers import only_child
 from .boxes import MOST_SIZE, metrics_of, numbers
 from .faults import Undetermined, out_of_range
 from .values import Fields
 
 
-def style(reference, known, value):
+def style(known, value):
     """The style of the last element of a path."""
     fields = Fields(value, "metrics", "root", "steps")
-    metrics = metrics_of(reference, known, fields)
-    root = only_child(reference, fields.value("root"))
-    steps = [step_in(reference, step) for step in fields.of_type("steps", lambda item: isinstance(item, list))]
-    found, parent = reference.style.root_style(root, metrics, so_far.SO_FAR), root
+    metrics = metrics_of(known, fields)
+    root = only_child(fields.value("root"))
+    steps = [step_in(step) for step in fields.of_type("steps", lambda item: isinstance(item, list))]
+    found, parent = root_style(metrics, root), root
     for step in steps:
-        if reference.style.font_size(found, metrics) > MOST_SIZE:
+        if font_size(metrics, found) > MOST_SIZE:
             raise out_of_range("steps")
-        place = family(reference, parent, step), found, step["index"]
-        found = reference.style.child_style(*place, metrics, so_far.SO_FAR)
+        found = child_style(metrics, found, family(parent, step), step["index"])
         parent = step["element"]
-    size = reference.style.font_size(found, metrics)
-    truths = ["t" if truth else "f" for truth in (found.display, found.cramped)]
+    size = font_size(metrics, found)
+    truths = ["t" if truth else "f" for truth in (found.is_display, found.is_cramped)]
     return numbers([found.base, found.base_depth, found.depth, *truths, size if size <= MOST_SIZE else "none"])
 
 
-def step_in(reference, value):
+def step_in(value):
     """A step from a parent to a child: the child, its place, and what is said of the place."""
     fields = Fields(value, "element", "index", "accent", "accentunder", "subscript")
     return {
-        "element": only_child(reference, fields.value("element")),
+        "element": only_child(fields.value("element")),
         "index": fields.within("index", 0, 65534),
         **{name: fields.flag(name, absent=False) for name in ("accent", "accentunder", "subscript")},
     }
 
 
-def family(reference, parent, step):
+def family(parent, step):
     """The parent with children in flow among which the child stands at its place. Its attributes say whether what
     stands above or below is an accent, and how many children it has says whether its scripts make pairs."""
     place, child = step["index"], step["element"]
-    filler = reference.tree.Node(0, "mn", {}, "", ())
+    filler = Node(0, "mn", {}, "", ())
     count = place + 1
     if parent.name == "mmultiscripts":
         # Pairs are whole where the children are odd in number; their subscripts stand at odd places.
@@ -53,8 +55,8 @@ def family(reference, parent, step):
     children[place] = child
     attributes = {name: text for name, text in parent.attributes.items() if name not in ("accent", "accentunder")}
     attributes.update({name: "true" for name in ("accent", "accentunder") if step[name]})
-    node = reference.tree.Node(0, parent.name, attributes, "", children)
-    flow = reference.elements.facts(node).flow
+    node = Node(0, parent.name, attributes, "", tuple(children))
+    flow = facts_of(node).flow
     if place >= len(flow) or flow[place] is not child:
         raise Undetermined("no child in flow stands at this place")
     return node

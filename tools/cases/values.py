@@ -2,15 +2,17 @@
 
 import json
 
+from second.json_text import NotJson, read_json
+
 from .faults import NOT_JSON, UNKNOWN_KEY, WRONG_VALUE, LineFault, missing_key, out_of_range, wrong_type
 
 
-def value_of(reference, text):
-    """The value of a JSON text, by the reference's rules: which texts have a reading, and that the last of repeated
-    keys counts."""
+def value_of(text):
+    """The value of a JSON text, by the program's rules: which texts have a reading, and that the last of repeated keys
+    counts."""
     try:
-        reference.jsontext.read_json(text.encode())
-    except reference.jsontext.NoReading:
+        read_json(text.encode())
+    except NotJson:
         raise LineFault(NOT_JSON) from None
     return json.loads(text)
 

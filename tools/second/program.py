@@ -1,0 +1,114 @@
+"""The program: its words, and the table of endings of docs/FORMATS.md.
+
+Inputs have one method: `open(name)` gives a binary stream, or raises OSError. What is written goes to a function of bytes.
+"""
+
+from .generator import generated, seed_and_count
+from .json_text import NotJson, read_json
+from .layout import OutOfRange
+from .metrics_print import print_metrics
+from .metrics_reading import MOST_BYTES as LONGEST_METRICS
+from .metrics_reading import MetricsFault, read_metrics
+from .script import ScriptTooLong, lines_of
+from .session import Session
+from .tree_print import print_tree
+from .tree_reading import TreeFault, tree_of
+
+USAGE_LINE = "usage: mathlay layout METRICS TREE | edit METRICS TREE SCRIPT | check METRICS TREE | gen METRICS SEED COUNT"
+LONGEST_TREE = 4194304
+
+DONE, USAGE, METRICS, TREE, READ_FAULT, RANGE, SCRIPT_LIMIT = 0, 2, 3, 4, 5, 8, 9
+
+
+class Ending(Exception):
+    """A run ends with a status, and with a line or without."""
+
+    def __init__(self, status, line=None):
+        super().__init__(status, line)
+        self.status, self.line = status, line
+
+
+def run(words, inputs, write):
+    """Does what the words ask for, and gives the status."""
+    try:
+        command_of(words)(inputs, write, *words[1:])
+        return DONE
+    except OutOfRange:
+        write(b"range\n")
+        return RANGE
+    except Ending as ending:
+        if ending.line is not None:
+            write(ending.line.encode() + b"\n")
+        return ending.status
+
+
+def command_of(words):
+    """The function of a command, where the words after it are as many as it takes."""
+    commands = {("layout", 3): layout, ("check", 3): check, ("edit", 4): edit, ("gen", 4): generate}
+    command = commands.get((words[0], len(words))) if words else None
+    if command is None or (command is generate and not seed_and_count(*words[2:])):
+        raise Ending(USAGE, USAGE_LINE)
+    return command
+
+
+def layout(inputs, write, metrics_name, tree_name):
+    metrics = metrics_in(inputs, metrics_name)
+    write(Session(metrics, tree_in(inputs, tree_name)).page())
+
+
+def check(inputs, write, metrics_name, tree_name):
+    metrics = metrics_in(inputs, metrics_name)
+    tree = tree_in(inputs, tree_name)
+    write(print_metrics(metrics) + print_tree(tree).encode() + b"\n")
+
+
+def edit(inputs, write, metrics_name, tree_name, script_name):
+    metrics = metrics_in(inputs, metrics_name)
+    session = Session(metrics, tree_in(inputs, tree_name))
+    try:
+        with inputs.open(script_name) as stream:
+            for line in lines_of(stream):
+                write(session.reply_to(line))
+    except ScriptTooLong:
+        raise Ending(SCRIPT_LIMIT) from None
+    except OSError:
+        raise Ending(READ_FAULT) from None
+
+
+def generate(inputs, write, metrics_name, seed, count):
+    write(generated(metrics_in(inputs, metrics_name), *seed_and_count(seed, count)))
+
+
+# ---- files
+
+
+def metrics_in(inputs, name):
+    """The metrics of a file, or the ending of their first fault."""
+    content = content_of(inputs, name, LONGEST_METRICS, Ending(METRICS, "metrics long"))
+    try:
+        return read_metrics(content)
+    except MetricsFault as fault:
+        raise Ending(METRICS, f"metrics {fault.line} {fault.kind}") from None
+
+
+def tree_in(inputs, name):
+    """The tree of a file, or the ending of its first fault."""
+    content = content_of(inputs, name, LONGEST_TREE, Ending(TREE, "tree long"))
+    try:
+        return tree_of(read_json(content))
+    except NotJson:
+        raise Ending(TREE, "tree json") from None
+    except TreeFault as fault:
+        raise Ending(TREE, f"tree {fault.element} {fault.kind}") from None
+
+
+def content_of(inputs, name, most, too_long):
+    """The bytes of a file of at most so many."""
+    try:
+        with inputs.open(name) as stream:
+            content = stream.read(most + 1)
+    except OSError:
+        raise Ending(READ_FAULT) from None
+    if len(content) > most:
+        raise too_long
+    return content

@@ -1,0 +1,111 @@
+"""The second engine on the samples and on a small script, and what it says of words and files that are none."""
+
+import subprocess
+import sys
+import tempfile
+import unittest
+from io import BytesIO
+from pathlib import Path
+from unittest import mock
+
+from second import program
+from second.json_text import NotJson, read_json
+from second.lengths import length_of, resolved
+from second.metrics_reading import read_metrics
+from second.numbers import rounded
+
+from tests.common import TOP
+
+SAMPLES = TOP / "samples"
+FONT = (SAMPLES / "latin-modern-math.metrics").read_bytes()
+SMALL = b"mathlay-metrics 1\nupem 1024\nline 900 300\nxheight 512\nglyph missing 512 600 0\nglyph one 512 680 0\nchar 0031 one\n"
+ONE = b'{"name":"math","children":[{"name":"mn","text":"1"}]}'
+
+
+class Files:
+    """Files in memory."""
+
+    def __init__(self, **files):
+        self.files = files
+
+    def open(self, name):
+        if name not in self.files:
+            raise FileNotFoundError(name)
+        return BytesIO(self.files[name])
+
+
+def run(*words, **files):
+    """The status and the bytes of a run."""
+    written = []
+    return program.run(list(words), Files(**files), written.append), b"".join(written)
+
+
+class SecondEngine(unittest.TestCase):
+    def test_small_files_of_the_formats(self):
+        lines = b"box 1 math 0 0 8192 14400 4800 10880 0\nbox 2 mn 0 0 8192 14400 4800 10880 0\nglyph 0 0 16384 one\n"
+        self.assertEqual(run("layout", "m", "t", m=SMALL, t=ONE), (0, lines))
+
+    def test_every_sample_is_laid_out_with_its_own_font(self):
+        font = read_metrics(FONT)
+        for path in sorted(SAMPLES.glob("*.json")):
+            with self.subTest(path.name), mock.patch.object(program, "read_metrics", lambda _: font):
+                status, written = run("layout", "m", "t", m=FONT, t=path.read_bytes())
+                self.assertEqual((status, written[:11]), (0, b"box 1 math "))
+
+    def test_the_canonical_form_is_read_back(self):
+        written = run("check", "m", "t", m=SMALL, t=(SAMPLES / "fences.json").read_bytes())
+        self.assertEqual(written[0], 0)
+        *metrics, tree = written[1].splitlines(keepends=True)
+        self.assertEqual(run("check", "m", "t", m=b"".join(metrics), t=tree), written)
+
+    def test_lines_of_the_readme(self):
+        tree, script = (SAMPLES / "quadratic.json").read_bytes(), (SAMPLES / "quadratic.script").read_bytes()
+        readme = (TOP / "README.md").read_text(encoding="utf-8")
+        for words, files in ((("layout", "m", "t"), {}), (("edit", "m", "t", "s"), {"s": script})):
+            status, written = run(*words, m=FONT, t=tree, **files)
+            front = "\n".join(written.decode().split("\n")[: 6 if files else 7])
+            self.assertEqual(status, 0)
+            self.assertIn(front, readme)
+
+    def test_statuses(self):
+        self.assertEqual(run()[0], 2)
+        self.assertEqual(run("layout", "m", "t", t=ONE), (5, b""))
+        self.assertEqual(run("layout", "m", "t", m=b"", t=ONE), (3, b"metrics 1 2\n"))
+        self.assertEqual(run("layout", "m", "t", m=SMALL, t=b"{"), (4, b"tree json\n"))
+        self.assertEqual(run("layout", "m", "t", m=SMALL, t=b"{}"), (4, b"tree 1 2\n"))
+        large = ONE.replace(b'"math"', b'"math","attributes":{"mathsize":"1025px"}')
+        self.assertEqual(run("layout", "m", "t", m=SMALL, t=large), (8, b"range\n"))
+        self.assertEqual(run("edit", "m", "t", "s", m=SMALL, t=ONE, s=b"x\n" * 65537), (9, b"refused line\n" * 65536))
+        self.assertEqual(run("gen", "m", "1", "20001", m=SMALL)[0], 2)
+
+    def test_replies_are_written_line_by_line(self):
+        command = [sys.executable, "-B", str(TOP / "tools" / "second"), "edit", "m", "t", "/dev/stdin"]
+        folder = Path(self.enterContext(tempfile.TemporaryDirectory()))
+        (folder / "m").write_bytes(SMALL)
+        (folder / "t").write_bytes(ONE)
+        with subprocess.Popen(command, cwd=folder, stdin=subprocess.PIPE, stdout=subprocess.PIPE, bufsize=0) as child:
+            for line, reply in ((b'{"op":"text","node":2,"text":"11"}\n', b"ok\n"), (b"x\n", b"refused line\n")):
+                child.stdin.write(line)
+                self.assertEqual(child.stdout.readline(), reply)
+            child.stdin.close()
+            self.assertEqual(child.wait(), 0)
+
+
+class Parts(unittest.TestCase):
+    def test_ties_go_up(self):
+        self.assertEqual([rounded(number, 2) for number in (-3, -1, 1, 3)], [-1, 0, 1, 2])
+
+    def test_lengths(self):
+        self.assertEqual(resolved(length_of(" -1.5EM "), 1024, 0, 0), -1536)
+        self.assertEqual(resolved(length_of("1in"), 0, 0, 0), 98304)
+        for text in ("1", "1.px", ".", "1 px", "1e3px", "1234567890px", ""):
+            self.assertIsNone(length_of(text), text)
+
+    def test_what_is_no_json(self):
+        for text in (b"", b"\xef\xbb\xbf1", b"NaN", b"01", b"1e999", b'"\\ud800"', b'"\x01"', b"[" * 128 + b"]" * 128, b"\xff"):
+            self.assertRaises(NotJson, read_json, text)
+        self.assertEqual(read_json(b'{"a":1,"a":[-0,18446744073709551616,"\\ud83d\\ude00"]}'), {"a": [0.0, 2.0**64, "\U0001f600"]})
+
+
+if __name__ == "__main__":
+    unittest.main()
