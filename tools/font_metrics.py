@@ -13,7 +13,8 @@ called `missing`. Where that is empty, it becomes a box. U+2061 to U+2064, which
 room or ink.
 
 A character that FONT lacks gets another glyph, where there is one: of a character that looks the same in FONT; of the same
-character in each --fallback font in turn, scaled to FONT's em; or of one that is alike. tools/stand_ins.txt says which.
+character in each --fallback font in turn, scaled to FONT's em; or of one that is alike. tools/stand_ins.txt says which. A
+sign that doesn't grow to the sides takes the larger forms of one that looks the same and does, as a macron those of an overline.
 picture.py has to be given the same fonts. A fallback font needs no MATH table.
 
 With --formula, FILE's formulas are read, and each character that they need and the metrics lack is told, with its element.
@@ -30,6 +31,7 @@ Debian's package python3-fonttools, and /usr/bin/python3.
 import re
 import sys
 from collections import Counter
+from functools import cache
 
 from companion import command, needs
 from companion.command import Fault
@@ -136,6 +138,7 @@ def metrics_of(sources, losses, measure_parts=False):
         overlap=losses.cut(variants.MinConnectorOverlap, LENGTHS, "least overlap") if variants else 0,
         constants=constants_of(font, losses))
     stretches = stretches_of(sources, losses, set(characters.values()))
+    stretches |= lent(sources, table, characters, stretches, losses)
     measure(sources, stretches, losses, measure_parts)
     used = shapes_used(sources, characters, stretches, losses)
     add_glyphs(metrics, sources, used, losses)
@@ -221,6 +224,7 @@ def constants_of(font, losses):
             for name, value in values.items() if value is not None}
 
 
+@cache
 def constructions(font):
     """How the glyphs of a font grow, by axis and glyph, as its table MATH has it."""
     table = font.math and font.math.MathVariants
@@ -242,6 +246,24 @@ def stretches_of(sources, losses, bases):
                 shape = Shape(place, base, spaced)
                 if shape in bases:
                     found[axis, shape] = stretch_of(sources, shape, construction, losses)
+    return found
+
+
+def lent(sources, table, characters, stretches, losses):
+    """What lets a sign grow to the sides that can't by itself: the growth of one that looks the same in the same font."""
+    found = {}
+    for code, shape in characters.items():
+        font = sources.fonts[shape.place]
+        if shape.spaced or ("h", shape) in stretches or font.bounds(shape.glyph) is None:
+            continue
+        for other in table.same.get(code, []):
+            glyph = font.characters.get(other)
+            construction = glyph and constructions(font).get(("h", glyph))
+            if construction and glyph != shape.glyph:
+                spaced = is_combining(other) and not is_combining(code)
+                if sources.name(Shape(shape.place, glyph, spaced)):
+                    found["h", shape] = stretch_of(sources, Shape(shape.place, glyph, spaced), construction, losses)
+                    break
     return found
 
 

@@ -1,8 +1,11 @@
 """From a formula to its picture: what the tools that draw have alike."""
 
 import json
+import os
 import tempfile
 from dataclasses import dataclass
+from glob import glob
+from pathlib import Path
 
 from companion import command, mathml3, needs, program, svg
 from companion.command import Fault
@@ -14,6 +17,12 @@ from companion.metrics import read_drawn
 from companion.program import Inputs
 from companion.sources import Sources
 from companion.trees import Tree, made_tree
+
+TOOLS = Path(__file__).resolve().parent.parent
+SAMPLE = TOOLS.parent / "samples" / "latin-modern-math.metrics"
+USUAL = [f"{folder}/**/latinmodern-math.otf" for folder in (
+    "/usr/share/texmf/fonts/opentype/public/lm-math", "/usr/share/texlive/texmf-dist/fonts/opentype/public/lm-math",
+    "/usr/share/fonts", "/usr/local/share/fonts", os.path.expanduser("~/.fonts"), os.path.expanduser("~/.local/share/fonts"))]
 
 
 def add_words(parser):
@@ -60,8 +69,46 @@ class Studio:
                 told.add(lack.code)
 
 
+def add_fonts(parser):
+    """The options of a tool that takes the metrics and the font of the samples where none are named."""
+    parser.add_argument("--font", metavar="FONT", help="a font with a MATH table (Latin Modern Math)")
+    parser.add_argument("--metrics", metavar="FILE", help="what font_metrics.py made of FONT and the fallback fonts (made by the way)")
+    add_words(parser)
+
+
+def settle_fonts(tool, words, room):
+    """Finds the font and the metrics that the words leave out; what has to be made is made in the folder `room`."""
+    if words.metrics and not words.font:
+        raise Fault(f"--metrics {words.metrics}: name the font too, of which they were made, by --font FONT")
+    if words.metrics:
+        return
+    if not words.font and not words.fallback and SAMPLE.is_file():
+        words.font, words.metrics = usual_font(), str(SAMPLE)
+        return
+    words.font = words.font or usual_font()
+    words.metrics = str(Path(room) / "made.metrics")
+    import font_metrics
+    options = [option for path in words.fallback for option in ("--fallback", path)]
+    if font_metrics.main([words.font, *options, "--operators", str(TOOLS / "operators.txt"), "-o", words.metrics]) != 0:
+        raise Fault(f"{words.font}: no metrics could be made of it")
+
+
+def usual_fonts():
+    """Latin Modern Math, wherever Debian and TeX Live put it."""
+    return [path for pattern in USUAL for path in sorted(glob(pattern, recursive=True))]
+
+
+def usual_font():
+    """The first Latin Modern Math; raises a Fault."""
+    for path in usual_fonts():
+        return path
+    raise Fault("Latin Modern Math isn't here: install Debian's fonts-lmodern, or name a font with a MATH table by --font FONT")
+
+
 def studio_of(tool, words):
     """What a tool was given; raises a Fault."""
+    for path in (words.metrics, words.font, *words.fallback):
+        program.check_file(path)
     drawn, font = read_drawn(words.metrics), open_font(words.font)
     if font.upem != drawn.upem:
         raise Fault(f"{words.metrics}: has {drawn.upem} units an em, and {words.font} has {font.upem}: they don't go together")

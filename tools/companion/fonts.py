@@ -39,7 +39,7 @@ def reading(path):
         raise Fault(f"{path}: can't be read as a font: {one_line(told)}") from None
 
 
-@dataclass
+@dataclass(eq=False)
 class MathFont:
     """A font and its MATH table. `names` gives each glyph the name that it has in a metrics file, one to one; `kept` is the
     ink that was measured before."""

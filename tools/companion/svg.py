@@ -52,6 +52,18 @@ class Definitions:
 
 
 @dataclass
+class Frame:
+    """What stands round a picture within a page: attributes, its name for those who don't see it, what is kept within, whether it
+    is a block of its own, and how the name of a link begins."""
+
+    attributes: str
+    label: str
+    inside: str
+    block: bool
+    link: str
+
+
+@dataclass
 class Picture:
     """The marks of one formula, its glyphs single, ready to be written. `drawn` are glyphs and rules with the colour of each,
     which is empty where none is asked for; `looks` says of each element by its id how it is to look."""
@@ -76,18 +88,18 @@ class Picture:
             lines += [line for box in self.boxes for line in box_lines(box)]
         return "\n".join([*lines, "</svg>"]) + "\n"
 
-    def inline(self, definitions, label, inside, prefix):
+    def inline(self, definitions, frame):
         """An element `svg` that stands on the baseline of a line of text, and grows with its letters: its unit is the em of the
-        text. `definitions` has the outlines, `inside` is what is kept within, and `prefix` begins the attributes of links."""
+        text. `definitions` has the outlines."""
         box = self.boxes[0] if self.boxes else Box(1, "math", 0, 0, 0, 0, 0, 0, 0)
         _, top, _, bottom = self.extent()
-        height, width = bottom - top, max(box.width, 0)
-        head = (f'<svg class="mathlay" role="img" aria-label="{escape(label)}" viewBox="0 {top} {max(width, 1)} {max(height, 1)}" '
-                f'width="{ems(width)}" height="{ems(height)}" fill="currentColor" '
-                f'style="vertical-align:{ems(-bottom)};overflow:visible">')
-        uses = [reference(glyph, colour, definitions, prefix) for glyph, colour in self.glyphs()
+        height, width = max(bottom - top, 1), max(box.width, 1)
+        shown = "display:block;margin:1em auto" if frame.block else f"vertical-align:{ems(-bottom)}"
+        head = (f'<svg{frame.attributes} role="img" aria-label="{escape(frame.label)}" viewBox="0 {top} {width} {height}" '
+                f'width="{ems(width)}" height="{ems(height)}" fill="currentColor" style="{shown};overflow:visible">')
+        uses = [reference(glyph, colour, definitions, frame.link) for glyph, colour in self.glyphs()
                 if self.outlines.path(glyph.name)]
-        return "".join([head, inside, *self.backgrounds(), *uses, *self.rules(), *self.enclosures("currentColor"), "</svg>"])
+        return "".join([head, frame.inside, *self.backgrounds(), *uses, *self.rules(), *self.enclosures("currentColor"), "</svg>"])
 
     def glyphs(self):
         return [(mark, colour) for mark, colour in self.drawn if isinstance(mark, Glyph)]
