@@ -30,8 +30,17 @@ class Parser(argparse.ArgumentParser):
 def parser_of(name, text):
     """A parser whose help is the tool's own text, with the option that every tool has."""
     parser = Parser(prog=name, description=text, formatter_class=argparse.RawDescriptionHelpFormatter)
+    parser.add_argument("--version", action="version", version=f"{name} of mathlay {version()}")
     parser.add_argument("-o", "--output", metavar="FILE", help="write FILE, whole or not at all, in place of standard output")
     return parser
+
+
+def version():
+    """The version of all, as the file VERSION tells it."""
+    try:
+        return (Path(__file__).resolve().parent.parent.parent / "VERSION").read_text().strip()
+    except OSError:
+        return "of no known version"
 
 
 def run(parser, work, argv=None):

@@ -5,7 +5,7 @@ import unittest
 
 import mathml_tree
 from companion.letters import letters
-from tests.common import InFolder, run
+from tests.common import TOP, InFolder, run
 
 
 class Modern(InFolder):
@@ -102,3 +102,15 @@ class Letters(unittest.TestCase):
         for variant in sorted(VARIANTS - {"normal"}):
             for letter in letters(variant, "ABCDEFGHIJKLMNOPQRSTUVWXYZabcdefghijklmnopqrstuvwxyz0123456789" + GREEK_ORDER):
                 self.assertNotEqual(unicodedata.name(letter, ""), "", (variant, letter))
+
+
+class Document(unittest.TestCase):
+    def test_it_names_what_has_an_effect(self):
+        from companion.enclosures import NOTATIONS
+        from companion.letters import VARIANTS
+        from companion.mathml3 import EFFECTS, EVERYWHERE
+        text = (TOP / "docs" / "MATHML.md").read_text(encoding="utf-8")
+        passed_over = {"fence", "separator", "actiontype"}
+        strikes = {name for name in NOTATIONS if name.endswith(("strike", "arrow"))}
+        for name in {*EVERYWHERE, *EFFECTS, *set().union(*EFFECTS.values()), *VARIANTS, *NOTATIONS} - passed_over - strikes:
+            self.assertIn(f"`{name}`", text)
