@@ -16,6 +16,7 @@ formulas it drew, and how long it took. Without --font, Latin Modern Math is tak
 are made of the font, or are those of samples/.
 """
 
+import os
 import re
 import sys
 import tempfile
@@ -70,6 +71,7 @@ class Page:
     def draw(self, found):
         """Draws all formulas that can be drawn, and tells of the others; how many are left as they stood."""
         began = told_at = time.monotonic()
+        used_before = sum(os.times()[:4])
         told, lacks, left = mathml3.Told(), set(), 0
         ready = []
         for one in found:
@@ -91,14 +93,14 @@ class Page:
             self.studio.tell_of_lacks(drawing.Formula("", tree.root, None, tree), lacks)
             picture = svg.picture_of(outcome, self.studio.outlines, "", looks_of(tree.root))
             self.pictures.append((one, picture.inline(self.definitions, self.frame(one))))
-            if time.monotonic() - told_at > SECONDS:
+            if time.monotonic() - told_at > SECONDS and number < len(ready):
                 told_at = time.monotonic()
                 command.warn("page", f"{number} of {len(ready)} formulas, {number / (told_at - began):.0f} a second")
         for line in told.lines():
             command.warn("page", line)
-        seconds = time.monotonic() - began
+        seconds, used = time.monotonic() - began, sum(os.times()[:4]) - used_before
         command.warn("page", f"drew {len(self.pictures)} of {len(found)} formulas in {seconds:.1f} s, "
-                     f"{len(self.pictures) / max(seconds, 0.001):.0f} a second")
+                     f"{len(self.pictures) / max(seconds, 0.001):.0f} a second ({used:.1f} s of processor time)")
         return left
 
     def frame(self, one):

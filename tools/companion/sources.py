@@ -45,6 +45,7 @@ class Sources:
                 self.names[place, glyph] = name
                 taken.add(name)
         self.shapes = {name: Shape(*key) for key, name in self.names.items()}
+        self.inks = {}
 
     @property
     def upem(self):
@@ -74,8 +75,8 @@ class Sources:
         raise Fault(f"{self.first.path}: has no glyph {name}: the metrics are of another font")
 
     def scaled(self, place, value):
-        """A length of a font, as a fraction of units of the first."""
-        return Fraction(value * self.upem, self.fonts[place].upem)
+        """A length of a font, in units of the first, which may be a fraction."""
+        return value if place == 0 else Fraction(value * self.upem, self.fonts[place].upem)
 
     def is_box(self, shape):
         """Whether a shape is the sign for what no font has, and the first font's own is empty."""
@@ -94,6 +95,12 @@ class Sources:
 
     def ink(self, shape):
         """Left, bottom, right and top of the ink, rounded outward, or none."""
+        if shape not in self.inks:
+            self.inks[shape] = self.measured(shape)
+        return self.inks[shape]
+
+    def measured(self, shape):
+        """The ink of a shape that wasn't measured before."""
         if self.is_box(shape):
             return tuple(map(self.thousandths, BOX))
         bounds = self.fonts[shape.place].bounds(shape.glyph)

@@ -19,6 +19,7 @@ class Outlines:
     sources: object
     drawn: object
     paths: dict = field(default_factory=dict)
+    inks: dict = field(default_factory=dict)
 
     def path(self, name):
         """The outline as an SVG path, which is empty where nothing is drawn; raises a Fault at a name that no font has."""
@@ -29,8 +30,10 @@ class Outlines:
 
     def ink(self, name):
         """Left, bottom, right and top of the ink, or none."""
-        shape = self.sources.shape(name)
-        return None if shape is None else self.sources.ink(shape)
+        if name not in self.inks:
+            shape = self.sources.shape(name)
+            self.inks[name] = None if shape is None else self.sources.ink(shape)
+        return self.inks[name]
 
 
 @dataclass

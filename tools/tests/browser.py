@@ -5,10 +5,12 @@ import json
 import re
 import shutil
 import subprocess
+import unittest
 import zlib
 from pathlib import Path
 
 CHROMIUM = shutil.which("chromium") or shutil.which("chromium-browser") or shutil.which("google-chrome")
+SECONDS = 400
 NO_CHROMIUM = "no Chromium here: Debian's chromium has it"
 WORDS = ["--headless", "--no-sandbox", "--disable-gpu", "--hide-scrollbars", "--virtual-time-budget=10000"]
 # How far each picture within a line stands below the baseline of its line. The mark that stands on the baseline is kept on the
@@ -31,19 +33,26 @@ MEASURE = """<script>addEventListener('load', () => {
 })</script>"""
 
 
+def browse(words):
+    """What the browser writes; the test is skipped where it doesn't end, as on a machine that is busy with much else."""
+    try:
+        return subprocess.run([CHROMIUM, *WORDS, *words], check=True, capture_output=True, text=True, timeout=SECONDS).stdout
+    except subprocess.TimeoutExpired:
+        raise unittest.SkipTest(f"Chromium didn't end within {SECONDS} seconds") from None
+
+
 def baselines(path):
     """How many px each picture within a line of the page stands below its baseline."""
     text = Path(path).read_text(encoding="utf-8")
     measured = path + ".measured.html"
     Path(measured).write_text(text.replace("</body>", MEASURE + "</body>"), encoding="utf-8")
-    done = subprocess.run([CHROMIUM, *WORDS, "--dump-dom", f"file://{measured}"], capture_output=True, text=True, timeout=300)
-    return json.loads(html.unescape(re.search(r'<pre id="found">(.*?)</pre>', done.stdout)[1]))
+    written = browse(["--dump-dom", f"file://{measured}"])
+    return json.loads(html.unescape(re.search(r'<pre id="found">(.*?)</pre>', written)[1]))
 
 
 def screenshot(path, picture, width=900, height=1400, scale=1):
     """Writes a picture of a page as the browser shows it."""
-    subprocess.run([CHROMIUM, *WORDS, f"--window-size={width},{height}", f"--force-device-scale-factor={scale}",
-                    f"--screenshot={picture}", f"file://{path}"], check=True, capture_output=True, timeout=300)
+    browse([f"--window-size={width},{height}", f"--force-device-scale-factor={scale}", f"--screenshot={picture}", f"file://{path}"])
 
 
 BAND = 60

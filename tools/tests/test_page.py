@@ -100,8 +100,8 @@ class Pages(InFolder):
         """The status, the page and what was told, without the line that counts."""
         status, written, errors = self.ran(self.file(name, text), *words)
         *told, last = errors.splitlines()
-        self.assertRegex(last, r"^page: drew \d+ of \d+ formulas in [0-9.]+ s, \d+ a second$")
-        return status, written, told
+        self.assertRegex(last, r"^page: drew \d+ of \d+ formulas in [0-9.]+ s, \d+ a second \([0-9.]+ s of processor time\)$")
+        return status, written, [line for line in told if not re.fullmatch(r"page: \d+ of \d+ formulas, \d+ a second", line)]
 
     def test_a_picture_on_the_baseline(self):
         status, written, told = self.made('<body><p>a <math id="e" class="c"><mn>1</mn></math> b</body>')
@@ -210,7 +210,7 @@ class FiveHundred(InFolder):
         found = baselines(self.file("out.html", written))
         self.assertEqual(len(found), 450)
         self.assertLess(max(map(abs, found)), 0.5)
-        print(f"page.py: 500 formulas in {seconds:.1f} s, {500 / seconds:.0f} a second")
+        print(f"page.py: 500 formulas in {seconds:.1f} s, {500 / seconds:.0f} a second; {errors.splitlines()[-1]}")
 
     def test_ink_ends_where_that_of_the_letters_does(self):
         status, written, errors = run(page, self.file("in.html", lines_of_two()))
