@@ -1,7 +1,7 @@
 #!/usr/bin/env python3
 """Makes a metrics file of a font with a MATH table.
 
-    font_metrics.py FONT [--operators FILE] [-o FILE]
+    font_metrics.py FONT [--fallback FONT].. [--operators FILE] [--measure-parts] [--formula FILE].. [-o FILE]
 
 FONT is an OpenType or TrueType font (of a collection, its first font with a MATH table). Taken over are, in design units:
 ascent and descent of a line without its gap (the typographic ones where the font asks for them, else those of "hhea"), the
@@ -9,9 +9,20 @@ height of an x, the least connector overlap, all constants, and of each characte
 advance, ink, italics correction, accent position, variants and assemblies, in the font's order. Ink is rounded outward.
 
 A glyph keeps its name where that fits the format; another name is changed, one to one, and the font's first glyph is
-called `missing`. U+2061 to U+2064, which show nothing, are a glyph `invisible` without room or ink.
+called `missing`. Where that is empty, it becomes a box. U+2061 to U+2064, which show nothing, are a glyph `invisible` without
+room or ink.
+
+A character that FONT lacks gets another glyph, where there is one: of a character that looks the same in FONT; of the same
+character in each --fallback font in turn, scaled to FONT's em; or of one that is alike. tools/stand_ins.txt says which. A
+sign that doesn't grow to the sides takes the larger forms of one that looks the same and does, as a macron those of an overline.
+picture.py has to be given the same fonts. A fallback font needs no MATH table.
+
+With --formula, FILE's formulas are read, and each character that they need and the metrics lack is told, with its element.
 
 With --operators, FILE's `operator` lines are added; tools/operators.txt has the operator dictionary of MathML Core.
+
+The parts of which a tall fence or a long arrow is built have a length that the font states. Where it isn't the length of
+their ink, what is built has gaps or is too long: how many there are is told, and --measure-parts writes the length of the ink.
 
 What the format can't hold is left out or cut, and told on standard error in a line for each kind of thing. Needs fontTools:
 Debian's package python3-fonttools, and /usr/bin/python3.
@@ -20,17 +31,22 @@ Debian's package python3-fonttools, and /usr/bin/python3.
 import re
 import sys
 from collections import Counter
+from functools import cache
 
-from companion import command
+from companion import command, needs
 from companion.command import Fault
 from companion.constants import CONSTANTS, INVISIBLE, SCALE_DOWNS, is_mathematical
 from companion.fonts import EMPTY, open_font, reading
 from companion.metrics import (LENGTHS, MOST_BYTES, MOST_GLYPHS, MOST_PARTS, MOST_VARIANTS, SIGNED, Glyph, Metrics, Part,
                                Stretch)
+from companion.sources import Shape, Sources, is_combining
+from companion.stand_ins import read_stand_ins
 
 USE_TYPO_METRICS = 1 << 7
 EXTENDER = 1
 UPEM = range(16, 16_385)
+# How far the ink of a part may differ from its stated length, in thousandths of an em, before it is told.
+TOLERANCE = 4
 OPERATOR = re.compile(r"operator ([0-9A-Fa-f]{4,6})(?:\+([0-9A-Fa-f]{4,6}))? (prefix|infix|postfix) (Default|[A-M]) (block|inline)")
 
 
@@ -53,24 +69,33 @@ class Losses(Counter):
 def main(argv=None):
     parser = command.parser_of("font_metrics", __doc__)
     parser.add_argument("font", metavar="FONT")
+    parser.add_argument("--fallback", metavar="FONT", action="append", default=[], help="a font for what FONT lacks")
     parser.add_argument("--operators", metavar="FILE", help="add FILE's operator lines")
+    parser.add_argument("--measure-parts", action="store_true", help="of the parts of assemblies, write how long their ink is")
+    parser.add_argument("--formula", metavar="FILE", action="append", default=[],
+                        help="tell the characters that FILE's formulas need and the metrics lack")
     return command.run(parser, work, argv)
 
 
 def work(words):
     """The bytes of the metrics file."""
     operators = read_operators(words.operators) if words.operators else []
-    font = open_font(words.font)
+    fonts = [open_font(words.font), *(open_font(path, needs_math=False) for path in words.fallback)]
     losses = Losses()
     with reading(words.font):
-        metrics = metrics_of(font, losses)
-        remarks = [f"made by tools/font_metrics.py of {font.title}", *filter(None, [font.copyright])]
+        metrics = metrics_of(Sources(fonts), losses, words.measure_parts)
+        remarks = [f"made by tools/font_metrics.py of {fonts[0].title}", *filter(None, [fonts[0].copyright])]
+        for place, font in enumerate(fonts[1:], 1):
+            remarks += [f"fallback {place}: {font.title}", *filter(None, [font.copyright])]
     metrics.operators = operators
     data = metrics.text(remarks).encode("ascii")
     if len(data) > MOST_BYTES:
         raise Fault(f"{words.font}: makes {len(data)} bytes of metrics; the format has at most {MOST_BYTES}")
     for line in losses.lines():
         command.warn("font_metrics", f"{words.font}: {line}")
+    for path in words.formula:
+        for line in needs.lacking_in_file(path, metrics.characters):
+            command.warn("font_metrics", line)
     return data
 
 
@@ -97,26 +122,72 @@ def is_scalar(code, count):
     return code <= (0x10FFFF if count == 1 else 0xFFFF) and not 0xD800 <= code <= 0xDFFF
 
 
-def metrics_of(font, losses):
-    """All that the format can hold of a font."""
+def metrics_of(sources, losses, measure_parts=False):
+    """All that the format can hold of a font, and of others what fills in for what it lacks."""
+    font = sources.first
     if font.upem not in UPEM:
         raise Fault(f"{font.path}: has {font.upem} units an em; the format has from {UPEM[0]} to {UPEM[-1]}")
-    characters = {code: glyph for code, glyph in sorted(font.characters.items())
-                  if is_mathematical(code) and code not in INVISIBLE}
-    if not characters:
+    if not any(map(is_mathematical, font.characters)):
         raise Fault(f"{font.path}: shows no character that mathematics uses")
+    table = read_stand_ins()
+    characters = Chooser(sources, table).characters(losses)
     ascent, descent = line_of(font, losses)
     variants = font.math.MathVariants
     metrics = Metrics(
         upem=font.upem, ascent=ascent, descent=descent, xheight=xheight_of(font, losses),
         overlap=losses.cut(variants.MinConnectorOverlap, LENGTHS, "least overlap") if variants else 0,
         constants=constants_of(font, losses))
-    stretches = stretches_of(font, losses, set(characters.values()))
-    used = glyphs_used(font, characters, stretches, losses)
-    add_glyphs(metrics, font, used, losses)
-    add_references(metrics, font, characters, stretches, set(used))
-    count_kerns(font, used, losses)
+    stretches = stretches_of(sources, losses, set(characters.values()))
+    stretches |= lent(sources, table, characters, stretches, losses)
+    measure(sources, stretches, losses, measure_parts)
+    used = shapes_used(sources, characters, stretches, losses)
+    add_glyphs(metrics, sources, used, losses)
+    add_references(metrics, sources, characters, stretches, set(used))
+    add_blanks(metrics, table.blanks)
+    count_kerns(font, {shape.glyph for shape in used if shape.place == 0}, losses)
     return metrics
+
+
+class Chooser:
+    """Chooses the glyph that shows a character."""
+
+    def __init__(self, sources, table):
+        self.sources, self.table = sources, table
+        self.growing = [{glyph for axis, glyph in constructions(font) if axis == "h"} for font in sources.fonts]
+
+    def characters(self, losses):
+        """The shape of each character that mathematics uses and that can be shown, by its code; and in `losses` how many are
+        shown by another one."""
+        codes = {code for font in self.sources.fonts for code in font.characters}
+        codes |= set(self.table.same) | set(self.table.poorer)
+        found = {}
+        for code in sorted(codes):
+            if is_mathematical(code) and code not in INVISIBLE and (shape := self.shape(code)):
+                found[code] = shape
+        lacks = [code for code in found if code not in self.sources.first.characters]
+        losses["characters that the font lacks and a fallback font shows"] += sum(found[code].place > 0 for code in lacks)
+        return found
+
+    def shape(self, code):
+        """What shows a character best, or none."""
+        places = range(len(self.sources.fonts))
+        for place in places:
+            if glyph := self.sources.fonts[place].characters.get(code):
+                return Shape(place, glyph)
+            if shape := self.best(place, code, self.table.same.get(code, [])):
+                return shape
+        return next((shape for place in places if (shape := self.best(place, code, self.table.poorer.get(code, [])))), None)
+
+    def best(self, place, code, others):
+        """The first of some characters that a font has; one that grows to the sides goes first."""
+        font, shapes = self.sources.fonts[place], []
+        for other in others:
+            if glyph := font.characters.get(other):
+                spaced = is_combining(other) and not is_combining(code) and font.bounds(glyph) is not None
+                shapes.append(Shape(place, glyph, spaced))
+        shapes = [shape for shape in shapes if self.sources.name(shape)]
+        growing = [shape for shape in shapes if shape.glyph in self.growing[place]]
+        return next(iter(growing + shapes), None)
 
 
 def line_of(font, losses):
@@ -153,27 +224,64 @@ def constants_of(font, losses):
             for name, value in values.items() if value is not None}
 
 
-def stretches_of(font, losses, bases):
-    """How the glyphs of characters grow, by axis and the font's name of the glyph."""
-    table = font.math.MathVariants
-    if table is None:
+@cache
+def constructions(font):
+    """How the glyphs of a font grow, by axis and glyph, as its table MATH has it."""
+    table = font.math and font.math.MathVariants
+    if not table:
         return {}
     found = {}
-    for axis, coverage, constructions in (("v", table.VertGlyphCoverage, table.VertGlyphConstruction),
-                                          ("h", table.HorizGlyphCoverage, table.HorizGlyphConstruction)):
-        for base, construction in zip(coverage.glyphs if coverage else [], constructions or []):
-            if base in bases:
-                found[axis, base] = stretch_of(construction, losses)
+    for axis, coverage, records in (("v", table.VertGlyphCoverage, table.VertGlyphConstruction),
+                                    ("h", table.HorizGlyphCoverage, table.HorizGlyphConstruction)):
+        found.update({(axis, base): record for base, record in zip(coverage.glyphs if coverage else [], records or [])})
     return found
 
 
-def stretch_of(construction, losses):
-    """The variants and the parts of a glyph along an axis, by the font's names."""
-    variants = [(record.VariantGlyph, record.AdvanceMeasurement) for record in construction.MathGlyphVariantRecord or []]
+def stretches_of(sources, losses, bases):
+    """How the shapes of characters grow, by axis and shape; the first font's come first, each font's in its order."""
+    found = {}
+    for place, font in enumerate(sources.fonts):
+        for (axis, base), construction in constructions(font).items():
+            for spaced in (False, True):
+                shape = Shape(place, base, spaced)
+                if shape in bases:
+                    found[axis, shape] = stretch_of(sources, shape, construction, losses)
+    return found
+
+
+def lent(sources, table, characters, stretches, losses):
+    """What lets a sign grow to the sides that can't by itself: the growth of one that looks the same in the same font."""
+    found = {}
+    for code, shape in characters.items():
+        font = sources.fonts[shape.place]
+        if shape.spaced or ("h", shape) in stretches or font.bounds(shape.glyph) is None:
+            continue
+        for other in table.same.get(code, []):
+            glyph = font.characters.get(other)
+            construction = glyph and constructions(font).get(("h", glyph))
+            if construction and glyph != shape.glyph:
+                spaced = is_combining(other) and not is_combining(code)
+                if sources.name(Shape(shape.place, glyph, spaced)):
+                    found["h", shape] = stretch_of(sources, Shape(shape.place, glyph, spaced), construction, losses)
+                    break
+    return found
+
+
+def stretch_of(sources, base, construction, losses):
+    """The variants and the parts of a shape along an axis, as shapes; measures and lengths are in units of the first font."""
+    def shape(glyph):
+        return Shape(base.place, glyph, base.spaced and sources.name(Shape(base.place, glyph, True)) is not None)
+
+    def length(value):
+        return losses.cut(round(sources.scaled(base.place, value)), LENGTHS, "measures and lengths of parts")
+
+    variants = [(shape(record.VariantGlyph), length(record.AdvanceMeasurement))
+                for record in construction.MathGlyphVariantRecord or []]
     losses["left out: variants past the 64th of a glyph"] += max(0, len(variants) - MOST_VARIANTS)
     assembly = construction.GlyphAssembly
-    parts = [Part(record.glyph, bool(record.PartFlags & EXTENDER), record.StartConnectorLength, record.EndConnectorLength,
-                  record.FullAdvance) for record in (assembly.PartRecords if assembly else [])]
+    parts = [Part(shape(record.glyph), bool(record.PartFlags & EXTENDER), length(record.StartConnectorLength),
+                  length(record.EndConnectorLength), length(record.FullAdvance))
+             for record in (assembly.PartRecords if assembly else [])]
     if len(parts) > MOST_PARTS:
         losses["left out: assemblies of more than 16 parts"] += 1
         parts = []
@@ -182,33 +290,80 @@ def stretch_of(construction, losses):
     return Stretch(variants[:MOST_VARIANTS], parts)
 
 
-def glyphs_used(font, characters, stretches, losses):
-    """The font's names of the glyphs that the metrics have, in the font's order, but for the empty one."""
+def measure(sources, stretches, losses, take):
+    """Counts the parts whose stated length isn't that of their ink, and where `take` says so gives them that of their ink."""
+    count = wrong = 0
+    for (axis, _), stretch in stretches.items():
+        for part in stretch.parts:
+            ink = sources.ink(part.name)
+            length = part.full if ink is None else ink[3] - ink[1] if axis == "v" else ink[2] - ink[0]
+            count += 1
+            if abs(length - part.full) * 1000 <= TOLERANCE * sources.upem:
+                continue
+            wrong += 1
+            if take:
+                adopt(sources, axis, part, length)
+    told = f"{wrong} of {count} parts of assemblies"
+    if wrong and take:
+        losses[f"{told} have a stated length that isn't their ink's: the ink's is written"] += 1
+    elif wrong:
+        losses[f"{told} have a stated length that isn't their ink's, so what is built may have gaps: --measure-parts writes the "
+               "ink's"] += 1
+
+
+def adopt(sources, axis, part, length):
+    """Gives a part the length of its ink, which then begins where the part begins."""
+    spaced = Shape(part.name.place, part.name.glyph, True)
+    if axis == "h" and sources.name(spaced):
+        part.name = spaced
+    part.full = length
+    part.start, part.end = min(part.start, length), min(part.end, length)
+
+
+def shapes_used(sources, characters, stretches, losses):
+    """The shapes that the metrics have, in the order of the fonts and of their glyphs, but for the empty ones."""
     used = set(characters.values())
     for stretch in stretches.values():
-        used.update(name for name, _ in stretch.variants)
+        used.update(shape for shape, _ in stretch.variants)
         used.update(part.name for part in stretch.parts)
-    first, *others = font.names
-    ordered = [first, *(glyph for glyph in others if glyph in used)]
+    places = {key: number for number, key in enumerate(sources.names)}
+    first = Shape(0, next(iter(sources.first.names)))
+    ordered = [first, *sorted(used - {first}, key=lambda shape: (places[shape.place, shape.glyph], shape.spaced))]
     room = MOST_GLYPHS - 1
     losses[f"left out: glyphs past the {MOST_GLYPHS:,} that the format holds"] += max(0, len(ordered) - room)
     return ordered[:room]
 
 
-def add_glyphs(metrics, font, used, losses):
+def add_glyphs(metrics, sources, used, losses):
     """Adds the glyphs under their names in the format, and the empty one."""
-    info = font.math.MathGlyphInfo
-    italics = values_of(info and info.MathItalicsCorrectionInfo, "Coverage", "ItalicsCorrection")
-    accents = values_of(info and info.MathTopAccentAttachment, "TopAccentCoverage", "TopAccentAttachment")
-    for glyph in used:
-        name = font.names[glyph]
-        _, bottom, _, top = font.bounds(glyph) or (0, 0, 0, 0)
-        accent = accents.get(glyph)
+    told = [told_of(font) for font in sources.fonts]
+    for shape in used:
+        italics, accents = told[shape.place]
+        name = sources.name(shape)
+        _, bottom, _, top = sources.ink(shape) or (0, 0, 0, 0)
+        italic = 0 if shape.spaced else round(sources.scaled(shape.place, italics.get(shape.glyph, 0)))
+        accent = accents.get(shape.glyph)
         metrics.glyphs[name] = Glyph(
-            name, losses.cut(font.advance(glyph), LENGTHS, "advances"), losses.cut(top, SIGNED, "ink ascents"),
-            losses.cut(-bottom, SIGNED, "ink descents"), losses.cut(italics.get(glyph, 0), SIGNED, "italics corrections"),
-            None if accent is None else losses.cut(accent, SIGNED, "accent positions"))
+            name, losses.cut(sources.advance(shape), LENGTHS, "advances"), losses.cut(top, SIGNED, "ink ascents"),
+            losses.cut(-bottom, SIGNED, "ink descents"), losses.cut(italic, SIGNED, "italics corrections"),
+            None if accent is None else losses.cut(sources.accent(shape, accent), SIGNED, "accent positions"))
     metrics.glyphs[EMPTY] = Glyph(EMPTY, 0, 0, 0)
+
+
+def told_of(font):
+    """The italics corrections and the accent positions that a font tells, by its glyphs."""
+    info = font.math and font.math.MathGlyphInfo
+    return (values_of(info and info.MathItalicsCorrectionInfo, "Coverage", "ItalicsCorrection"),
+            values_of(info and info.MathTopAccentAttachment, "TopAccentCoverage", "TopAccentAttachment"))
+
+
+def add_blanks(metrics, blanks):
+    """Adds a glyph without ink for each space that no font has."""
+    for code, ems in blanks.items():
+        if code not in metrics.characters:
+            name = f"blank.{code:04X}"
+            metrics.glyphs[name] = Glyph(name, round(ems * metrics.upem), 0, 0)
+            metrics.characters[code] = name
 
 
 def values_of(table, coverage, records):
@@ -218,24 +373,25 @@ def values_of(table, coverage, records):
     return {glyph: record.Value for glyph, record in zip(getattr(table, coverage).glyphs, getattr(table, records))}
 
 
-def add_references(metrics, font, characters, stretches, kept):
+def add_references(metrics, sources, characters, stretches, kept):
     """Adds characters, variants and parts, as far as their glyphs are kept."""
-    metrics.characters = {code: font.names[glyph] for code, glyph in characters.items() if glyph in kept}
+    metrics.characters = {code: sources.name(shape) for code, shape in characters.items() if shape in kept}
     metrics.characters.update({code: EMPTY for code in INVISIBLE})
     for (axis, base), stretch in stretches.items():
         if base not in kept:
             continue
         whole = all(part.name in kept for part in stretch.parts)
-        metrics.stretches[axis, font.names[base]] = Stretch(
-            [(font.names[name], measure) for name, measure in stretch.variants if name in kept],
-            [Part(font.names[part.name], part.extender, part.start, part.end, part.full) for part in stretch.parts if whole])
+        metrics.stretches[axis, sources.name(base)] = Stretch(
+            [(sources.name(shape), measure) for shape, measure in stretch.variants if shape in kept],
+            [Part(sources.name(part.name), part.extender, part.start, part.end, part.full)
+             for part in stretch.parts if whole])
 
 
 def count_kerns(font, used, losses):
     """Counts the glyphs that have corner kerns, for which the format has no line."""
     info = font.math.MathGlyphInfo
     if info and info.MathKernInfo:
-        losses["left out: corner kerns of glyphs"] += len(set(info.MathKernInfo.MathKernCoverage.glyphs) & set(used))
+        losses["left out: corner kerns of glyphs"] += len(set(info.MathKernInfo.MathKernCoverage.glyphs) & used)
 
 
 if __name__ == "__main__":

@@ -1,42 +1,36 @@
 #!/usr/bin/env python3
 """Draws a formula: lays a tree out with the built program, and draws its marks with the outlines of the font.
 
-    picture.py FILE.metrics FONT FORMULA [--boxes] [--zoom N] [--lines FILE] [--program COMMAND] [-o FILE]
-    picture.py --html FILE.metrics FONT FORMULA.. [--boxes] [--zoom N] [--program COMMAND] [-o FILE]
+    picture.py FILE.metrics FONT FORMULA [--fallback FONT].. [--number K | --all] [--boxes] [--zoom N] [--lines FILE]
+               [--format svg|png|pdf] [--program COMMAND] [-o FILE]
+    picture.py --html FILE.metrics FONT FORMULA.. [the same]
 
-FILE.metrics is what font_metrics.py made of FONT. FORMULA is a tree file, which begins with `{`, or else MathML or an HTML
-page, whose first formula is drawn; mathml_tree.py says what is made of it. The picture is an SVG, one of whose units is one
-of the program's, 1/1024 px. With --boxes each element's box stands on it with its baseline and its id. With --html it is a
-page with a picture of each formula, in their order. --lines writes a file too, of the boxes and marks as the program wrote
-them.
+FILE.metrics is what font_metrics.py made of FONT, and of each --fallback font, which are to be given in the same order.
+FORMULA is a tree file, which begins with `{`, or else MathML or an HTML page, whose first formula is drawn, or the Kth, or all;
+mathml_tree.py says what is made of it. The picture is an SVG, one of whose units is one of the program's, 1/1024 px; or a PNG
+or PDF, where FILE ends in .png or .pdf, or --format says so (by Debian's librsvg2-bin or python3-cairosvg). All of several
+formulas are written to FILE-1.svg, FILE-2.svg and so on for a FILE.svg; with --html they are a page with a picture of each,
+in their order. To draw formulas within a page of text, take page.py.
 
-The program is crates/mathlay/out/mathlay of this repository, which `rt run` in crates/mathlay has proved and built. With
---program, COMMAND is run in its place: words as a shell parts them, behind which `layout FILE.metrics TREE.json` is put.
+With --boxes each element's box stands on it with its baseline and its id. --lines writes a file too, of the boxes and marks as
+the program wrote them. Colours (`mathcolor`, `mathbackground`) are carried to the picture, and so are the lines of `menclose`.
+A character that the metrics lack is a box, and is told with its element.
+
+The program is crates/mathlay/out/mathlay of this repository, which `rt run` in crates/mathlay has proved and built, or else
+the installed `mathlay`. With --program, COMMAND is run in its place: words as a shell parts them, behind which
+`layout FILE.metrics TREE.json` is put.
 
 Glyphs stand on their baselines. A built mark is drawn as the parts of its assembly in the metrics' order, an extender as often as
 the mark says. Piece by piece, each begins where the last one ended, less the overlap: up from the mark's baseline, where the
-piece's ink stands, or to the right from the mark's start. Needs fontTools: Debian's package python3-fonttools, and
-/usr/bin/python3.
+piece's ink begins, or to the right from the mark's start, where the piece's own start stands. A part's length is scaled to the
+mark's font size as the program scales it, to the nearest unit, ties upward.
 """
 
-import shlex
-import subprocess
 import sys
-import tempfile
 from pathlib import Path
 
-from companion import command, svg
+from companion import command, drawing, render, svg
 from companion.command import Fault
-from companion.fonts import MISSING, open_font
-from companion.marks import Glyph, read_marks
-from companion.mathml import read_formulas
-from companion.metrics import read_drawn
-from companion.trees import tree_text
-
-PROGRAM = Path(__file__).resolve().parent.parent / "crates" / "mathlay" / "out" / "mathlay"
-SECONDS = 600
-ENDINGS = {2: "it takes other words", 3: "it refuses the metrics", 4: "it refuses the tree", 5: "it couldn't read a file",
-           7: "it had no memory", 8: "the layout is out of range"}
 
 
 def main(argv=None):
@@ -44,11 +38,13 @@ def main(argv=None):
     parser.add_argument("metrics", metavar="FILE.metrics")
     parser.add_argument("font", metavar="FONT")
     parser.add_argument("formulas", metavar="FORMULA", nargs="+")
+    drawing.add_words(parser)
+    drawing.add_choice(parser)
     parser.add_argument("--boxes", action="store_true", help="draw boxes, baselines and ids on top")
     parser.add_argument("--html", action="store_true", help="make an HTML page; takes several formulas")
     parser.add_argument("--zoom", metavar="N", type=zoom, default=2.0, help="px of the picture for one px of the formula (2)")
     parser.add_argument("--lines", metavar="FILE", help="write FILE too, whole or not at all: the boxes and marks of one formula")
-    parser.add_argument("--program", metavar="COMMAND", help="run COMMAND in place of the built program")
+    parser.add_argument("--format", choices=render.FORMATS, help="what to write, where the name of the output doesn't say it")
     return command.run(parser, work, argv)
 
 
@@ -64,77 +60,34 @@ def work(words):
     """The bytes of the picture or the page."""
     if len(words.formulas) > 1 and not words.html:
         raise Fault("several formulas make a page: say --html")
-    if len(words.formulas) > 1 and words.lines:
+    studio = drawing.studio_of("picture", words)
+    formulas = [formula for path in words.formulas for formula in drawing.formulas_of("picture", path, words)]
+    several = len(formulas) > 1
+    if several and words.lines:
         raise Fault("several formulas have no one file of lines: leave out --lines")
-    drawn, font = read_drawn(words.metrics), open_font(words.font)
-    if font.upem != drawn.upem:
-        raise Fault(f"{words.metrics}: has {drawn.upem} units an em, and {words.font} has {font.upem}: they don't go together")
-    outlines = svg.Outlines(font, drawn)
-    program = command_of(words.program)
+    if several and not words.html and words.output is None:
+        raise Fault("several pictures need names: say -o FILE.svg, which gives FILE-1.svg and so on, or --html for one page")
     figures, lines = [], ""
-    for place, formula in enumerate(words.formulas, 1):
-        lines = lay_out(program, words.metrics, formula)
-        marks = read_marks(lines)
-        tell_of_missing(formula, marks)
-        picture = svg.picture_of(marks, outlines, f"f{place}" if words.html else "g")
-        figures.append((formula, picture.svg(words.zoom, words.boxes)))
+    for place, formula in enumerate(formulas, 1):
+        drawn, lines = studio.picture(formula, f"f{place}" if words.html else "g")
+        figures.append((formula.name, drawn.svg(words.zoom, words.boxes)))
     if words.lines:
         command.write(words.lines, lines.encode())
-    return (svg.page(figures) if words.html else figures[0][1]).encode()
+    if words.html:
+        return svg.page(figures).encode()
+    kind = render.format_of(words.output, words.format)
+    if not several:
+        return render.rendered(figures[0][1], kind)
+    return written(Path(words.output), kind, [picture for _, picture in figures])
 
 
-def tell_of_missing(formula, marks):
-    """Says that characters are drawn as the font's sign for what it lacks, which may be empty."""
-    count = sum(isinstance(mark, Glyph) and mark.name == MISSING for mark in marks)
-    if count:
-        command.warn("picture", f"{formula}: glyphs of characters that the metrics don't name, drawn as `{MISSING}`: {count}")
-
-
-def command_of(given):
-    """The words of the program to run, or the path of the built one; raises a Fault."""
-    if given is None:
-        if not PROGRAM.is_file():
-            raise Fault(f"{PROGRAM} isn't there: build it by `rt run` in crates/mathlay, or give --program")
-        return [str(PROGRAM)]
-    try:
-        words = shlex.split(given)
-    except ValueError as fault:
-        raise Fault(f"--program: {fault}") from None
-    if not words:
-        raise Fault("--program: names no program")
-    return words
-
-
-def lay_out(program, metrics, formula):
-    """What the program writes for a formula; raises a Fault."""
-    data = command.read(formula)
-    if data.lstrip().startswith(b"{"):
-        return lines_of(program, metrics, formula, formula)
-    text = tree_text(read_formulas(formula, data)[0])
-    try:
-        with tempfile.NamedTemporaryFile(suffix=".json") as tree:
-            tree.write(text.encode())
-            tree.flush()
-            return lines_of(program, metrics, tree.name, formula)
-    except OSError as fault:
-        raise Fault(f"{formula}: its tree can't be written: {command.reason(fault)}") from None
-
-
-def lines_of(program, metrics, tree, formula):
-    """What the program writes for the tree file of a formula; raises a Fault."""
-    try:
-        done = subprocess.run([*program, "layout", metrics, tree], stdin=subprocess.DEVNULL, capture_output=True,
-                              timeout=SECONDS)
-    except (OSError, ValueError) as fault:
-        raise Fault(f"{program[0]}: {command.reason(fault)}") from None
-    except subprocess.TimeoutExpired:
-        raise Fault(f"{formula}: the program didn't end within {SECONDS} seconds") from None
-    written = done.stdout.decode("utf-8", "replace")
-    if done.returncode != 0:
-        told = written.strip().split("\n")[-1] or done.stderr.decode("utf-8", "replace").strip()
-        raise Fault(f"{formula}: the program ended with status {done.returncode}, "
-                    f"{ENDINGS.get(done.returncode, 'which is none of its refusals')}: {told or 'it wrote nothing'}")
-    return written
+def written(path, kind, pictures):
+    """Writes each picture to a file of its own, and says in a line how many there are."""
+    suffix = path.suffix or f".{kind}"
+    for number, picture in enumerate(pictures, 1):
+        command.write(path.with_name(f"{path.stem}-{number}{suffix}"), render.rendered(picture, kind))
+    command.warn("picture", f"wrote {path.stem}-1{suffix} to {path.stem}-{len(pictures)}{suffix}")
+    return command.Output(None)
 
 
 if __name__ == "__main__":

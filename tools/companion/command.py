@@ -4,11 +4,20 @@ import argparse
 import os
 import sys
 import tempfile
+from dataclasses import dataclass
 from pathlib import Path
 
 
 class Fault(Exception):
     """What is wrong with an input, as one line for whoever gave it."""
+
+
+@dataclass
+class Output:
+    """The bytes that a tool makes, which are none where it has written its files itself, and the status with which it ends."""
+
+    data: bytes | None
+    status: int = 0
 
 
 class Parser(argparse.ArgumentParser):
@@ -21,22 +30,42 @@ class Parser(argparse.ArgumentParser):
 def parser_of(name, text):
     """A parser whose help is the tool's own text, with the option that every tool has."""
     parser = Parser(prog=name, description=text, formatter_class=argparse.RawDescriptionHelpFormatter)
+    parser.add_argument("--version", action="version", version=f"{name} of mathlay {version()}")
     parser.add_argument("-o", "--output", metavar="FILE", help="write FILE, whole or not at all, in place of standard output")
     return parser
+
+
+def version():
+    """The version of all, as the file VERSION tells it."""
+    try:
+        return (Path(__file__).resolve().parent.parent.parent / "VERSION").read_text().strip()
+    except OSError:
+        return "of no known version"
 
 
 def run(parser, work, argv=None):
     """Carries out a tool: `work` makes all bytes of its output from the words. Returns the exit status: 1 at a fault."""
     words = parser.parse_args(argv)
     try:
-        write(words.output, work(words))
+        made = work(words)
+        if not isinstance(made, Output):
+            made = Output(made)
+        if made.data is not None:
+            write(words.output, made.data)
+        return made.status
     except Fault as fault:
         warn(parser.prog, fault)
         return 1
     except UnicodeError as fault:
         warn(parser.prog, f"a name or text that can't be written: {fault}")
         return 1
-    return 0
+
+
+def whole(word):
+    """A number from 1 up, as a word."""
+    if not word.isascii() or not word.isdigit() or int(word[:9]) < 1:
+        raise argparse.ArgumentTypeError(f"{word!r} isn't a number from 1 up")
+    return int(word)
 
 
 def warn(tool, text):
@@ -45,13 +74,13 @@ def warn(tool, text):
 
 
 def one_line(text):
-    """The text without line ends, cut after 300 characters."""
+    """The text without line ends, cut after 600 characters."""
     flat = " ".join(str(text).split())
-    return flat if len(flat) <= 300 else flat[:297] + "..."
+    return flat if len(flat) <= 600 else flat[:597] + "..."
 
 
 def read(path):
-    """The bytes of a file; raises a Fault."""
+    """The bytes of a file; raises a Fault, which names it."""
     try:
         return Path(path).read_bytes()
     except (OSError, ValueError) as fault:

@@ -4,7 +4,7 @@ import logging
 import re
 import struct
 from contextlib import contextmanager
-from dataclasses import dataclass
+from dataclasses import dataclass, field
 from functools import cached_property
 from io import BytesIO
 from math import ceil, floor
@@ -16,6 +16,7 @@ from companion.metrics import FIT_NAME
 try:
     from fontTools.pens.boundsPen import BoundsPen
     from fontTools.pens.svgPathPen import SVGPathPen
+    from fontTools.pens.transformPen import TransformPen
     from fontTools.ttLib import TTFont
 except ImportError:
     TTFont = None
@@ -38,15 +39,17 @@ def reading(path):
         raise Fault(f"{path}: can't be read as a font: {one_line(told)}") from None
 
 
-@dataclass
+@dataclass(eq=False)
 class MathFont:
-    """A font and its MATH table. `names` gives each glyph the name that it has in a metrics file, one to one."""
+    """A font and its MATH table. `names` gives each glyph the name that it has in a metrics file, one to one; `kept` is the
+    ink that was measured before."""
 
     path: str
     font: object
     names: dict
+    kept: dict = field(default_factory=dict)
 
-    @property
+    @cached_property
     def upem(self):
         """Design units an em."""
         with reading(self.path):
@@ -54,8 +57,8 @@ class MathFont:
 
     @property
     def math(self):
-        """The MATH table."""
-        return self.font["MATH"].table
+        """The MATH table, or none."""
+        return self.font["MATH"].table if "MATH" in self.font else None
 
     @cached_property
     def characters(self):
@@ -83,19 +86,20 @@ class MathFont:
 
     def bounds(self, glyph):
         """The ink of a glyph as (left, bottom, right, top), or none. A part of a unit counts as a whole one."""
-        with reading(self.path):
-            pen = BoundsPen(self.outlines)
-            self.outlines[glyph].draw(pen)
-        if pen.bounds is None:
-            return None
-        left, bottom, right, top = pen.bounds
-        return floor(left), floor(bottom), ceil(right), ceil(top)
+        if glyph not in self.kept:
+            with reading(self.path):
+                pen = BoundsPen(self.outlines)
+                self.outlines[glyph].draw(pen)
+            left, bottom, right, top = pen.bounds or (0, 0, 0, 0)
+            self.kept[glyph] = (floor(left), floor(bottom), ceil(right), ceil(top)) if pen.bounds else None
+        return self.kept[glyph]
 
-    def path_of(self, glyph):
-        """The outline of a glyph as an SVG path, y growing upward."""
+    def path_of(self, glyph, scale=1, right=0):
+        """The outline of a glyph as an SVG path, y growing upward; scaled, and then moved to the right."""
         with reading(self.path):
             pen = SVGPathPen(self.outlines, ntos=lambda number: f"{number:.2f}".rstrip("0").rstrip("."))
-            self.outlines[glyph].draw(pen)
+            moving = TransformPen(pen, (float(scale), 0, 0, float(scale), float(right), 0))
+            self.outlines[glyph].draw(pen if (scale, right) == (1, 0) else moving)
         return pen.getCommands()
 
     @cached_property
@@ -104,8 +108,9 @@ class MathFont:
         return self.font.getGlyphSet()
 
 
-def open_font(path):
-    """The font of a file; of a collection, its first font that has a MATH table. Raises a Fault."""
+def open_font(path, needs_math=True):
+    """The font of a file; of a collection, its first font that has a MATH table, or else, where it needs none, the first.
+    Raises a Fault."""
     if TTFont is None:
         raise Fault(NO_FONT_TOOLS)
     logging.getLogger("fontTools").setLevel(logging.CRITICAL + 1)
@@ -113,9 +118,10 @@ def open_font(path):
     with reading(path):
         check_whole(path, data)
         fonts = [TTFont(BytesIO(data), fontNumber=number, lazy=True) for number in range(fonts_in(data))]
-        found = next((font for font in fonts if "MATH" in font), None)
+        found = next((font for font in fonts if "MATH" in font), None if needs_math else fonts[0])
         if found is None:
-            raise Fault(f"{path}: the font has no MATH table")
+            raise Fault(f"{path}: the font has no MATH table, so nobody can lay formulas out with it. Debian's fonts-lmodern, "
+                        "fonts-texgyre-math and fonts-stix have fonts with one; this one may fill in for another by --fallback")
         return MathFont(str(path), found, fit_names(found.getGlyphOrder()))
 
 
@@ -153,19 +159,21 @@ def ends_of_font(data, place):
     return [offset + length for offset, length in entries]
 
 
-def fit_names(order):
-    """The name in a metrics file of each glyph of a font, in the font's order. The first glyph is the one that shows
-    what the font lacks. A name that doesn't fit the format, or that is taken, is changed until it fits and is free."""
-    names, taken = {}, {MISSING, EMPTY}
+def fit_names(order, prefix="", taken=()):
+    """The name in a metrics file of each glyph of a font, in the font's order: the prefix and its own. The first glyph of a
+    first font, which has no prefix, is the one that shows what the font lacks. A name that doesn't fit the format, or that is
+    taken, is changed until it fits and is free."""
+    names, taken = {}, {MISSING, EMPTY, *taken}
     for place, glyph in enumerate(order):
-        if place == 0:
+        if place == 0 and not prefix:
             names[glyph] = MISSING
-        elif FIT_NAME.fullmatch(glyph) and glyph not in taken:
-            names[glyph] = glyph
-            taken.add(glyph)
+        elif FIT_NAME.fullmatch(prefix + glyph) and prefix + glyph not in taken:
+            names[glyph] = prefix + glyph
+            taken.add(prefix + glyph)
     for place, glyph in enumerate(order):
         if glyph not in names:
-            stem = re.sub(r"[^A-Za-z0-9_.-]", "_", glyph, flags=re.ASCII)[:48] or "glyph"
+            room = 48 - len(prefix)
+            stem = prefix + (re.sub(r"[^A-Za-z0-9_.-]", "_", glyph, flags=re.ASCII)[:room] or "glyph")
             name, number = f"{stem}.{place}", place
             while name in taken:
                 number += len(order)

@@ -88,11 +88,12 @@ class Metrics:
 
 @dataclass
 class Drawn:
-    """What of a metrics file a picture needs: design units an em, the glyphs, and the parts of assemblies."""
+    """What of a metrics file a picture needs: design units an em, the glyphs, the parts of assemblies, and the characters."""
 
     upem: int
     glyphs: dict
     parts: dict
+    characters: dict = field(default_factory=dict)
 
     def scale(self, value, size):
         """A length at a font size, rounded to the nearest unit of 1/1024 px, ties upward."""
@@ -101,7 +102,7 @@ class Drawn:
 
 def read_drawn(path):
     """Reads what a picture needs of a metrics file that the program takes; raises a Fault where it isn't one."""
-    upem, glyphs, parts = None, {}, {}
+    upem, glyphs, parts, characters = None, {}, {}, {}
     for number, line in enumerate(read(path).decode("latin-1").split("\n"), 1):
         words = [] if line.startswith("#") else line.split()
         try:
@@ -110,6 +111,8 @@ def read_drawn(path):
                     upem = int(value)
                 case ["glyph", name, advance, up, down, *_]:
                     glyphs[name] = Glyph(name, int(advance), int(up), int(down))
+                case ["char", code, name]:
+                    characters[int(code, 16)] = name
                 case ["vassembly" | "hassembly" as word, base, name, kind, start, end, full]:
                     part = Part(name, kind == "EXT", int(start), int(end), int(full))
                     parts.setdefault((word[0], base), []).append(part)
@@ -117,4 +120,4 @@ def read_drawn(path):
             raise Fault(f"{path}: line {number} isn't one of a metrics file") from None
     if not upem:
         raise Fault(f"{path}: isn't a metrics file: it has no line upem")
-    return Drawn(upem, glyphs, parts)
+    return Drawn(upem, glyphs, parts, characters)

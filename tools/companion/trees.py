@@ -2,6 +2,7 @@
 
 import json
 import re
+from dataclasses import dataclass
 from itertools import groupby
 
 from companion.command import Fault
@@ -22,6 +23,7 @@ class Maker:
     def __init__(self):
         self.elements = 0
         self.bytes = 0
+        self.places = []
 
     def element(self, node, level=1, annotated=False):
         """The element that stands for a node, as a JSON object whose keys are in order; raises a Fault."""
@@ -37,6 +39,7 @@ class Maker:
 
     def count(self, place, level):
         self.elements += 1
+        self.places.append(place)
         if level > MOST_LEVELS:
             raise Fault(f"{place}: stands at level {level}; a tree has at most {MOST_LEVELS}")
         if self.elements > MOST_ELEMENTS:
@@ -103,9 +106,35 @@ def checked_name(place, what, name):
     return name
 
 
+@dataclass
+class Tree:
+    """A formula as an element of the tree format, and where each of its elements stands in its file, by id from 1."""
+
+    root: dict
+    places: list
+
+    def place(self, number):
+        return self.places[number - 1]
+
+    def text(self):
+        """The JSON text in its canonical form, with a line feed; raises a Fault."""
+        text = json_text(self.root) + "\n"
+        if len(text.encode()) > MOST_BYTES:
+            raise Fault(f"{self.places[0]}: makes {len(text.encode()):,} bytes of JSON; a tree file has at most {MOST_BYTES:,}")
+        return text
+
+
+def json_text(value):
+    """The JSON text of a value without any space."""
+    return json.dumps(value, ensure_ascii=False, separators=(",", ":"))
+
+
+def made_tree(node):
+    """The tree of a formula; raises a Fault."""
+    maker = Maker()
+    return Tree(maker.element(node), maker.places)
+
+
 def tree_text(node):
     """The JSON text of a formula's tree, in its canonical form, with a line feed; raises a Fault."""
-    text = json.dumps(Maker().element(node), ensure_ascii=False, separators=(",", ":")) + "\n"
-    if len(text.encode()) > MOST_BYTES:
-        raise Fault(f"{node.place}: makes {len(text.encode()):,} bytes of JSON; a tree file has at most {MOST_BYTES:,}")
-    return text
+    return made_tree(node).text()

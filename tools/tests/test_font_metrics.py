@@ -10,6 +10,8 @@ from companion.command import Fault
 from companion.constants import CONSTANTS, SCALE_DOWNS
 from companion.fonts import fit_names
 from companion.metrics import FIT_NAME, Part, Stretch
+from companion.sources import Shape
+from companion.stand_ins import read_stand_ins
 from tests.common import TOP, Arcs, InFolder, make_font, needs_font_tools, run
 
 GLYPHS = {
@@ -26,6 +28,12 @@ GLYPHS = {
 CHARACTERS = {0x28: "paren", 0x5E: "odd,name", 0x78: "x", 0x20: "space", 0x4E00: "unused"}
 VARIANTS = {("v", "paren"): [("paren", 1025), ("paren.v1", 1537)], ("h", "x"): [("odd,name", 640)]}
 PARTS = {("v", "paren"): [("bot", False, 0, 200, 600), ("ext", True, 200, 200, 400)]}
+# The characters of the font, and those that another one of its glyphs shows.
+STAND_INS = "".join(f"char {code} {name}\n" for code, name in (
+    ("0020", "space"), ("0028", "paren"), ("005E", "odd_name.6"), ("0078", "x"), ("00A0", "space"), ("00AD", "blank.00AD"),
+    ("02C6", "odd_name.6"), ("0302", "odd_name.6"), *((f"{code:04X}", f"blank.{code:04X}") for code in range(0x2000, 0x2007)),
+    ("2007", "space"), ("2008", "space"), *((code, f"blank.{code}") for code in ("2009", "200A", "200B", "200C", "200D", "202F",
+    "205F", "2060")), ("2061", "invisible"), ("2062", "invisible"), ("2063", "invisible"), ("2064", "invisible")))
 
 
 @needs_font_tools
@@ -43,12 +51,13 @@ class OfAFont(InFolder):
             f"xheight 512\noverlap 50\n{constants}"
             "glyph missing 500 600 0 0\nglyph x 580 448 8 12 300\nglyph paren 400 768 256 0 -5\nglyph paren.v1 480 1024 512 0\n"
             "glyph bot 500 600 0 0\nglyph ext 500 400 0 0\nglyph odd_name.6 640 720 -500 0\nglyph space 250 0 0 0\n"
-            "glyph invisible 0 0 0 0\n"
-            "char 0020 space\nchar 0028 paren\nchar 005E odd_name.6\nchar 0078 x\nchar 2061 invisible\nchar 2062 invisible\n"
-            "char 2063 invisible\nchar 2064 invisible\n"
+            "glyph invisible 0 0 0 0\n" + STAND_INS +
             "hvariant x odd_name.6 640\nvvariant paren paren 1025\nvvariant paren paren.v1 1537\n"
             "vassembly paren bot FIX 0 200 600\nvassembly paren ext EXT 200 200 400\n")
-        self.assertEqual(run(font_metrics, font), (0, expected.encode(), ""))
+        status, written, errors = run(font_metrics, font)
+        self.assertEqual((status, errors), (0, ""))
+        kept = [line for line in written.decode().splitlines() if not line.startswith(("glyph blank", "char 1D"))]
+        self.assertEqual(kept, expected.splitlines())
 
     def test_ink_is_rounded_outward(self):
         arcs = {"up": Arcs(10, 110, 101, 40), "down": Arcs(10, 110, 100, 1), "x": Arcs(10, 110, 897, 13)}
@@ -128,23 +137,25 @@ class OfAFont(InFolder):
         glyphs = GLYPHS | {f"g{number}": (7, None) for number in range(65_535 - len(GLYPHS))}
         status, written, errors = run(font_metrics, self.font(glyphs=glyphs, variants=VARIANTS, named=False))
         self.assertEqual((status, errors), (0, ""))
-        self.assertEqual(written.count(b"\nglyph "), 7)
+        self.assertEqual(written.count(b"\nglyph "), 7 + written.count(b"\nglyph blank."))
 
 
 class Glyphs(unittest.TestCase):
     def test_a_65536th_glyph_is_left_out_and_told(self):
         order = [f"g{number}" for number in range(65_536)]
-        font = SimpleNamespace(names=fit_names(order))
+        sources = SimpleNamespace(first=SimpleNamespace(names=order), names=[(0, name) for name in order])
         losses = font_metrics.Losses()
-        used = font_metrics.glyphs_used(font, {}, {("v", "g1"): Stretch([(name, 1) for name in order], [])}, losses)
-        self.assertEqual(used, order[:65_534])
+        stretches = {("v", Shape(0, "g1")): Stretch([(Shape(0, name), 1) for name in order], [])}
+        used = font_metrics.shapes_used(sources, {}, stretches, losses)
+        self.assertEqual(used, [Shape(0, name) for name in order[:65_534]])
         self.assertEqual(losses.lines(), ["left out: glyphs past the 65,535 that the format holds (2)"])
 
     def test_what_names_a_glyph_that_is_left_out_goes_too(self):
         metrics = SimpleNamespace(characters={}, stretches={})
-        font = SimpleNamespace(names={"a": "a", "b": "b", "c": "c"})
-        stretches = {("v", "a"): Stretch([("b", 1), ("c", 2)], [Part("c", True, 0, 0, 9)]), ("h", "c"): Stretch([("a", 3)], [])}
-        font_metrics.add_references(metrics, font, {0x61: "a", 0x63: "c"}, stretches, {"a", "b"})
+        sources = SimpleNamespace(name=lambda shape: shape.glyph)
+        a, b, c = (Shape(0, name) for name in "abc")
+        stretches = {("v", a): Stretch([(b, 1), (c, 2)], [Part(c, True, 0, 0, 9)]), ("h", c): Stretch([(a, 3)], [])}
+        font_metrics.add_references(metrics, sources, {0x61: a, 0x63: c}, stretches, {a, b})
         self.assertEqual(metrics.stretches, {("v", "a"): Stretch([("b", 1)], [])})
         self.assertEqual([metrics.characters.get(code) for code in (0x61, 0x63, 0x2062)], ["a", None, "invisible"])
 
@@ -160,6 +171,98 @@ class Glyphs(unittest.TestCase):
         losses = font_metrics.Losses()
         self.assertEqual([losses.cut(value, (0, 9), "things") for value in (-1, 0, 9, 10)], [0, 0, 9, 9])
         self.assertEqual(losses.lines(), ["brought within 0 and 9: things (2)"])
+
+
+PLAIN = {".notdef": (500, None), "a": (500, (50, 0, 450, 448)), "odd": (300, (0, 500, 300, 560))}
+
+
+@needs_font_tools
+class StandIns(InFolder):
+    """What shows the characters that a font lacks."""
+
+    def made(self, *words):
+        status, written, errors = run(font_metrics, *words)
+        self.assertEqual(status, 0, errors)
+        lines = [line.split() for line in written.decode().splitlines()]
+        characters = {words[1]: words[2] for words in lines if words[0] == "char"}
+        glyphs = {words[1]: " ".join(words[2:]) for words in lines if words[0] == "glyph"}
+        return characters, glyphs, errors, written.decode()
+
+    def font(self, name, glyphs, characters, **more):
+        path = str(self.folder / name)
+        make_font(path, glyphs, characters, **more)
+        return path
+
+    def test_plain_letters_for_those_of_mathematics(self):
+        characters = self.made(self.font("a.ttf", PLAIN, {0x61: "a"}))[0]
+        self.assertEqual([characters.get(code) for code in ("1D44E", "1D41A", "1D44F")], ["a", "a", None])
+
+    def test_an_empty_sign_for_what_the_font_lacks_becomes_a_box(self):
+        self.assertEqual(self.made(self.font("a.ttf", PLAIN, {0x61: "a"}, upem=1000))[1]["missing"], "500 660 0 0")
+
+    def test_a_combining_mark_gets_room(self):
+        glyphs = PLAIN | {"over": (0, (-400, 600, -100, 640)), "wide": (0, (-700, 600, -100, 640))}
+        font = self.font("a.ttf", glyphs, {0x61: "a", 0x305: "over"}, accents={"over": -250},
+                         variants={("h", "over"): [("over", 300), ("wide", 600)]})
+        characters, measured, _, text = self.made(font)
+        self.assertEqual((characters["203E"], characters["0305"]), ("over.spaced", "over"))
+        # its ink begins at 0 and ends at its advance; the accent position moves with it
+        self.assertEqual(measured["over.spaced"], "300 640 -600 0 150")
+        self.assertIn("\nhvariant over.spaced over.spaced 300\nhvariant over.spaced wide.spaced 600\n", text)
+
+    def test_what_looks_the_same_goes_before_a_fallback_font_and_that_before_what_is_alike(self):
+        first = self.font("a.ttf", PLAIN, {0x61: "a", 0xB7: "odd"})
+        second = self.font("b.ttf", PLAIN, {0x1D44E: "a", 0x22C5: "odd", 0x62: "a"}, upem=2048, math=False)
+        characters, glyphs, errors, text = self.made(first, "--fallback", second)
+        self.assertEqual([characters[code] for code in ("0061", "1D44E", "22C5", "0062", "1D44F")],
+                         ["a", "fallback1.a", "odd", "fallback1.a", "fallback1.a"])
+        # 2,048 units an em become 1,024: half of all lengths
+        self.assertEqual(glyphs["fallback1.a"], "250 224 0 0")
+        self.assertIn("# fallback 1: Test Math Version 7\n", text)
+        self.assertIn("a fallback font shows (", errors)
+
+    def test_a_second_font_alone_has_no_table(self):
+        lone = self.font("b.ttf", PLAIN, {0x61: "a"}, math=False)
+        self.assert_refused(run(font_metrics, lone), "may fill in for another by --fallback")
+
+    def test_characters_that_a_formula_needs_are_told_with_their_element(self):
+        font = self.font("a.ttf", PLAIN, {0x61: "a"})
+        formula = self.file("f.mml", "<math>\n<mi>a</mi><mo>\u222e</mo><mphantom><mn>7</mn></mphantom><mo>\u222e</mo></math>")
+        errors = self.made(font, "--formula", formula)[2]
+        self.assertEqual(errors, f"font_metrics: {formula}:2:11: <mo> needs U+222E CONTOUR INTEGRAL, 2 times, which the metrics lack\n")
+
+    def test_every_line_of_the_table(self):
+        table = read_stand_ins()
+        self.assertEqual(table.poorer[0x1D465][-1], 0x78)
+        self.assertEqual(table.same[0x203E][0], 0xAF)
+        bad = self.file("t", "# head\n203E = 00AF\n203E is 00AF\n")
+        with self.assertRaisesRegex(Fault, "line 3 is none of the table"):
+            read_stand_ins(bad)
+
+
+@needs_font_tools
+class Parts(InFolder):
+    """Parts of assemblies whose stated length isn't that of their ink."""
+
+    def setUp(self):
+        super().setUp()
+        glyphs = GLYPHS | {"left": (400, (30, 100, 330, 140)), "line": (400, (0, 100, 400, 140))}
+        parts = {("v", "paren"): [("bot", False, 0, 200, 700), ("ext", True, 300, 300, 500)],
+                 ("h", "x"): [("left", False, 0, 90, 400), ("line", True, 90, 90, 400)]}
+        self.font = str(self.folder / "font.ttf")
+        make_font(self.font, glyphs, CHARACTERS, parts=parts)
+
+    def test_they_are_counted(self):
+        _, written, errors = run(font_metrics, self.font)
+        self.assertIn("3 of 4 parts of assemblies have a stated length that isn't their ink's, so what is built may have gaps", errors)
+        self.assertIn(b"\nvassembly paren bot FIX 0 200 700\n", written)
+
+    def test_they_are_measured(self):
+        _, written, errors = run(font_metrics, self.font, "--measure-parts")
+        self.assertIn("3 of 4 parts", errors)
+        for line in (b"vassembly paren bot FIX 0 200 600", b"vassembly paren ext EXT 300 300 400", b"hassembly x line EXT 90 90 400",
+                     b"hassembly x left.spaced FIX 0 90 300", b"glyph left.spaced 300 140 -100 0"):
+            self.assertIn(b"\n" + line + b"\n", written)
 
 
 class OperatorDictionary(unittest.TestCase):

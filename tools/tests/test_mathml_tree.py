@@ -45,12 +45,18 @@ class Trees(InFolder):
         text = ('<!DOCTYPE html><title>&lt;math&gt;</title><script>"<math>"</script><!-- <math> --><p>one<br>'
                 '<MATH Display=block xmlns="x"><mi>&ouml;<![CDATA[<b>]]></mi><mspace width="1px" /></MATH>'
                 '<p><m:math><m:mn dir>2</m:mn></m:math></p><math></math>')
-        self.assertEqual(self.tree(text), {"attributes": {"display": "block"}, "name": "math", "children": [
+        self.assertEqual(self.tree(text, "--number", "1"), {"attributes": {"display": "block"}, "name": "math", "children": [
             {"name": "mi", "text": "\u00f6<b>"}, {"attributes": {"width": "1px"}, "name": "mspace"}]})
         self.assertEqual(self.tree(text, "--number", "2"), {
             "name": "math", "children": [{"attributes": {"dir": ""}, "name": "mn", "text": "2"}]})
         self.assertEqual(self.tree(text, "--number", "3"), {"name": "math"})
         self.refused(text, "holds no formula 4: it has 3", "--number", "4")
+        self.refused(text, "ask for different things", "--number", "3", "--all")
+        status, written, errors = run(mathml_tree, self.file("f", text))
+        self.assertEqual((status, errors.count("\n")), (0, 1))
+        self.assertIn("holds 3 formulas, of which the first is taken", errors)
+        status, written, errors = run(mathml_tree, self.file("f", text), "--all")
+        self.assertEqual((status, errors, len(written.splitlines())), (0, "", 3))
 
     def test_html_inside_an_annotation(self):
         text = "<p><math><semantics><mn>1</mn><annotation-xml><p>a<br>b</p></annotation-xml></semantics></math>"

@@ -2,6 +2,7 @@
 
 import re
 import shlex
+import shutil
 import sys
 import unittest
 from xml.etree import ElementTree
@@ -152,12 +153,14 @@ class Pictures(InFolder):
         formula = b"<math><mi>&alpha;</mi></math>"
         for text in (formula, b"<p>one: " + formula + b", <math></math>", tree, b" \n" + tree):
             status, written, errors = run(picture, self.metrics, self.font, self.file("formula", text), "--program", program)
-            self.assertEqual((status, written.count(b"#g-one"), errors), (0, 1, ""))
+            self.assertEqual((status, written.count(b"#g-one")), (0, 1))
+            self.assertEqual(errors.count("holds 2 formulas"), text.count(b"one: "))
+            self.assertIn("<mi> needs U+1D6FC MATHEMATICAL ITALIC SMALL ALPHA, which the metrics lack: a box is drawn", errors)
             self.assertEqual((self.folder / "told").read_bytes(), text if text.strip() == tree.strip() else tree)
         for text, fault in (("<p>nothing", "holds no formula"), ("[]", "holds no formula"), ("", "holds no formula"),
                             ("<math>\n<mrow>x</mrow></math>", "formula:2:7: text inside <mrow>"), ("<math><mi>", "isn't XML")):
             self.assert_refused(run(picture, self.metrics, self.font, self.file("formula", text), "--program", program), fault)
-        self.assert_refused(run(picture, self.metrics, self.font, self.folder / "absent", "--program", program), "No such file")
+        self.assert_refused(run(picture, self.metrics, self.font, self.folder / "absent", "--program", program), "there is no such file")
 
     def test_lines_beside_the_picture(self):
         text = "box 1 math 0 0 1 1 1 1 1\nglyph 0 0 16384 one\n"
@@ -165,7 +168,7 @@ class Pictures(InFolder):
         self.draw(text, "--lines", lines)
         self.assertEqual(lines.read_text(), text)
         words = (self.metrics, self.font, self.tree)
-        for written, status, told in (("range\n", 8, "out of range"), ("hello\n", 0, "neither a box nor a mark")):
+        for written, status, told in (("range\n", 8, "can't be stored"), ("hello\n", 0, "neither a box nor a mark")):
             outcome = run(picture, *words, "--program", self.program(written, status), "--lines", lines)
             self.assert_refused(outcome, told)
         outcome = run(picture, "--html", *words, self.tree, "--program", self.program(text), "--lines", lines)
@@ -182,18 +185,78 @@ class Pictures(InFolder):
         self.assertEqual(set(re.findall(rb'id="([^"]*)"', written)), {b"f1-one", b"f2-one"})
         self.assert_refused(run(picture, self.metrics, self.font, self.tree, other, "--program", program), "say --html")
 
-    def test_missing_glyphs_are_told(self):
+    def test_characters_that_the_metrics_lack_are_told_with_their_element(self):
+        self.tree = self.file("tree.json", '{"name":"math","children":[{"name":"mi","text":"x"},{"name":"mn","text":"1"},'
+                                           '{"name":"mo","text":"1"},{"name":"mtext","text":"x x"}]}')
         program = self.program("box 1 math 0 0 1 1 1 1 1\nglyph 0 0 16384 missing\n")
-        status, written, errors = run(picture, self.metrics, self.font, self.tree, "--program", program)
+        metrics = self.file("f.metrics", METRICS + "char 0031 one\nchar 0020 one\n")
+        status, written, errors = run(picture, metrics, self.font, self.tree, "--program", program)
         self.assertEqual((status, b"#g-missing" in written), (0, True))
-        self.assertEqual(errors, f"picture: {self.tree}: glyphs of characters that the metrics don't name, drawn as `missing`: 1\n")
+        told = "which the metrics lack: a box is drawn; font_metrics.py --fallback FONT takes it from another font"
+        self.assertEqual(errors.splitlines(), [
+            f"picture: {self.tree}: element 2: <mi> needs U+1D465 MATHEMATICAL ITALIC SMALL X, {told}",
+            f"picture: {self.tree}: element 5: <mtext> needs U+0078 LATIN SMALL LETTER X, 2 times, {told}"])
+
+    def test_an_empty_sign_for_what_the_font_lacks_is_drawn_as_a_box(self):
+        make_font(self.font, GLYPHS | {".notdef": (512, None)}, {0x31: "one"})
+        svg = self.draw("box 1 math 0 0 100 0 0 0 0\nglyph 0 0 16384 missing\n")
+        [path] = svg.iter(f"{SVG}path")
+        # 60, 440 and 660 thousandths of 1,024, and a line of 40
+        self.assertEqual(path.get("d"), "M61 0H451V676H61ZM102 41V635H410V41Z")
+
+    def test_a_second_font_is_scaled_to_the_em_of_the_first(self):
+        second = str(self.folder / "second.ttf")
+        make_font(second, {".notdef": (512, None), "two": (500, (100, -20, 300, 400))}, {0x32: "two"}, upem=512, math=False)
+        program = self.program("box 1 math 0 0 100 0 0 0 0\nglyph 0 0 16384 fallback1.two\nglyph 9 0 16384 fallback1.two.spaced\n")
+        words = (self.metrics, self.font, self.tree, "--program", program)
+        svg = ElementTree.fromstring(run(picture, *words, "--fallback", second)[1])
+        paths = {path.get("id"): path.get("d") for path in svg.iter(f"{SVG}path")}
+        self.assertEqual(paths, {"g-fallback1.two": "M200 -40V800H600V-40Z", "g-fallback1.two.spaced": "M0 -40V800H400V-40Z"})
+        self.assert_refused(run(picture, *words), "the metrics were made with 1 more: name each")
+
+    def test_colours_and_enclosures(self):
+        self.tree = self.file("tree.json", '{"name":"math","children":[{"name":"mrow","attributes":{"mathcolor":"red"},"children":['
+                              '{"name":"mn"},{"name":"mn","attributes":{"mathcolor":"#00f","mathbackground":"rgb(1,2,3)"}}]},'
+                              '{"name":"mn","attributes":{"mathcolor":"url(x)"}},'
+                              '{"name":"menclose","attributes":{"notation":"box updiagonalstrike"}}]}')
+        svg = self.draw("box 1 math 0 0 90 9 9 9 9\nbox 2 mrow 0 0 9 9 9 9 9\nrule 1 1 1 1\nbox 3 mn 0 0 9 9 9 9 9\nglyph 0 0 16384 one\n"
+                        "box 4 mn 10 0 9 8 7 9 9\nglyph 0 0 16384 one\nbox 5 mn 20 0 9 9 9 9 9\nglyph 0 0 16384 one\n"
+                        "box 6 menclose 1000 0 9000 900 900 4000 2000\n")
+        self.assertEqual([use.get("fill") for use in svg.iter(f"{SVG}use")], ["red", "#00f", None])
+        behind, rule = svg.iter(f"{SVG}rect")
+        self.assertEqual([behind.get(name) for name in ("x", "y", "width", "height", "fill")], ["10", "-8", "9", "15", "rgb(1,2,3)"])
+        self.assertEqual(rule.get("fill"), "red")
+        lines = [path.get("d") for path in svg.iter(f"{SVG}path") if path.get("class") == "enclosure"]
+        self.assertEqual(lines, ["M1410 -3590H9590V1590H1410Z", "M1410 1590L9590 -3590"])
+
+    def test_all_formulas_of_a_page_get_files_of_their_own(self):
+        page = self.file("page.html", "<p><math><mn>1</mn></math> and <math><mn>1</mn></math>")
+        metrics = self.file("f.metrics", METRICS + "char 0031 one\n")
+        program = self.program("box 1 math 0 0 100 0 0 0 0\nglyph 0 0 16384 one\n")
+        words = (metrics, self.font, page, "--program", program, "--all")
+        status, written, errors = run(picture, *words, "-o", self.folder / "out.svg")
+        self.assertEqual((status, written, errors), (0, b"", "picture: wrote out-1.svg to out-2.svg\n"))
+        self.assertEqual((self.folder / "out-1.svg").read_bytes(), (self.folder / "out-2.svg").read_bytes())
+        self.assert_refused(run(picture, *words), "several pictures need names")
+        status, written, errors = run(picture, *words[:-1], "--number", "2")
+        self.assertEqual((status, errors), (0, ""))
+
+    @unittest.skipUnless(shutil.which("rsvg-convert"), "rsvg-convert is missing: Debian's librsvg2-bin has it")
+    def test_png_and_pdf(self):
+        program = self.program("box 1 math 0 0 8192 9000 0 0 0\nglyph 0 0 16384 one\n")
+        for name, start in (("out.png", b"\x89PNG"), ("out.pdf", b"%PDF")):
+            words = (self.metrics, self.font, self.tree, "--program", program)
+            self.assertEqual(run(picture, *words, "-o", self.folder / name), (0, b"", ""))
+            self.assertTrue((self.folder / name).read_bytes().startswith(start))
+            status, written, _ = run(picture, *words, "--format", name[-3:])
+            self.assertTrue(written.startswith(start))
 
     def test_refusals_of_the_program(self):
         target = self.folder / "out.svg"
-        for text, status, told in (("tree 2 4\n", 4, "status 4, it refuses the tree: tree 2 4"),
-                                   ("metrics 3 9\n", 3, "it refuses the metrics: metrics 3 9"),
-                                   ("", 7, "it had no memory: it wrote nothing"), ("range\n", 8, "the layout is out of range"),
-                                   ("", 1, "none of its refusals"), ("hello\n", 0, "neither a box nor a mark: hello")):
+        for text, status, told in (("tree 2 4\n", 4, "element 2: it has a key other than the four; right would be the keys"),
+                                   ("metrics 3 9\n", 3, "f.metrics, line 3: something that is given once was given before: `line 900"),
+                                   ("", 7, "memory was refused (status 7)"), ("range\n", 8, "can't be stored"),
+                                   ("", 1, "which is none of mathlay's"), ("hello\n", 0, "neither a box nor a mark: hello")):
             outcome = run(picture, self.metrics, self.font, self.tree, "--program", self.program(text, status), "-o", target)
             self.assert_refused(outcome, told)
         self.assertFalse(target.exists())

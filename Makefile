@@ -1,0 +1,43 @@
+# Installs the built program, the tools and the manual page:
+#
+#     make install PREFIX=$HOME/.local
+#
+# The program is built and proved by `rt run` in crates/mathlay. What is proved and tested, `rt ci` and tools/quick.py say.
+
+PREFIX = /usr/local
+BIN = $(DESTDIR)$(PREFIX)/bin
+SHARE = $(DESTDIR)$(PREFIX)/share/mathlay
+MAN = $(DESTDIR)$(PREFIX)/share/man/man1
+PROGRAM = crates/mathlay/out/mathlay
+TOOLS = page formula picture font_metrics mathml_tree explain
+
+help:
+	@echo 'make install PREFIX=FOLDER    the program, the tools and the manual page (PREFIX is $(PREFIX))'
+	@echo 'make uninstall PREFIX=FOLDER  removes them'
+	@echo 'make test                     the tests of the tools'
+
+$(PROGRAM):
+	@echo '$(PROGRAM) is not there: README.md says how `rt run` builds it' >&2
+	@exit 1
+
+install: $(PROGRAM)
+	mkdir -p $(BIN) $(MAN) $(SHARE)/tools/companion $(SHARE)/docs $(SHARE)/samples
+	install -m 755 $(PROGRAM) $(BIN)/mathlay
+	install -m 644 docs/mathlay.1 $(MAN)/mathlay.1
+	install -m 644 VERSION LICENSE-MIT LICENSE-APACHE $(SHARE)
+	install -m 644 docs/FORMATS.md docs/TOOLS.md docs/MATHML.md docs/DIFFERENCES.md $(SHARE)/docs
+	install -m 644 samples/latin-modern-math.metrics samples/README.md samples/*.mml samples/*.html $(SHARE)/samples
+	install -m 644 tools/operators.txt tools/stand_ins.txt $(TOOLS:%=tools/%.py) $(SHARE)/tools
+	install -m 644 tools/companion/*.py $(SHARE)/tools/companion
+	for tool in $(TOOLS); do \
+	    sed "s|@TOOL@|$$tool.py|" tools/installed.sh > $(BIN)/mathlay-$$tool && chmod 755 $(BIN)/mathlay-$$tool || exit 1; \
+	done
+
+uninstall:
+	rm -f $(BIN)/mathlay $(TOOLS:%=$(BIN)/mathlay-%) $(MAN)/mathlay.1
+	rm -rf $(SHARE)
+
+test:
+	cd tools && python3 -B -m tests
+
+.PHONY: help install uninstall test
