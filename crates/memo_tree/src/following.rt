@@ -6,13 +6,14 @@ ghost use Rattle.kept_edits.specs.declared.change.MemoChange.{MemoChange as Chan
 ghost use Rattle.memo_tree.specs.Followed.{HasPlace, IsBefore, IsFollowed, IsOfElement, IsOfPlace, IsOfWay};
 ghost use Rattle.memo_tree.specs.Rooms.{HasRoom};
 
+use crate::notes::Notes;
 use crate::way::{Place, Way};
 use fixed_units::{List, Memory, Room};
 use kept_edits::{MemoChange, Renewal, blank, change_memo, known_on};
 use kept_results::Memo;
 use math_tree::Node;
 use std::alloc::Global;
-use tree_edits::{Parents, element_at};
+use tree_edits::element_at;
 
 /// Changes memos as an edit changed their tree, of which this is the root by now, and answers the
 /// change that takes this back. What the edit put in is noted.
@@ -20,7 +21,7 @@ pub fn follow(
     alloc: Global,
     root: &Node,
     memo: &mut Memo,
-    parents: &mut Parents,
+    notes: &mut Notes,
     way: &Way,
 ) -> Result<MemoChange, Memory>
     requires before { IsBefore root.now memo.old way.now }
@@ -31,7 +32,7 @@ pub fn follow(
         change,
         known,
         room,
-    } = prepare(alloc, root, memo, parents, way)?;
+    } = prepare(alloc, root, memo, notes, way)?;
     let taken = change_memo(memo, way.path.as_slice(), known.as_slice(), change);
     Ok(back_of(&way.place, taken, room))
 }
@@ -50,7 +51,7 @@ fn prepare(
     alloc: Global,
     root: &Node,
     memo: &Memo,
-    parents: &mut Parents,
+    notes: &mut Notes,
     way: &Way,
 ) -> Result<Prepared, Memory>
     requires { IsBefore root.now memo.now way.now }
@@ -60,7 +61,7 @@ fn prepare(
 {
     let path = way.path.as_slice();
     let element = element_at(root, path);
-    note_new(root, parents, element, &way.place)?;
+    note_new(root, notes, element, &way.place)?;
     let change = memo_change(alloc, element, &way.place)?;
     let known = known_on(alloc, root, memo, path, &change)?;
     let room = Room::make(alloc, element.children.as_slice().len() + 2)?;
@@ -72,13 +73,13 @@ fn prepare(
 }
 
 /// Notes what was put in among the children of an element.
-fn note_new(root: &Node, parents: &mut Parents, element: &Node, place: &Place) -> Result<(), Memory>
+fn note_new(root: &Node, notes: &mut Notes, element: &Node, place: &Place) -> Result<(), Memory>
     requires { HasPlace place.now element.now }
 {
     match place {
         Place::Put(index) | Place::Swap(index) => {
             let child = &element.children.as_slice()[*index];
-            parents.note(root, element.head.id, child)
+            notes.note(root, element.head.id, child)
         }
         Place::Stay | Place::Take(_) => Ok(()),
     }

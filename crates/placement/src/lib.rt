@@ -10,7 +10,9 @@
 //! - Change where something stands: `specs/Placing.antt`, then `src/placing.rt`.
 #![tactic(auto)]
 
+mod kept; // place_kept
 pub mod laws; // what holds of all that is placed
 mod placing; // place
 
+pub use kept::place_kept;
 pub use placing::place;
