@@ -10,7 +10,7 @@ use Rattle.layout_model.specs.declared.laid.Laid.TheViews.{out-Laid, out-roll-La
 use Rattle.layout_model.specs.declared.outcome.Offset.{Offset}
 use Rattle.box_writer.specs.Items.{box_of}
 use Rattle.box_writer.specs.declared.placed.PlacedItem.{PlacedItem}
-use Rattle.placement.specs.Placing.{Shown, element_at, is_silent, kids_at, marks_at, placed, shown}
+use Rattle.placement.specs.Placing.{Shown, is_silent, kids_at, marks_at, placed, shown}
 
 -- an element's own layer decides
 abbrev pub layer_at : Laid-F Laid → Shown

@@ -1,4 +1,4 @@
-use Rattle.std.proofs.Common.{◌≡◌, ◌∙◌, refl, sym, ap, subst, arith, ◌+◌, ◌<◌, [], ◌∷◌, ◌++◌, length, map, get_or, Ok, Err, Result, OnOk, w64, to_z, of_z, ℤ, pos, ◌+ℤ◌, List}
+use Rattle.std.proofs.Common.{◌≡◌, ◌∙◌, refl, sym, ap, subst, arith, ◌<◌, [], ◌∷◌, ◌++◌, length, map, get_or, Ok, Err, Result, OnOk, w64, to_z, of_z, ℤ, pos, ◌+ℤ◌, List}
 use Rattle.std.proofs.lemmas.Bool.{eqb-true}
 use Rattle.std.proofs.lemmas.List.{length-map}
 use Rattle.std.specs.List.{list_all}
