@@ -17,9 +17,10 @@ use crate::SessionRefusal;
 use box_writer::Placed;
 use fixed_units::{LayRefusal, MathBox, Memory, Steps};
 use font_metrics::Metrics;
+use kept_laid::KeptLayout;
 use math_tree::Tree;
 use memo_tree::MemoTree;
-use placement::place;
+use placement::place_kept;
 use std::alloc::Global;
 use std::marker::Model;
 use std::sync::ledger::Ledger;
@@ -166,11 +167,16 @@ impl Session {
         ensures page { IfOk result (λ items. items ≡ page self.now.held) }
         ensures glyphs { IfOk result (All (IsOfFont self.now.held.metrics)) }
     {
-        let laid = self.layouts.laid(alloc)?;
-        // What placing needs to know of the tree: the calls do nothing.
-        let _root = self.layouts.tree().root();
-        self.layouts.metrics().is_taken();
-        place(alloc, &laid)
+        let context = self.layouts.context();
+        let root = KeptLayout {
+            node: self.layouts.tree().root(),
+            memo: self.layouts.memo(),
+            context: &context,
+        };
+        let metrics = self.layouts.metrics();
+        // What placing needs to know of the metrics: the call does nothing.
+        metrics.is_taken();
+        place_kept(alloc, &root, metrics)
     }
 
     /// The metrics of the font, as the session was started with them.

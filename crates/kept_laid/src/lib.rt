@@ -1,11 +1,12 @@
-//! What is read off kept layouts: the layout of a tree, the answer of an element, and how many
-//! entries there are.
+//! What is read off kept layouts: the layout of a tree, the children that an element asked, the
+//! answer of an element, and how many entries there are.
 //!
 //! Nothing is laid out here, and no step is taken: all that these calls give stands in entries.
 //!
 //! - Models: this project's own; MathML Core says nothing of it.
-//! - Proved: what is read is what a fresh layout gives, with any metrics with which the memo agrees;
-//!   where only what is needed is kept, there are at most twice as many entries as elements (`laws`).
+//! - Proved: what is read is what a fresh layout gives, with any metrics with which the memo
+//!   agrees; where only what is needed is kept, there are at most twice as many entries as elements
+//!   (`laws`).
 //! - Knows nothing of: how entries are made, and when they are dropped.
 //! - Change what a kept layout is: `kept_results`.
 #![tactic(auto)]

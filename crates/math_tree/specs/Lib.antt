@@ -2,6 +2,7 @@ pub mod Kinds
 pub mod Forms
 pub mod Attributes
 pub mod Elements
+pub mod Keys
 pub mod Faults
 pub mod Trees
 pub mod Reading

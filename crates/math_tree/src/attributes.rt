@@ -5,8 +5,9 @@ ghost use Rattle.std.specs.Ordering.{nat_cmp};
 ghost use Rattle.serde_json.specs.View.{view, members_view};
 ghost use Rattle.math_tree.specs.Attributes.{IsInOrder, value_of, put, without};
 ghost use Rattle.math_tree.specs.Elements.{attributes_held, attributes_of};
+ghost use Rattle.math_tree.specs.Keys.{IsSaid};
 
-use crate::element::{attributes_in, text_or_empty};
+use crate::element::{Keys, attributes_in, text_or_empty};
 use fixed_units::{List, Memory, Room, Txt};
 use serde_json::{Map, Value};
 use std::alloc::Global;
@@ -79,10 +80,12 @@ impl Attributes {
 
     /// The attributes that a JSON value says of an element.
     #[tactic(auto, using(crate::proofs::Members::none_in_order), unfolding(crate::specs::Elements::attributes_held))]
-    pub(crate) fn of_value(alloc: Global, value: &Value) -> Result<Attributes, Memory>
-        ensures { IfOk result (λ attributes. attributes ≡ attributes_held (view value.now)) }
+    pub(crate) fn of_keys(alloc: Global, keys: &Keys) -> Result<Attributes, Memory>
+        requires said { IsSaid keys.now }
+        ensures { IfOk result
+            (λ attributes. attributes ≡ attributes_held (view keys.now.value.now)) }
     {
-        match attributes_in(value) {
+        match attributes_in(keys) {
             Some(members) => Attributes::of_members(alloc, members),
             None => Ok(Attributes::make(alloc)),
         }

@@ -5,8 +5,9 @@ ghost use Rattle.math_tree.specs.Elements.{is_element_key, has_known_keys, has_a
 ghost use Rattle.math_tree.specs.Elements.{are_attributes, is_map_of_attributes, is_attribute};
 ghost use Rattle.math_tree.specs.Elements.{is_right_to_left, has_text, has_children};
 ghost use Rattle.math_tree.specs.Faults.{fault_of, is_misplaced};
+ghost use Rattle.math_tree.specs.Keys.{IsSaid};
 
-use crate::element::{children_in, kind_in, name_in, text_in};
+use crate::element::Keys;
 use crate::fault::ElementFault;
 use crate::forms::{
     MOST_BYTES, MOST_ELEMENTS, MOST_LEVELS, is_name, is_rtl, is_short_enough, is_white_space,
@@ -19,33 +20,34 @@ use serde_json::{Map, Value};
 #[tactic(auto, unfolding(crate::specs::Faults::fault_of))]
 pub fn fault_of(
     portion: Portion,
-    value: &Value,
+    keys: &Keys,
     level: u32,
     place: u32,
     bytes: u64,
 ) -> Option<ElementFault>
+    requires said { IsSaid keys.now }
     ensures { result
-        ≡ fault_of portion place bytes (record { level = level; value = view value.now }) }
+        ≡ fault_of portion place bytes (record { level = level; value = view keys.now.value.now }) }
 {
     if level > MOST_LEVELS {
         Some(ElementFault::TooDeep)
     } else if place > MOST_ELEMENTS {
         Some(ElementFault::TooMany)
-    } else if !value.is_object() {
+    } else if !keys.value.is_object() {
         Some(ElementFault::NotAnObject)
-    } else if !has_known_keys(value) {
+    } else if !has_known_keys(keys.value) {
         Some(ElementFault::UnknownKey)
-    } else if !is_name(name_in(value)) {
+    } else if !is_name(keys.name) {
         Some(ElementFault::BadName)
-    } else if is_misplaced(portion, place, name_in(value)) {
+    } else if is_misplaced(portion, place, keys.name) {
         Some(ElementFault::NotMath)
-    } else if !has_attributes(value) {
+    } else if !has_attributes(keys) {
         Some(ElementFault::BadAttributes)
-    } else if is_right_to_left(value) {
+    } else if is_right_to_left(keys) {
         Some(ElementFault::RightToLeft)
-    } else if !has_text(value) {
+    } else if !has_text(keys) {
         Some(ElementFault::BadText)
-    } else if !has_children(value) {
+    } else if !has_children(keys) {
         Some(ElementFault::BadChildren)
     } else if bytes > MOST_BYTES {
         Some(ElementFault::TooLong)
@@ -80,10 +82,11 @@ fn is_known(key: &str) -> bool
 
 /// Whether `attributes`, if there are any, are an object of texts under names.
 #[tactic(auto, unfolding(crate::specs::Elements::has_attributes))]
-fn has_attributes(value: &Value) -> bool
-    ensures { result ≡ has_attributes (view value.now) }
+fn has_attributes(keys: &Keys) -> bool
+    requires said { IsSaid keys.now }
+    ensures { result ≡ has_attributes (view keys.now.value.now) }
 {
-    match value.get("attributes") {
+    match keys.attributes {
         Some(Value::Object(members)) => are_attributes(members),
         Some(_) => false,
         None => true,
@@ -107,34 +110,36 @@ fn is_attribute(name: &str, value: &Value) -> bool
 
 /// Whether the attribute `dir` is `rtl`.
 #[tactic(auto, unfolding(crate::specs::Elements::is_right_to_left))]
-fn is_right_to_left(value: &Value) -> bool
-    ensures { result ≡ is_right_to_left (view value.now) }
+fn is_right_to_left(keys: &Keys) -> bool
+    requires said { IsSaid keys.now }
+    ensures { result ≡ is_right_to_left (view keys.now.value.now) }
 {
-    let attributes = value.get("attributes");
-    let direction = attributes.and_then(|attributes| attributes.get("dir"));
+    let direction = keys.attributes.and_then(|attributes| attributes.get("dir"));
     direction.and_then(Value::as_str).is_some_and(is_rtl)
 }
 
 /// Whether `text` is a text that isn't too long, and on an element that isn't a text element white
 /// space alone.
 #[tactic(auto, unfolding(crate::specs::Elements::has_text))]
-fn has_text(value: &Value) -> bool
-    ensures { result ≡ has_text (view value.now) }
+fn has_text(keys: &Keys) -> bool
+    requires said { IsSaid keys.now }
+    ensures { result ≡ has_text (view keys.now.value.now) }
 {
-    match text_in(value) {
-        Some(text) => is_short_enough(text) && (kind_in(value).is_text() || is_white_space(text)),
+    match keys.text {
+        Some(text) => is_short_enough(text) && (keys.kind.is_text() || is_white_space(text)),
         None => false,
     }
 }
 
 /// Whether `children` are an array, and on a text element an empty one.
 #[tactic(auto, using(crate::proofs::Items::some_below), unfolding(crate::specs::Elements::has_children))]
-fn has_children(value: &Value) -> bool
-    ensures { result ≡ has_children (view value.now) }
+fn has_children(keys: &Keys) -> bool
+    requires said { IsSaid keys.now }
+    ensures { result ≡ has_children (view keys.now.value.now) }
 {
-    match children_in(value) {
+    match keys.children {
         Some([]) => true,
-        Some(_) => !kind_in(value).is_text(),
+        Some(_) => !keys.kind.is_text(),
         None => false,
     }
 }

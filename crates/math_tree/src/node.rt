@@ -1,11 +1,11 @@
 ghost use Rattle.std.specs.Prelude.{◌≡◌, IfOk};
 ghost use Rattle.serde_json.specs.View.{view};
+ghost use Rattle.math_tree.specs.Keys.{IsSaid};
 ghost use Rattle.math_tree.specs.Reading.{head_of};
 
-use crate::element::{kind_in, name_in, text_held};
+use crate::element::{Keys, text_held};
 use crate::{Attributes, Kind};
 use fixed_units::{List, Memory, Txt};
-use serde_json::Value;
 use std::alloc::Global;
 
 /// An element with its children, in document order.
@@ -36,15 +36,16 @@ pub struct NodeId(pub u32);
 
 impl Head {
     /// What a JSON value says of an element, under this id.
-    pub(crate) fn of_value(alloc: Global, id: NodeId, value: &Value) -> Result<Head, Memory>
-        ensures { IfOk result (λ head. head ≡ head_of id.0 (view value.now)) }
+    pub(crate) fn of_keys(alloc: Global, id: NodeId, keys: &Keys) -> Result<Head, Memory>
+        requires said { IsSaid keys.now }
+        ensures { IfOk result (λ head. head ≡ head_of id.0 (view keys.now.value.now)) }
     {
         Ok(Head {
             id,
-            name: Txt::make(alloc, name_in(value))?,
-            kind: kind_in(value),
-            attributes: Attributes::of_value(alloc, value)?,
-            text: Txt::make(alloc, text_held(value))?,
+            name: Txt::make(alloc, keys.name)?,
+            kind: keys.kind,
+            attributes: Attributes::of_keys(alloc, keys)?,
+            text: Txt::make(alloc, text_held(keys))?,
         })
     }
 

@@ -6,7 +6,7 @@ ghost use Rattle.math_tree.specs.Reading.{Reads, part_of, tree_of};
 ghost use Rattle.math_tree.specs.Trees.{IsPart};
 
 use crate::check::fault_of;
-use crate::element::{below, bytes_held};
+use crate::element::{Keys, below, bytes_held};
 use crate::portion::Portion;
 use crate::{Head, Node, NodeId, Tree, TreeFault, TreeRefusal};
 use fixed_units::List;
@@ -66,16 +66,17 @@ fn read_element(
     requires bytes { seen.old.bytes ≤ most_bytes }
     ensures { ReadsElement portion level (view value.now) seen.old seen.new result }
 {
+    let keys = Keys::of(value);
     seen.elements += 1;
-    seen.bytes = seen.bytes.saturating_add(bytes_held(value));
-    if let Some(fault) = fault_of(portion, value, level, seen.elements, seen.bytes) {
+    seen.bytes = seen.bytes.saturating_add(bytes_held(&keys));
+    if let Some(fault) = fault_of(portion, &keys, level, seen.elements, seen.bytes) {
         return Err(TreeRefusal::Fault(TreeFault {
             element: seen.elements,
             kind: fault.number(),
         }));
     }
-    let head = Head::of_value(alloc, NodeId(seen.elements), value)?;
-    let children = read_elements(alloc, portion, below(value), level + 1, seen)?;
+    let head = Head::of_keys(alloc, NodeId(seen.elements), &keys)?;
+    let children = read_elements(alloc, portion, below(&keys), level + 1, seen)?;
     Ok(Node { head, children })
 }
 

@@ -4,6 +4,7 @@ ghost use Rattle.kept_edits.specs.Known.{IsKnownOn};
 ghost use Rattle.memo_tree.specs.Followed.{HasPlace, IsBefore, IsFollowed, IsOfElement, IsOfWay};
 ghost use Rattle.memo_tree.specs.Rooms.{HasRoom};
 
+use crate::notes::Notes;
 use crate::way::Way;
 use fixed_units::{List, Memory, Room};
 use kept_edits::{Renewal, blank, change_memo, known_on};
@@ -11,7 +12,7 @@ use kept_results::Memo;
 use math_tree::Node;
 use splices::{Site, Splice};
 use std::alloc::Global;
-use tree_edits::{Parents, element_at};
+use tree_edits::element_at;
 
 /// Changes memos as an edit changed their tree, of which this is the root by now, and answers the
 /// splice that takes this back. What the edit put in is noted.
@@ -19,7 +20,7 @@ pub fn follow(
     alloc: Global,
     root: &Node,
     memo: &mut Memo,
-    parents: &mut Parents,
+    notes: &mut Notes,
     way: &Way,
 ) -> Result<Splice<Memo>, Memory>
     requires before { IsBefore root.now memo.old way.now }
@@ -31,7 +32,7 @@ pub fn follow(
         splice,
         known,
         room,
-    } = prepare(alloc, root, memo, parents, way)?;
+    } = prepare(alloc, root, memo, notes, way)?;
     let taken = change_memo(memo, way.path.as_slice(), known.as_slice(), splice);
     Ok(way.site.inverse(taken, room))
 }
@@ -50,7 +51,7 @@ fn prepare(
     alloc: Global,
     root: &Node,
     memo: &Memo,
-    parents: &mut Parents,
+    notes: &mut Notes,
     way: &Way,
 ) -> Result<Prepared, Memory>
     requires { IsBefore root.now memo.now way.now }
@@ -60,7 +61,7 @@ fn prepare(
 {
     let path = way.path.as_slice();
     let element = element_at(root, path);
-    note_new(root, parents, element, way.site)?;
+    note_new(root, notes, element, way.site)?;
     let splice = memo_splice(alloc, element, way.site)?;
     let known = known_on(alloc, root, memo, path, &splice)?;
     let room = Room::make(alloc, element.children.as_slice().len() + 2)?;
@@ -72,13 +73,13 @@ fn prepare(
 }
 
 /// Notes what was put in among the children of an element.
-fn note_new(root: &Node, parents: &mut Parents, element: &Node, site: Site) -> Result<(), Memory>
+fn note_new(root: &Node, notes: &mut Notes, element: &Node, site: Site) -> Result<(), Memory>
     requires { HasPlace site element.now }
 {
     match site {
         Site::Put(index) | Site::Swap(index) => {
             let child = &element.children.as_slice()[index];
-            parents.note(root, element.head.id, child)
+            notes.note(root, element.head.id, child)
         }
         Site::Stay | Site::Take(_) => Ok(()),
     }

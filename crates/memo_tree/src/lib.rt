@@ -20,6 +20,7 @@
 
 mod following; // memos after an edit
 pub mod laws; // of the definitions
+mod notes; // which element stands over which
 mod reversal; // Reversal
 mod root; // the context of a tree's root
 mod tree; // MemoTree

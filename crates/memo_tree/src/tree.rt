@@ -16,6 +16,7 @@ ghost use Rattle.memo_tree.specs.States.{Changed, IsIn, Passed, Sealed, Stopped}
 ghost use Rattle.memo_tree.specs.Trees.{context_of, root_box};
 
 use crate::following::follow;
+use crate::notes::Notes;
 use crate::reversal::Reversal;
 use crate::root::context_of;
 use crate::way::way_along;
@@ -25,12 +26,12 @@ use kept_edits::blank;
 use kept_laid::{box_of, count, count_or_most, laid_of, root_box};
 use kept_results::{Memo, relay_element, seal, undo_pass};
 use kept_sweep::{start_layout, sweep_layouts};
-use layout_model::Laid;
+use layout_model::{Context, Laid};
 use math_tree::{Node, NodeId, Tree};
 use std::alloc::Global;
 use std::marker::Model;
 use std::sync::ledger::Ledger;
-use tree_edits::{Edit, EditRefusal, Parents, apply_at, restore};
+use tree_edits::{Edit, EditRefusal, apply_at, restore};
 
 /// A tree with the layouts that are kept of it and of its elements, and the metrics of their font.
 ///
@@ -41,8 +42,10 @@ pub struct MemoTree {
     tree: Tree,
     metrics: Metrics,
     memo: Memo,
+    /// Whether exactly the layouts are kept that the one of the tree needs, so that a sweep drops nothing.
+    swept: bool,
     /// It finds elements, and no contract of this type speaks of it.
-    parents: Parents,
+    notes: Notes,
 }
 
 impl Model for MemoTree {
@@ -55,11 +58,11 @@ impl Model for MemoTree {
 
     ghost coded = { Prim.hlevel (codes, node.the_row.coded, kept.the_row.coded) };
 
-    ghost use Rattle.math_tree.specs.Trees.{IsWhole};
+    ghost use Rattle.memo_tree.specs.Trees.{IsHeld};
 
     ghost view = { λ laid. record { tree = laid.tree; metrics = laid.metrics; memo = laid.memo } };
 
-    ghost invariant = { λ laid. IsWhole laid.tree };
+    ghost invariant = { λ laid. IsHeld (record { tree = laid.tree; metrics = laid.metrics; memo = laid.memo }) laid.swept };
 }
 
 impl MemoTree {
@@ -70,12 +73,13 @@ impl MemoTree {
         ensures memo { IfOk result (λ laid. laid.memo ≡ blank tree.root) }
         ensures changed { IfOk result (IsIn Changed) }
     {
-        match unlaid(alloc, tree.root()) {
-            Ok((memo, parents)) => Ok(MemoTree {
+        match blank(alloc, tree.root()) {
+            Ok(memo) => Ok(MemoTree {
                 tree,
                 metrics,
                 memo,
-                parents,
+                swept: false,
+                notes: Notes::none(),
             }),
             Err(refusal) => {
                 // Told, so that what is let go of isn't proved through all its parts here.
@@ -105,11 +109,12 @@ impl MemoTree {
         ensures range { result ≡ Err Range → is_tree_in_range metrics tree ≡ false }
     {
         match laid_out(alloc, &tree, &metrics, steps) {
-            Ok((memo, parents)) => Ok(MemoTree {
+            Ok(memo) => Ok(MemoTree {
                 tree,
                 metrics,
                 memo,
-                parents,
+                swept: true,
+                notes: Notes::none(),
             }),
             Err(refusal) => {
                 // Told, so that what is let go of isn't proved through all its parts here.
@@ -138,7 +143,8 @@ impl MemoTree {
         ensures refused { IfErr result (IsReason self.old.tree edit) }
         ensures unchanged { OnErr result (self.new ≡ self.old) }
     {
-        let path = self.parents.find(&self.tree, edit.named());
+        self.swept = false;
+        let path = self.notes.find(alloc, &self.tree, edit.named())?;
         let found = way_along(&self.tree, &path, &edit);
         let taken = apply_at(alloc, &mut self.tree, path, edit)?;
         let Some(way) = found else {
@@ -148,7 +154,7 @@ impl MemoTree {
             alloc,
             self.tree.root(),
             &mut self.memo,
-            &mut self.parents,
+            &mut self.notes,
             &way,
         ) {
             Ok(back) => Ok(Reversal::of(taken, way.path, back)),
@@ -165,6 +171,7 @@ impl MemoTree {
         requires fits { CanReverse reversal self.old }
         ensures { self.new ≡ reversed reversal self.old }
     {
+        self.swept = false;
         reversal.take_back(&mut self.tree, &mut self.memo);
     }
 
@@ -188,6 +195,7 @@ impl MemoTree {
         ensures fit { OnOk result (is_tree_in_range self.old.metrics self.old.tree ≡ true) }
         ensures range { result ≡ Err Range → is_tree_in_range self.old.metrics self.old.tree ≡ false }
     {
+        self.swept = false;
         let context = context_of(&self.tree, &self.metrics);
         relay_element(
             alloc,
@@ -208,6 +216,7 @@ impl MemoTree {
         ensures memo { self.new.memo ≡ stripped self.old.memo }
         ensures changed { IsIn Changed self.new }
     {
+        self.swept = false;
         undo_pass(&mut self.memo);
     }
 
@@ -221,6 +230,7 @@ impl MemoTree {
         ensures sealed { IsIn Sealed self.new }
         ensures made { result ≡ min (fresh_count self.old.memo) (2 ^ 64 - 1) }
     {
+        self.swept = false;
         seal(&mut self.memo)
     }
 
@@ -236,9 +246,26 @@ impl MemoTree {
         ensures count { result ≡ kept_count self.new.memo }
         ensures few { result ≤ 131_072 }
     {
-        let context = context_of(&self.tree, &self.metrics);
-        sweep_layouts(self.tree.root(), &mut self.memo, &context, &self.metrics);
+        self.drop_needless();
         count(&self.memo)
+    }
+
+    /// The same, without the count. Where exactly the needed layouts are kept already, it goes over none.
+    fn drop_needless(&mut self)
+        requires sealed { IsIn Sealed self.old }
+        ensures tree { self.new.tree ≡ self.old.tree }
+        ensures metrics { self.new.metrics ≡ self.old.metrics }
+        ensures sealed { IsIn Sealed self.new }
+        ensures kept { KeepsNeeded self.old.metrics self.old.tree.root (context_of self.old.metrics self.old.tree) self.new.memo }
+        ensures part { IsPartOf self.new.memo self.old.memo }
+        ensures few { kept_count self.new.memo ≤ 131_072 }
+    {
+        let context = context_of(&self.tree, &self.metrics);
+        if self.swept {
+            return;
+        }
+        sweep_layouts(self.tree.root(), &mut self.memo, &context, &self.metrics);
+        self.swept = true;
     }
 
     /// The layout of the tree with all elements in flow, read off what is kept.
@@ -276,6 +303,20 @@ impl MemoTree {
         count_or_most(&self.memo)
     }
 
+    /// The context in which the root is laid out.
+    pub fn context(&self) -> Context
+        ensures { result ≡ context_of self.now.metrics self.now.tree }
+    {
+        context_of(&self.tree, &self.metrics)
+    }
+
+    /// What is kept of the tree.
+    pub fn memo(&self) -> &Memo
+        ensures { result.now ≡ self.now.memo }
+    {
+        &self.memo
+    }
+
     /// The tree.
     pub fn tree(&self) -> &Tree
         ensures { result.now ≡ self.now.tree }
@@ -291,31 +332,20 @@ impl MemoTree {
     }
 }
 
-/// What is kept of a tree that was never laid out, and notes of its elements.
-fn unlaid(alloc: Global, root: &Node) -> Result<(Memo, Parents), Memory>
-    ensures { IfOk result (λ made. made.0 ≡ blank root.now) }
-{
-    let memo = blank(alloc, root)?;
-    let parents = Parents::make(alloc, root)?;
-    Ok((memo, parents))
-}
-
-/// The layouts that the one of a tree needs, and notes of its elements.
+/// The layouts that the one of a tree needs.
 fn laid_out<L: Ledger>(
     alloc: Global,
     tree: &Tree,
     metrics: &Metrics,
     steps: &mut Steps<L>,
-) -> Result<(Memo, Parents), LayRefusal>
-    ensures kept { IfOk result (λ made. KeepsNeeded metrics.now tree.now.root (context_of metrics.now tree.now) made.0) }
+) -> Result<Memo, LayRefusal>
+    ensures kept { IfOk result (KeepsNeeded metrics.now tree.now.root (context_of metrics.now tree.now)) }
     ensures steps { CountsNeeded metrics.now tree.now.root (context_of metrics.now tree.now) steps.old steps.new }
     ensures visits { TakesVisits metrics.now tree.now steps.old steps.new }
-    ensures all { IfOk result (λ made. steps.new ≡ steps.old + kept_count made.0) }
+    ensures all { IfOk result (λ memo. steps.new ≡ steps.old + kept_count memo) }
     ensures fit { OnOk result (is_tree_in_range metrics.now tree.now ≡ true) }
     ensures range { result ≡ Err Range → is_tree_in_range metrics.now tree.now ≡ false }
 {
     let context = context_of(tree, metrics);
-    let memo = start_layout(alloc, tree.root(), &context, metrics, steps)?;
-    let parents = Parents::make(alloc, tree.root())?;
-    Ok((memo, parents))
+    start_layout(alloc, tree.root(), &context, metrics, steps)
 }

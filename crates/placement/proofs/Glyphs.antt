@@ -1,6 +1,6 @@
 -- What is placed names glyphs of the font, where the marks of the laid-out tree do.
-use Rattle.std.proofs.Common.{◌≡◌, ◌∙◌, refl, sym, ap, subst, ℕ, ◌<◌, arith, Bool, true, false, ◌&&◌, List, [], ◌∷◌, ◌++◌, length, map, All, ℤ, ◌+ℤ◌}
-use Rattle.std.specs.Prelude.{nat_lt, if◌then◌else◌}
+use Rattle.std.proofs.Common.{◌≡◌, ◌∙◌, sym, ap, subst, Bool, true, false, List, [], ◌∷◌, ◌++◌, length, map, All, ℤ, ◌+ℤ◌}
+use Rattle.std.specs.Prelude.{if◌then◌else◌}
 use Rattle.std.proofs.lemmas.Bool.{and_parts, ltb-true}
 use Rattle.std.proofs.lemmas.List.Elements.{All-append, All-cons, All-nil}
 use Rattle.std.specs.List.{AllByRecursion, list_all}
@@ -15,10 +15,9 @@ use Rattle.layout_model.specs.declared.laid.Laid.TheOpen.{Laid-F}
 use Rattle.layout_model.specs.declared.laid.Laid.TheViews.{out-Laid, out-roll-Laid, roll-Laid}
 use Rattle.layout_model.specs.declared.outcome.Offset.{Offset}
 use Rattle.box_writer.specs.Items.{IsOfFont, box_of, moved}
-use Rattle.box_writer.specs.declared.placed.PlacedItem.{PlacedItem}
 use Rattle.box_writer.specs.declared.placed.PlacedItem.TheVariants.{Drawn}
 use Rattle.placement.specs.Laws.{GlyphLaw}
-use Rattle.placement.specs.Placing.{Shown, is_silent, kids_at, marks_at, placed}
+use Rattle.placement.specs.Placing.{is_silent, kids_at, marks_at, placed}
 use Rattle.placement.proofs.Showing.{from_layer, placed_out}
 
 -- ---- induction over a laid-out tree

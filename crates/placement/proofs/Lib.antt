@@ -1,4 +1,5 @@
 pub mod Glyphs
 pub mod Near
+mod Reading
 pub mod Showing
 mod Worked

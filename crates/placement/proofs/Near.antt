@@ -1,5 +1,5 @@
 -- How far from the root an element may stand: no farther than as many offsets as there are levels.
-use Rattle.std.proofs.Common.{◌≡◌, ◌∙◌, refl, sym, ap, subst, ℕ, zero, suc, ◌+◌, ◌-◌, ◌*◌, ◌^◌, ◌<◌, ◌≤◌, max, arith, lit<, lit≤, w64, to_z, of_z, FitsSigned, Bool, true, ◌&&◌, List, [], ◌∷◌, length, map, fold, get_or, ℤ, ◌+ℤ◌}
+use Rattle.std.proofs.Common.{◌≡◌, ◌∙◌, sym, ap, subst, ℕ, zero, suc, ◌+◌, ◌-◌, ◌*◌, ◌^◌, ◌<◌, ◌≤◌, max, arith, lit<, lit≤, w64, to_z, of_z, FitsSigned, Bool, true, ◌&&◌, List, [], ◌∷◌, length, map, fold, get_or, ℤ, ◌+ℤ◌}
 use Rattle.std.proofs.Math.Nat.{mul-le-mul_left}
 use Rattle.std.proofs.lemmas.Bool.{and_parts}
 use Rattle.std.proofs.lemmas.List.Folds.{list_all-map}

@@ -10,7 +10,7 @@ use Rattle.layout_model.specs.declared.laid.Laid.TheViews.{out-Laid, out-roll-La
 use Rattle.layout_model.specs.declared.outcome.Offset.{Offset}
 use Rattle.box_writer.specs.Items.{box_of}
 use Rattle.box_writer.specs.declared.placed.PlacedItem.{PlacedItem}
-use Rattle.placement.specs.Placing.{Shown, element_at, is_silent, kids_at, marks_at, placed, shown}
+use Rattle.placement.specs.Placing.{Shown, is_silent, kids_at, marks_at, placed, shown}
 
 -- an element's own layer decides
 abbrev pub layer_at : Laid-F Laid → Shown
@@ -83,6 +83,10 @@ without_kids x y (offset ∷ offsets) = refl
 without_offsets : (x y : ℤ) (kids : List Shown) → kids_at x y [] kids ≡ []
 without_offsets x y [] = refl
 without_offsets x y (kid ∷ kids) = refl
+
+pub nothing_shown : (x y : ℤ) (offsets : List Offset) (kids : List Shown) (items : List PlacedItem) → offsets ≡ [] → items ≡ items ++ kids_at x y offsets kids
+nothing_shown x y offsets kids items none =
+    nothing_more items ∙ ap (λ (back : List PlacedItem). items ++ back) (sym (ap (λ (some : List Offset). kids_at x y some kids) none ∙ without_offsets x y kids))
 
 none_left : (x y : ℤ) (offsets : List Offset) (kids : List Laid) (i : ℕ) → min (length offsets) (length kids) ≤ i → kids_from x y offsets kids i ≡ []
 none_left x y offsets kids i l = elim (cases_lt (length offsets) (length kids)) [

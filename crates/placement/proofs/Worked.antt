@@ -1,7 +1,6 @@
 -- Worked places: two laid-out trees at the sample metrics, and what they show at (0, 0).
-use Rattle.std.proofs.Common.{◌≡◌, ◌∙◌, refl, ap, ℕ, ℤ, pos, negsuc, ◌+ℤ◌, List, [], ◌∷◌, ◌++◌, map, codes}
+use Rattle.std.proofs.Common.{◌≡◌, ◌∙◌, ap, ℕ, ℤ, pos, negsuc, ◌+ℤ◌, List, [], ◌∷◌, ◌++◌, map, codes}
 use Rattle.fixed_units.specs.declared.boxes.MathBox.{MathBox}
-use Rattle.font_metrics.specs.declared.glyph.GlyphId.{GlyphId}
 use Rattle.font_metrics.specs.declared.mark.Mark.{Mark}
 use Rattle.font_metrics.specs.declared.mark.Mark.TheVariants.{Glyph, Rule}
 use Rattle.math_tree.specs.declared.kind.Kind.{Kind}

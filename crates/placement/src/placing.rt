@@ -69,7 +69,7 @@ fn place_kids(alloc: Global, laid: &Laid, x: i64, y: i64, items: &mut Placed) ->
 }
 
 /// Adds the marks of an element that stands at a place.
-fn place_marks(marks: &[Mark], x: i64, y: i64, items: &mut Placed) -> Result<(), Memory>
+pub(crate) fn place_marks(marks: &[Mark], x: i64, y: i64, items: &mut Placed) -> Result<(), Memory>
     requires right { IsWithin (farthest * most_levels) x }
     requires down { IsWithin (farthest * most_levels) y }
     requires stored { list_all mark_fits marks.now ≡ true }
@@ -82,7 +82,7 @@ fn place_marks(marks: &[Mark], x: i64, y: i64, items: &mut Placed) -> Result<(),
 }
 
 /// Whether elements of this kind show nothing, and all inside them neither (MathML Core 3.3.7).
-fn is_silent(kind: Kind) -> bool
+pub(crate) fn is_silent(kind: Kind) -> bool
     ensures { result ≡ is_silent kind }
 {
     matches!(kind, Kind::Mphantom)

@@ -1,4 +1,4 @@
-use Rattle.std.proofs.Common.{◌≡◌, ◌<◌, ◌≤◌, ◌∙◌, sym, ap, subst, arith, length, map}
+use Rattle.std.proofs.Common.{◌<◌, ◌≤◌, ◌∙◌, sym, ap, subst, arith, length, map}
 use Rattle.std.proofs.lemmas.List.{take_all}
 use Rattle.math_tree.specs.declared.node.Node.TheViews.{size-Node}
 use Rattle.kept_results.proofs.Agreement.{agrees_child}

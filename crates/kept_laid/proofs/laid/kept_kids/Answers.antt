@@ -2,9 +2,7 @@ use Rattle.std.proofs.Common.{◌≡◌, ◌<◌, ◌∙◌, refl, sym, ap, subs
 use Rattle.std.proofs.lemmas.Option.{slice_get-get_or}
 use Rattle.std.specs.Option.{option_map}
 use Rattle.std.specs.Borrow.{Bor}
-use Rattle.font_metrics.specs.Metrics.{MetricsValue}
 use Rattle.math_tree.specs.declared.node.Node.{Node}
-use Rattle.math_tree.specs.declared.node.Node.TheViews.{out-Node}
 use Rattle.embellished.specs.Seen.{flow_nodes, seen_of}
 use Rattle.layout_model.specs.Layout.{last_context}
 use Rattle.layout_model.specs.Questions.{IsBelow}
@@ -17,7 +15,6 @@ use Rattle.kept_results.specs.declared.memo.Memo.{Memo}
 use Rattle.kept_results.specs.declared.memo.Memo.TheViews.{out-Memo}
 use Rattle.kept_results.proofs.Turns.{child_in_flow, facts_known}
 use Rattle.kept_laid.specs.Laid.{laid_kid}
-use Rattle.kept_laid.specs.declared.laid.KeptLayout.{KeptLayout}
 use Rattle.kept_laid.proofs.Kids.{kids_grown, laid_grown, none_yet}
 use Rattle.kept_laid.proofs.Reading.{all_named, asks_in, kept_last, kid_more, kid_unasked, kids_until, last_is, none_is, ones_within, twos_within}
 use Rattle.kept_laid.proofs.laid.kept_kids.Goals.{in-Some+in_ok-push, in_default}

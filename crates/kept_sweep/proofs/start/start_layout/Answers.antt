@@ -1,4 +1,4 @@
-use Rattle.std.proofs.Common.{◌≡◌, ◌+◌, ◌∙◌, sym, ap, subst}
+use Rattle.std.proofs.Common.{◌≡◌, ◌+◌, sym, subst}
 use Rattle.kept_results.specs.Ends.{kept_count}
 use Rattle.kept_results.specs.Kept.{Agrees}
 use Rattle.kept_results.specs.Tidy.{IsTidy}

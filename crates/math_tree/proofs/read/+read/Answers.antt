@@ -1,4 +1,4 @@
-use Rattle.std.proofs.Common.{◌≡◌, ◌∙◌, ℕ, ◌+◌, List, [], map, take, drop, Ok, Err, arith}
+use Rattle.std.proofs.Common.{◌≡◌, ◌∙◌, ap, ℕ, ◌+◌, List, [], map, take, drop, Ok, Err, arith}
 use Rattle.serde_json.specs.Data.{Data}
 use Rattle.serde_json.specs.View.{view}
 use Rattle.math_tree.specs.Elements.{below}
@@ -14,8 +14,9 @@ pub read_element-returns-in-Some : goal.read_element-returns-in-Some
 read_element-returns-in-Some t c =
     let seen : Seen = c.args.seen.now in
     let value : Data = view c.args.value.now in
+    let own : view c.of-keys.result.value.now ≡ value = ap view c.of-keys.ensures.value in
     let none = ReadParts.tested c.args.portion seen c.args.level value c.bytes_held.result c.saturating_add-seen.result c.fault_of.result
-    c.bytes_held.ensures c.saturating_add-seen.ensures c.fault_of.ensures in
+    (rw own at c.bytes_held.ensures) c.saturating_add-seen.ensures (rw own at c.fault_of.ensures) in
     rw c.number.ensures (ReadParts.own_fault c.args.portion seen c.args.level value c.in-Some.fault (none ∙ c.in-Some.is))
 
 -- what is seen once the element is
@@ -23,39 +24,42 @@ pub read_element-read_elements-requires : goal.read_element-read_elements-requir
 read_element-read_elements-requires t c =
     let seen : Seen = c.args.seen.now in
     let value : Data = view c.args.value.now in
+    let own : view c.of-keys.result.value.now ≡ value = ap view c.of-keys.ensures.value in
     let none = ReadParts.tested c.args.portion seen c.args.level value c.bytes_held.result c.saturating_add-seen.result c.fault_of.result
-    c.bytes_held.ensures c.saturating_add-seen.ensures c.fault_of.ensures ∙ c.in_default.is in
+    (rw own at c.bytes_held.ensures) c.saturating_add-seen.ensures (rw own at c.fault_of.ensures) ∙ c.in_default.is in
     let limits = ReadParts.limits c.args.portion seen c.args.level value none in
     let bytes = ReadParts.counted c.args.portion seen c.args.level value c.bytes_held.result c.saturating_add-seen.result
-    c.bytes_held.ensures c.saturating_add-seen.ensures none in
+    (rw own at c.bytes_held.ensures) c.saturating_add-seen.ensures none in
     (omega (arith, limits.level), (omega (arith, limits.level), (limits.place, omega (arith, limits.bytes, bytes))))
 
 pub read_element-returns-in_err-children : goal.read_element-returns-in_err-children
 read_element-returns-in_err-children t c =
     let seen : Seen = c.args.seen.now in
     let value : Data = view c.args.value.now in
+    let own : view c.of-keys.result.value.now ≡ value = ap view c.of-keys.ensures.value in
     let none = ReadParts.tested c.args.portion seen c.args.level value c.bytes_held.result c.saturating_add-seen.result c.fault_of.result
-    c.bytes_held.ensures c.saturating_add-seen.ensures c.fault_of.ensures ∙ c.in_default.is in
+    (rw own at c.bytes_held.ensures) c.saturating_add-seen.ensures (rw own at c.fault_of.ensures) ∙ c.in_default.is in
     let bytes = ReadParts.counted c.args.portion seen c.args.level value c.bytes_held.result c.saturating_add-seen.result
-    c.bytes_held.ensures c.saturating_add-seen.ensures none in
+    (rw own at c.bytes_held.ensures) c.saturating_add-seen.ensures none in
     let refusal : TreeRefusal = c.in_err-children.field-0.0 in
     let same : c.from_residual-in_err-children.result ≡ Err refusal =
     ReadParts.as_refused _ refusal c.from_residual-in_err-children.ensures.0 c.from_residual-in_err-children.ensures.1 in
     rw same (ReadParts.lower_refused c.args.portion seen c.args.level value (map view c.below.result.now) c.saturating_add-seen.result
-    c.read_elements.new.seen c.read_elements.new.seen refusal c.below.ensures bytes none c.in_err-children.ensures)
+    c.read_elements.new.seen c.read_elements.new.seen refusal (rw own at c.below.ensures) bytes none c.in_err-children.ensures)
 
 pub read_element-returns : goal.read_element-returns
 read_element-returns t c =
     let seen : Seen = c.args.seen.now in
     let value : Data = view c.args.value.now in
+    let own : view c.of-keys.result.value.now ≡ value = ap view c.of-keys.ensures.value in
     let none = ReadParts.tested c.args.portion seen c.args.level value c.bytes_held.result c.saturating_add-seen.result c.fault_of.result
-    c.bytes_held.ensures c.saturating_add-seen.ensures c.fault_of.ensures ∙ c.in_default.is in
+    (rw own at c.bytes_held.ensures) c.saturating_add-seen.ensures (rw own at c.fault_of.ensures) ∙ c.in_default.is in
     let bytes = ReadParts.counted c.args.portion seen c.args.level value c.bytes_held.result c.saturating_add-seen.result
-    c.bytes_held.ensures c.saturating_add-seen.ensures none in
+    (rw own at c.bytes_held.ensures) c.saturating_add-seen.ensures none in
     let read : ReadsPart c.args.portion (all_elements (c.args.level + 1) (below value)) (λ id. nodes_of id (below value))
     (ReadParts.with_one c.args.portion seen c.args.level value) c.read_elements.new.seen (Ok c.in_ok-children.children) =
-    rw (← c.below.ensures, ← bytes) c.in_ok-children.ensures in
-    rw c.in_ok-head.ensures (ReadParts.whole_part c.args.portion seen c.args.level value c.read_elements.new.seen c.in_ok-children.children none read)
+    rw (← (rw own at c.below.ensures), ← bytes) c.in_ok-children.ensures in
+    rw (rw own at c.in_ok-head.ensures) (ReadParts.whole_part c.args.portion seen c.args.level value c.read_elements.new.seen c.in_ok-children.children none read)
 
 pub read_elements-read_element-requires : goal.read_elements-read_element-requires
 read_elements-read_element-requires t c =

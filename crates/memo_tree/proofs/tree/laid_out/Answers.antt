@@ -1,4 +1,4 @@
-use Rattle.std.proofs.Common.{◌∙◌, sym}
+use Rattle.std.proofs.Common.{◌≡◌, Bool, OnOk, true, subst}
 use Rattle.math_tree.specs.declared.node.Node.{Node}
 use Rattle.layout_model.specs.declared.context.Context.{Context}
 use Rattle.kept_sweep.specs.Swept.{CountsNeeded}
@@ -8,27 +8,11 @@ use Rattle.memo_tree.proofs.tree.laid_out.Goals as goal
 
 pub returns-clause-fit : goal.returns-clause-fit
 returns-clause-fit g c =
-    let done = c.in_ok-memo.ensures {u = tt} in
-    sym (ranged c.args.metrics.now c.args.tree.now c.root.result.now c.context_of-context.result c.root.ensures.exact c.context_of-context.ensures.exact) ∙ done.fit
-
-pub returns-in_err-memo-clause-visits : goal.returns-in_err-memo-clause-visits
-returns-in_err-memo-clause-visits g c =
-    let m = c.args.metrics.now in
-    let from = c.args.steps.now in
-    let to = c.start_layout.new.steps in
-    visits_law m c.args.tree.now from to c.root.ensures.whole
-    (of_tree m c.args.tree.now c.root.result.now c.context_of-context.result (λ (n : Node) (k : Context). CountsNeeded m n k from to) c.root.ensures.exact c.context_of-context.ensures.exact c.start_layout.ensures.steps)
+    subst (λ (b : Bool). OnOk c.start_layout.result (b ≡ true))
+    (ranged c.args.metrics.now c.args.tree.now c.root.result.now c.context_of-context.result c.root.ensures.exact c.context_of-context.ensures.exact) c.start_layout.ensures.fit
 
 pub returns-clause-visits : goal.returns-clause-visits
 returns-clause-visits g c =
-    let m = c.args.metrics.now in
-    let from = c.args.steps.now in
-    let to = c.start_layout.new.steps in
-    visits_law m c.args.tree.now from to c.root.ensures.whole
-    (of_tree m c.args.tree.now c.root.result.now c.context_of-context.result (λ (n : Node) (k : Context). CountsNeeded m n k from to) c.root.ensures.exact c.context_of-context.ensures.exact c.start_layout.ensures.steps)
-
-pub returns-in_err-parents-clause-visits : goal.returns-in_err-parents-clause-visits
-returns-in_err-parents-clause-visits g c =
     let m = c.args.metrics.now in
     let from = c.args.steps.now in
     let to = c.start_layout.new.steps in

@@ -1,8 +1,7 @@
-use Rattle.std.proofs.Common.{◌≡◌, ◌∙◌, sym, ap, subst, rules, arith, ◌+◌, ◌<◌, ◌≤◌, ◌++◌, length, min, map, get_or, Ok, Err, Result, OnOk, w64, to_z, of_z, ℤ, pos, ◌+ℤ◌}
+use Rattle.std.proofs.Common.{◌∙◌, sym, ap, arith, ◌<◌, ◌++◌, length, map, get_or, Ok, Err, Result, OnOk, w64, to_z, of_z, ℤ, pos, ◌+ℤ◌}
 use Rattle.std.specs.List.{list_all}
 use Rattle.layout_model.specs.Laid.{levels}
 use Rattle.layout_model.specs.Range.{mark_fits}
-use Rattle.layout_model.specs.declared.laid.Laid.{Laid}
 use Rattle.layout_model.specs.declared.laid.Laid.TheViews.{out-Laid, size-Laid}
 use Rattle.layout_model.specs.declared.outcome.Offset.{Offset}
 use Rattle.placement.specs.Placing.{kids_at, marks_at, placed}

@@ -1,37 +1,72 @@
-use Rattle.std.proofs.Common.{◌≡◌, ◌∙◌, ap, arith, subst, sym, pos}
+use Rattle.std.proofs.Common.{◌≡◌, ◌∙◌, ap, arith, subst, sym, pos, IfOk}
 use Rattle.std.proofs.lemmas.Result.{IfOk-weaker}
 use Rattle.std.specs.List.{All}
 use Rattle.font_metrics.specs.Metrics.{MetricsValue}
 use Rattle.font_metrics.specs.Taken.{IsTaken}
-use Rattle.math_tree.specs.Trees.{IsWhole}
+use Rattle.math_tree.specs.Trees.{IsWhole, TreeValue}
 use Rattle.box_writer.specs.Items.{IsOfFont}
-use Rattle.layout_model.specs.Laid.{all_outcomes, levels}
-use Rattle.layout_model.specs.Range.{outcome_fits}
+use Rattle.layout_model.specs.Layout.{laid_tree}
 use Rattle.layout_model.specs.declared.laid.Laid.{Laid}
 use Rattle.placement.specs.Placing.{placed}
-use Rattle.edit_session.proofs.Whole.{all_stored, few_levels, glyphs_known}
-use Rattle.edit_session.specs.Session.{KeptSession}
+use Rattle.edit_session.proofs.Whole.{glyphs_known, root_agrees, root_few, root_kept, root_laid, root_levels, root_stored}
+use Rattle.edit_session.specs.Session.{KeptSession, page}
 use Rattle.edit_session.proofs.session.Session.placed.Goals as goal
 
-pub place-requires-clause-levels : goal.place-requires-clause-levels
-place-requires-clause-levels c =
-    let kept = c.self.inside.layouts in
-    let few = few_levels kept.metrics kept.tree (subst IsWhole c.tree.ensures c.root-root.ensures.whole) in
-    omega (arith, ap levels c.in_ok-laid.ensures, few)
+pub place_kept-requires-clause-agrees : goal.place_kept-requires-clause-agrees
+place_kept-requires-clause-agrees c =
+    let held = c.self.inside.layouts in
+    let whole = subst IsWhole c.tree.ensures c.root.ensures.whole in
+    let top = c.root.ensures.exact ∙ ap (λ (t : TreeValue). t.root) c.tree.ensures in
+    root_agrees held c.metrics-metrics.result.now c.root.result.now c.memo.result.now c.context-context.result c.metrics-metrics.ensures top c.memo.ensures c.context-context.ensures c.self.invariant whole
 
-pub place-requires-clause-stored : goal.place-requires-clause-stored
-place-requires-clause-stored c =
-    let kept = c.self.inside.layouts in
-    ap (all_outcomes outcome_fits) c.in_ok-laid.ensures ∙ all_stored kept.metrics kept.tree c.self.invariant.fit
+pub place_kept-requires-clause-few : goal.place_kept-requires-clause-few
+place_kept-requires-clause-few c =
+    let held = c.self.inside.layouts in
+    let whole = subst IsWhole c.tree.ensures c.root.ensures.whole in
+    let top = c.root.ensures.exact ∙ ap (λ (t : TreeValue). t.root) c.tree.ensures in
+    root_few held c.metrics-metrics.result.now c.root.result.now c.memo.result.now c.context-context.result c.metrics-metrics.ensures top c.memo.ensures c.context-context.ensures c.self.invariant whole
+
+pub place_kept-requires-clause-kept : goal.place_kept-requires-clause-kept
+place_kept-requires-clause-kept c =
+    let held = c.self.inside.layouts in
+    let whole = subst IsWhole c.tree.ensures c.root.ensures.whole in
+    let top = c.root.ensures.exact ∙ ap (λ (t : TreeValue). t.root) c.tree.ensures in
+    root_kept held c.metrics-metrics.result.now c.root.result.now c.memo.result.now c.context-context.result c.metrics-metrics.ensures top c.memo.ensures c.context-context.ensures c.self.invariant whole
+
+pub place_kept-requires-clause-levels : goal.place_kept-requires-clause-levels
+place_kept-requires-clause-levels c =
+    let held = c.self.inside.layouts in
+    let whole = subst IsWhole c.tree.ensures c.root.ensures.whole in
+    let top = c.root.ensures.exact ∙ ap (λ (t : TreeValue). t.root) c.tree.ensures in
+    let few = root_levels held c.metrics-metrics.result.now c.root.result.now c.memo.result.now c.context-context.result c.metrics-metrics.ensures top c.memo.ensures c.context-context.ensures c.self.invariant whole in
+    omega (arith, few)
+
+pub place_kept-requires-clause-stored : goal.place_kept-requires-clause-stored
+place_kept-requires-clause-stored c =
+    let held = c.self.inside.layouts in
+    let whole = subst IsWhole c.tree.ensures c.root.ensures.whole in
+    let top = c.root.ensures.exact ∙ ap (λ (t : TreeValue). t.root) c.tree.ensures in
+    root_stored held c.metrics-metrics.result.now c.root.result.now c.memo.result.now c.context-context.result c.metrics-metrics.ensures top c.memo.ensures c.context-context.ensures c.self.invariant whole
+
+pub returns-clause-page : goal.returns-clause-page
+returns-clause-page c =
+    let held = c.self.inside.layouts in
+    let whole = subst IsWhole c.tree.ensures c.root.ensures.whole in
+    let top = c.root.ensures.exact ∙ ap (λ (t : TreeValue). t.root) c.tree.ensures in
+    let same = root_laid held c.metrics-metrics.result.now c.root.result.now c.memo.result.now c.context-context.result c.metrics-metrics.ensures top c.memo.ensures c.context-context.ensures c.self.invariant whole in
+    subst (λ (s : KeptSession). IfOk c.place_kept.result (λ items. items ≡ page s.held)) c.self.view_is
+    (subst (λ (l : Laid). IfOk c.place_kept.result (λ items. items ≡ placed l (pos 0) (pos 0))) same c.place_kept.ensures)
 
 pub returns-clause-glyphs : goal.returns-clause-glyphs
 returns-clause-glyphs c =
-    let kept = c.self.inside.layouts in
-    let laid = c.in_ok-laid.laid in
+    let held = c.self.inside.layouts in
+    let whole = subst IsWhole c.tree.ensures c.root.ensures.whole in
+    let top = c.root.ensures.exact ∙ ap (λ (t : TreeValue). t.root) c.tree.ensures in
+    let same = root_laid held c.metrics-metrics.result.now c.root.result.now c.memo.result.now c.context-context.result c.metrics-metrics.ensures top c.memo.ensures c.context-context.ensures c.self.invariant whole in
     let metrics = c.args.self.now.held.metrics in
-    let same : kept.metrics ≡ metrics = ap (λ (s : KeptSession). s.held.metrics) c.self.view_is in
-    let of_tree = glyphs_known kept.metrics kept.tree (subst IsTaken c.metrics.ensures c.is_taken.ensures) c.self.invariant.fit in
-    let of_laid = subst (λ (l : Laid). All (IsOfFont kept.metrics) (placed l (pos 0) (pos 0))) (sym c.in_ok-laid.ensures) of_tree in
-    let known = subst (λ (m : MetricsValue). All (IsOfFont m) (placed laid (pos 0) (pos 0))) same of_laid in
-    IfOk-weaker c.place.result (λ items. items ≡ placed laid (pos 0) (pos 0)) (All (IsOfFont metrics))
-    (λ items e. subst (All (IsOfFont metrics)) (sym e) known) c.place.ensures
+    let all = placed (laid_tree held.metrics held.tree) (pos 0) (pos 0) in
+    let fonts : held.metrics ≡ metrics = ap (λ (s : KeptSession). s.held.metrics) c.self.view_is in
+    let known = subst (λ (m : MetricsValue). All (IsOfFont m) all) fonts
+    (glyphs_known held.metrics held.tree (subst IsTaken c.metrics-metrics.ensures c.is_taken.ensures) c.self.invariant.fit) in
+    IfOk-weaker c.place_kept.result (λ items. items ≡ all) (All (IsOfFont metrics)) (λ items e. subst (All (IsOfFont metrics)) (sym e) known)
+    (subst (λ (l : Laid). IfOk c.place_kept.result (λ items. items ≡ placed l (pos 0) (pos 0))) same c.place_kept.ensures)

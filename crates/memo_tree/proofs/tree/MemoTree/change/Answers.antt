@@ -28,7 +28,7 @@ returns-in-Ok-clause-stays c =
     let root = c.root.result.now in
     subst (λ (o : MemoTreeValue). EntriesStay o c.args.edit new) c.self.view_is
     (stays old c.args.edit way c.apply_at.new.tree root laid is done.tree c.root.ensures.exact c.follow.new.memo c.in-Ok.back
-    ((c.in-Ok.ensures {u = tt}).followed (before old c.args.edit way c.apply_at.new.tree root laid is done.tree c.root.ensures.exact)) c.self.invariant c.root.ensures.whole)
+    ((c.in-Ok.ensures {u = tt}).followed (before old c.args.edit way c.apply_at.new.tree root laid is done.tree c.root.ensures.exact)) c.self.invariant.whole c.root.ensures.whole)
 
 pub returns-in-Ok-clause-counted : goal.returns-in-Ok-clause-counted
 returns-in-Ok-clause-counted c =
@@ -41,7 +41,7 @@ returns-in-Ok-clause-counted c =
     let root = c.root.result.now in
     subst (λ (o : MemoTreeValue). MissingIsCounted o c.args.edit new) c.self.view_is
     (counted old c.args.edit way c.apply_at.new.tree root laid is done.tree c.root.ensures.exact c.follow.new.memo c.in-Ok.back
-    ((c.in-Ok.ensures {u = tt}).followed (before old c.args.edit way c.apply_at.new.tree root laid is done.tree c.root.ensures.exact)) c.self.invariant c.root.ensures.whole)
+    ((c.in-Ok.ensures {u = tt}).followed (before old c.args.edit way c.apply_at.new.tree root laid is done.tree c.root.ensures.exact)) c.self.invariant.whole c.root.ensures.whole)
 
 pub returns-in-Ok-clause-reversal : goal.returns-in-Ok-clause-reversal
 returns-in-Ok-clause-reversal c =

@@ -1,0 +1,59 @@
+#!/usr/bin/env python3
+"""Counts the instructions of the built program, which repeat from run to run: of `layout` of 53,249 elements in groups of 64
+rows, and of one edit of a tree of 833.
+
+    python3 bench/instructions.py [PROGRAM]
+
+PROGRAM is the file that `rt run` leaves in crates/mathlay/out/mathlay. It is run by `valgrind --tool=callgrind`, which has to be
+installed; an edit is the difference of a script of 2,500 edits and one of 500. Figures with their dates stand in
+bench/instructions.txt.
+"""
+import json
+import os
+import re
+import subprocess
+import sys
+import tempfile
+
+from shapes import METRICS, PROGRAM, edits, rows_of, tree
+
+# How many edits the two scripts have.
+FEW, MANY = 500, 2_500
+
+
+def instructions(words):
+    """How many instructions a run takes."""
+    run = subprocess.run(
+        ["valgrind", "--tool=callgrind", "--callgrind-out-file=/dev/null", *words],
+        stdout=subprocess.DEVNULL, stderr=subprocess.PIPE, text=True, check=True)
+    return int(re.search(r"Collected : (\d+)", run.stderr)[1])
+
+
+def file_in(folder, name, text):
+    """The path of a new file."""
+    path = os.path.join(folder, name)
+    with open(path, "w") as out:
+        out.write(text)
+    return path
+
+
+def main():
+    program = sys.argv[1] if len(sys.argv) > 1 else PROGRAM
+    with tempfile.TemporaryDirectory() as folder:
+        large = file_in(folder, "large", json.dumps(tree(4_096, 64)))
+        print(f"layout of 53,249 elements in groups of 64: {instructions([program, 'layout', METRICS, large]):,}")
+        value = tree(64, None)
+        small = file_in(folder, "small", json.dumps(value))
+        ids, _ = rows_of(value)
+        few, many = (
+            instructions([program, "edit", METRICS, small, file_in(folder, str(count), lines(edits(ids, count)))])
+            for count in (FEW, MANY))
+        print(f"an edit of 833 elements: {(many - few) / (MANY - FEW):,.0f}")
+
+
+def lines(values):
+    """JSON values, a line each."""
+    return "".join(json.dumps(value) + "\n" for value in values)
+
+
+main()
