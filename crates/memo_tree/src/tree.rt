@@ -125,8 +125,9 @@ impl MemoTree {
         }
     }
 
-    /// Edits the tree, and changes what is kept beside it: what is kept of elements that the edit leaves
-    /// alone stays kept. Where the edit is refused, all stays as it is.
+    /// Edits the tree, and changes what is kept beside it: each element that stays has the entries
+    /// that it had, nothing is kept of new elements, and just the elements on the path of the edit are
+    /// marked. Where the edit is refused, all stays as it is.
     pub fn change(&mut self, alloc: Global, edit: Edit) -> Result<Reversal, EditRefusal>
         requires proper { IsProperEdit edit }
         requires sealed { IsIn Sealed self.old }
