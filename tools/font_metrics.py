@@ -14,7 +14,8 @@ room or ink.
 
 A character that FONT lacks gets another glyph, where there is one: of a character that looks the same in FONT; of the same
 character in each --fallback font in turn, scaled to FONT's em; or of one that is alike. tools/stand_ins.txt says which. A
-sign that doesn't grow to the sides takes the larger forms of one that looks the same and does, as a macron those of an overline.
+sign that doesn't grow to the sides takes the larger forms of one that looks the same and does, as a macron those of an overline,
+in its own font or else in a fallback font.
 picture.py has to be given the same fonts. A fallback font needs no MATH table.
 
 With --formula, FILE's formulas are read, and each character that they need and the metrics lack is told, with its element.
@@ -250,21 +251,30 @@ def stretches_of(sources, losses, bases):
 
 
 def lent(sources, table, characters, stretches, losses):
-    """What lets a sign grow to the sides that can't by itself: the growth of one that looks the same in the same font."""
+    """What lets a sign grow to the sides that can't by itself: the growth of one that looks the same, in its own font or else in
+    another one."""
     found = {}
-    for code, shape in characters.items():
-        font = sources.fonts[shape.place]
-        if shape.spaced or ("h", shape) in stretches or font.bounds(shape.glyph) is None:
+    for code in set(characters) & set(table.same):
+        shape = characters[code]
+        if shape.spaced or ("h", shape) in stretches or sources.ink(shape) is None:
             continue
-        for other in table.same.get(code, []):
-            glyph = font.characters.get(other)
-            construction = glyph and constructions(font).get(("h", glyph))
-            if construction and glyph != shape.glyph:
-                spaced = is_combining(other) and not is_combining(code)
-                if sources.name(Shape(shape.place, glyph, spaced)):
-                    found["h", shape] = stretch_of(sources, Shape(shape.place, glyph, spaced), construction, losses)
-                    break
+        lender = next(lenders(sources, shape, code, table.same[code]), None)
+        if lender:
+            construction = constructions(sources.fonts[lender.place])["h", lender.glyph]
+            found["h", shape] = stretch_of(sources, lender, construction, losses)
     return found
+
+
+def lenders(sources, shape, code, others):
+    """The shapes that look as a character does and grow to the sides, those of its own font first."""
+    own = shape.place
+    for place in (own, *(place for place in range(len(sources.fonts)) if place != own)):
+        font = sources.fonts[place]
+        for other in others if place == own else (code, *others):
+            glyph = font.characters.get(other)
+            lender = glyph and Shape(place, glyph, is_combining(other) and not is_combining(code))
+            if lender and lender != shape and ("h", glyph) in constructions(font) and sources.name(lender):
+                yield lender
 
 
 def stretch_of(sources, base, construction, losses):

@@ -221,6 +221,15 @@ class StandIns(InFolder):
         self.assertIn("# fallback 1: Test Math Version 7\n", text)
         self.assertIn("a fallback font shows (", errors)
 
+    def test_a_sign_that_cannot_grow_takes_the_growth_of_one_that_looks_the_same(self):
+        glyphs = PLAIN | {"over": (0, (-400, 600, -100, 640)), "wide": (0, (-700, 600, -100, 640)), "macron": (300, (0, 600, 300, 640))}
+        growing = {"variants": {("h", "over"): [("over", 300), ("wide", 600)]}}
+        font = self.font("a.ttf", glyphs, {0x61: "a", 0xAF: "macron", 0x305: "over"}, **growing)
+        self.assertIn("\nhvariant macron over.spaced 300\nhvariant macron wide.spaced 600\n", self.made(font)[3])
+        first = self.font("b.ttf", glyphs, {0x61: "a", 0xAF: "macron"})
+        self.assertNotIn("variant", self.made(first)[3])
+        self.assertIn("\nhvariant macron fallback1.over.spaced 300\n", self.made(first, "--fallback", font)[3])
+
     def test_a_second_font_alone_has_no_table(self):
         lone = self.font("b.ttf", PLAIN, {0x61: "a"}, math=False)
         self.assert_refused(run(font_metrics, lone), "may fill in for another by --fallback")
