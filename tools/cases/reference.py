@@ -9,9 +9,10 @@ MODULES = (
     "units", "dictionary", "elements", "jsontext", "metrics", "tree", "stages", "program", "style", "shaping", "equations",
     "layout")
 
-# The second program does all that is planned, in stages. At this one it has the commands `layout`, `edit` and `check`,
-# and reads each file whole before anything is written.
+# The second program does all that is planned, in stages. At this one it has the commands `layout`, `edit` and `check`.
 SO_FAR = 10
+# At this one it also takes a script of any length. It has it whole: what becomes of a run whose reads fail, `runs` works out.
+LINE_BY_LINE = 13
 
 
 def load(folder):
@@ -31,7 +32,8 @@ def run(reference, words, files):
         looked_for.append(name)
         return files.get(name)
 
-    status = reference.program.run(words, read, written.append, SO_FAR)
+    stage = LINE_BY_LINE if words[:1] == ["edit"] and len(words) == 4 else SO_FAR
+    status = reference.program.run(words, read, written.append, stage)
     return status, b"".join(written), looked_for
 
 
