@@ -2,41 +2,18 @@ ghost use Rattle.std.specs.Prelude.{codes, ◌≡◌, ◌<◌, ◌≤◌, ◌^�
 ghost use Rattle.embellished.specs.Fences.{fences_in};
 ghost use Rattle.embellished.specs.Seen.{seen_of};
 ghost use Rattle.style_scope.specs.Sizes.{IsStyle, size_of};
-ghost use Rattle.layout_model.specs.Contexts.{is_subscript, is_true, kid_axis, kid_context, kid_style, place_of, pull_of, stretch_of};
+ghost use Rattle.layout_model.specs.Contexts.{is_subscript, is_true, kid_axis, kid_context, kid_style, place_of};
 ghost use Rattle.layout_model.specs.Questions.{base_properties};
 ghost use Rattle.child_questions.specs.Surveys.{survey_of};
 
 use crate::survey::Survey;
 use embellished::{Fences, View, form_within, operator_properties, stretch_axis};
-use fixed_units::{Pull, is_word};
+use fixed_units::is_word;
 use font_metrics::Metrics;
 use layout_model::{Context, Stretch};
 use math_tree::{Attributes, Kind};
 use op_dictionary::{Axis, Form, Properties};
 use style_scope::{Place, Style, child_style};
-
-/// What pulls a row, a base or an operator; columns pull none of them.
-#[tactic(auto, unfolding(layout_model::specs::Contexts::pull_of))]
-pub fn pull_of(stretch: &Stretch) -> Pull
-    ensures { result ≡ pull_of stretch.now }
-{
-    match stretch {
-        Stretch::None | Stretch::Columns(_) => Pull::Free,
-        Stretch::Block(ascent, descent) => Pull::Block(*ascent, *descent),
-        Stretch::Inline(width) => Pull::Inline(*width),
-    }
-}
-
-#[tactic(auto, unfolding(layout_model::specs::Contexts::stretch_of))]
-fn stretch_of(pull: Pull) -> Stretch
-    ensures { result ≡ stretch_of pull }
-{
-    match pull {
-        Pull::Free => Stretch::None,
-        Pull::Block(ascent, descent) => Stretch::Block(ascent, descent),
-        Pull::Inline(width) => Stretch::Inline(width),
-    }
-}
 
 /// Whether an attribute is `true`, in any case of ASCII letters.
 pub fn is_true(name: &str, attributes: &Attributes) -> bool
@@ -136,25 +113,6 @@ pub fn kid_context<V: View>(
         form: form_within(parent, survey.fences, index, context.form),
         stretch,
     }
-}
-
-/// The same, where a pull stretches the child.
-pub fn pulled_context<V: View>(
-    parent: &V,
-    survey: &Survey,
-    context: &Context,
-    metrics: &Metrics,
-    index: usize,
-    pull: Pull,
-) -> Context
-    requires known { survey.now ≡ survey_of metrics.now (seen_of (V.element parent.now)) context.now }
-    requires within { index < length (seen_of (V.element parent.now)).kids }
-    requires style { IsStyle context.now.style }
-    requires size { size_of metrics.now context.now.style ≤ℤ pos (2 ^ 20) }
-    ensures value { result ≡ kid_context metrics.now (seen_of (V.element parent.now)) context.now index (stretch_of pull) }
-    ensures style { IsStyle result.style }
-{
-    kid_context(parent, survey, context, metrics, index, stretch_of(pull))
 }
 
 /// The axis along which a child in flow stretches, where it does, below an element of this form.

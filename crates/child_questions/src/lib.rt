@@ -2,7 +2,8 @@
 //!
 //! `wave_one` gives the questions that an element asks first. `wave_two` gives those that wait for
 //! the answers: of operators that stretch to what stands beside them, and of the rows of a table to
-//! its columns. Who keeps a `Survey` of the children has both waves from it.
+//! its columns. Who keeps a `Survey` of the children has both waves from it, as replies that are to come
+//! (`first_wave`, `second_wave`).
 //!
 //! - Models: MathML Core 3, and 3.2.4.3 for what stretches.
 //! - Proved: the questions are `first` and `second` of `layout_model`, exactly, and a `Survey` is
@@ -19,6 +20,6 @@ mod tables; // the columns that rows are asked with
 mod waves; // the questions of both waves
 
 pub use asks::{asking, has_moved_limits};
-pub use children::{base_properties, is_true, kid_axis, pull_of, style_of_kid};
+pub use children::{base_properties, is_true, kid_axis, style_of_kid};
 pub use survey::Survey;
-pub use waves::{first_questions, second_questions, wave_one, wave_two};
+pub use waves::{first_wave, second_wave, wave_one, wave_two};

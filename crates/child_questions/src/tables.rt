@@ -3,6 +3,7 @@ ghost use Rattle.std.specs.List.{All};
 ghost use Rattle.embellished.specs.Seen.{seen_of};
 ghost use Rattle.math_tables.specs.Placing.{table_width_of};
 ghost use Rattle.style_scope.specs.Sizes.{IsStyle, size_of};
+ghost use Rattle.layout_model.specs.Answers.{questions_in};
 ghost use Rattle.layout_model.specs.Questions.{columns_over, rows_asked};
 ghost use Rattle.layout_model.specs.Questions as spec;
 ghost use Rattle.layout_model.specs.declared.context.Stretch.TheVariants.{Columns};
@@ -14,25 +15,27 @@ use crate::survey::Survey;
 use embellished::View;
 use fixed_units::{List, Memory};
 use font_metrics::Metrics;
-use layout_model::{Answer, Context, Question, Stretch};
+use layout_model::{Answered, Context, Question, Reply, Stretch};
 use math_tables::{columns, total_width};
 use std::alloc::Global;
 
-/// Asks each row of a table with the columns of the whole table, over the answers of all rows.
-pub fn rows_asked<V: View>(
+/// Asks each row of a table with the columns of the whole table, over the answers of all rows. None has
+/// answered that yet.
+pub fn rows_asked<V: View, A: Answered>(
     alloc: Global,
     parent: &V,
     survey: &Survey,
     context: &Context,
     metrics: &Metrics,
-    rows: &List<Answer>,
-) -> Result<List<Question>, Memory>
+    rows: &List<A>,
+) -> Result<List<Reply>, Memory>
     requires known { survey.now ≡ survey_of metrics.now (seen_of (V.element parent.now)) context.now }
     requires style { IsStyle context.now.style }
     requires size { size_of metrics.now context.now.style ≤ℤ pos (2 ^ 20) }
-    requires answers { AreAnswers rows.now }
-    ensures styles { IfOk result (All HasStyle) }
-    ensures value { IfOk result (λ asks. asks ≡ rows_asked metrics.now (seen_of (V.element parent.now)) context.now rows.now) }
+    requires answers { AreAnswers (map A.told rows.now) }
+    ensures styles { IfOk result (λ asked. All HasStyle (questions_in asked)) }
+    ensures value { IfOk result (λ asked.
+        questions_in asked ≡ rows_asked metrics.now (seen_of (V.element parent.now)) context.now (map A.told rows.now)) }
 {
     let rows = rows.as_slice();
     let widths = columns_over(alloc, rows)?;
@@ -41,31 +44,32 @@ pub fn rows_asked<V: View>(
     for index in 0..parent.kids() {
         let columns = columns_at(alloc, total, &widths, cells_at(rows, index))?;
         let context = kid_context(parent, survey, context, metrics, index, columns);
-        asks.push(Question {
+        let question = Question {
             kid: index as u32,
             context,
-        })?;
+        };
+        asks.push(Reply::to_come(alloc, question))?;
     }
     Ok(asks)
 }
 
 /// The columns of a table, over the answers of its rows.
-pub fn columns_over(alloc: Global, rows: &[Answer]) -> Result<List<i64>, Memory>
-    ensures { IfOk result (λ widths. widths ≡ columns_over rows.now) }
+fn columns_over<A: Answered>(alloc: Global, rows: &[A]) -> Result<List<i64>, Memory>
+    ensures { IfOk result (λ widths. widths ≡ columns_over (map A.told rows.now)) }
 {
     let mut cells = List::with_room(alloc, rows.len())?;
     for row in rows {
-        cells.push(row.cells.copy(alloc)?)?;
+        cells.push(row.answer().cells.copy(alloc)?)?;
     }
     columns(alloc, &cells)
 }
 
 /// How many cells the row at a place has.
-fn cells_at(rows: &[Answer], index: usize) -> usize
-    ensures { result ≡ length (spec.cells_at rows.now index) }
+fn cells_at<A: Answered>(rows: &[A], index: usize) -> usize
+    ensures { result ≡ length (spec.cells_at (map A.told rows.now) index) }
 {
     match rows.get(index) {
-        Some(row) => row.cells.len(),
+        Some(row) => row.answer().cells.len(),
         None => 0,
     }
 }

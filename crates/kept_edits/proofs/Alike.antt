@@ -17,13 +17,15 @@ use Rattle.embellished.specs.Flow.{flow_by}
 use Rattle.embellished.specs.Seen.{Child, Kid, Seen, children_from, flow_children, kid_of, laid_child, laid_kid, prescripts_in, seen_of}
 use Rattle.embellished.specs.declared.facts.Facts.{Facts}
 use Rattle.embellished.proofs.Nodes.{facts_out, kinds_mapped}
+use Rattle.layout_model.specs.Answers.{questions_in}
 use Rattle.layout_model.specs.Laws.{answer_of}
 use Rattle.layout_model.specs.Questions.{first}
 use Rattle.layout_model.specs.declared.context.Context.{Context}
 use Rattle.layout_model.specs.declared.context.Question.{Question}
 use Rattle.layout_model.specs.declared.outcome.Answer.{Answer}
 use Rattle.layout_model.proofs.Made.{answer_of_child}
-use Rattle.layout_core.proofs.Fits.{range_is}
+use Rattle.layout_model.proofs.Replies.{answer_there, none_in, question_there}
+use Rattle.layout_model.proofs.Fits.{range_is}
 use Rattle.child_questions.proofs.Unstretched.{one_wave}
 use Rattle.kept_results.specs.Kept.{IsSound, NamesKept, StaysBut, is_live, is_marked}
 use Rattle.kept_results.specs.Regular.{AllInFlow, IsRegular, restyled_at}
@@ -200,18 +202,22 @@ module _ (node : Node) (place : ℕ) (child other : Node) (at : slice_get (child
         let r = s.regular regular in
         let seen : Seen = seen_of node in
         record {
-          regular = regular_made entry.context entry.ones r;
+          regular = regular_made entry.context (questions_in entry.one) r;
           sized = first_true _ _ (first_true _ _ (sym (range_is m node entry.context) ∙ s.fits));
           ones = first_again m seen (seen_of made) own_made (kids_made r.all) place head_made (others_made r.all) entry.context
               ∙ ap (map (restyled_at m (seen_of made) entry.context place)) (sym s.ones);
           styled = s.styled;
-          twos = s.twos ∙ one_wave m seen entry.context (map (answer_of m node) (first m seen entry.context)) r.one_wave;
-          as_many = ap length s.one ∙ length-map entry.ones (answer_of m node);
-          others = λ index question answer q_at a_at apart.
-              let n = each_of (NamesKept node below) entry.ones index question s.ones_kept q_at in
-              let is : answer ≡ answer_of m node question =
-              sym (same_Some (answer_of m node question) answer (sym (slice_get-map (answer_of m node) entry.ones index ∙ ap (option_map (answer_of m node)) q_at) ∙ ap (λ (l : List Answer). slice_get l index) (sym s.one) ∙ a_at)) in
-              (is ∙ answer_made entry.context entry.ones r index question q_at apart n, named_made entry.context entry.ones r index question q_at apart n);
+          two = none_in entry.two (s.twos ∙ one_wave m seen entry.context (map (answer_of m node) (first m seen entry.context)) r.one_wave);
+          others = λ index reply at apart.
+              let question = reply.question in
+              let q_at = question_there entry.one index reply at in
+              let n = each_of (NamesKept node below) (questions_in entry.one) index question s.ones_kept q_at in
+              let told = slice_get-map (answer_of m node) (questions_in entry.one) index ∙ ap (option_map (answer_of m node)) q_at in
+              let is : reply.answer ≡ answer_of m node question =
+              sym (same_Some (answer_of m node question) reply.answer
+              (sym told ∙ ap (λ (l : List Answer). slice_get l index) (sym s.one) ∙ answer_there entry.one index reply at)) in
+              (is ∙ answer_made entry.context (questions_in entry.one) r index question q_at apart n,
+              named_made entry.context (questions_in entry.one) r index question q_at apart n);
         }
 
 -- what the regular entries of an unmarked memo tell after a change of one child

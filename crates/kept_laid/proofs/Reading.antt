@@ -13,6 +13,7 @@ use Rattle.math_tree.specs.declared.node.Node.{Node}
 use Rattle.math_tree.specs.declared.node.Node.TheViews.{out-Node}
 use Rattle.embellished.specs.Seen.{Child, flow_children, flow_nodes, seen_of}
 use Rattle.layout_model.specs.Laws.{answer_of, laid_below}
+use Rattle.layout_model.specs.Answers.{questions_in}
 use Rattle.layout_model.specs.Layout.{laid, last_context, lay, questions, somes}
 use Rattle.layout_model.specs.Questions.{IsBelow, first}
 use Rattle.layout_model.specs.declared.context.Context.{Context}
@@ -32,7 +33,7 @@ use Rattle.kept_laid.specs.Last.{AreLast, seen_contexts}
 use Rattle.kept_laid.proofs.LastAsked.{asked_last}
 
 abbrev pub asks_in : Entry → List Question
-asks_in entry = entry.ones ++ entry.twos
+asks_in entry = questions_in entry.one ++ questions_in entry.two
 
 -- ---- an entry that agrees with its element
 
@@ -40,14 +41,14 @@ module _ (m : MetricsValue) (node : Node) (memo : Memo) (entry : Entry) (agrees 
   sound : IsSound m node (out-Memo memo).below entry
   sound = (agrees.at [] node memo (refl, refl)).sound entry has
 
-  pub ones_within : All (IsBelow (length (seen_of node).kids)) entry.ones
+  pub ones_within : All (IsBelow (length (seen_of node).kids)) (questions_in entry.one)
   ones_within = subst (All (IsBelow (length (seen_of node).kids))) (sym sound.ones) (first_below m (seen_of node) entry.context)
 
-  pub twos_within : All (IsBelow (length (seen_of node).kids)) entry.twos
+  pub twos_within : All (IsBelow (length (seen_of node).kids)) (questions_in entry.two)
   twos_within = subst (All (IsBelow (length (seen_of node).kids))) (sym sound.twos) (second_below m (seen_of node) entry.context _)
 
   pub all_named : AllByRecursion (NamesKept node (out-Memo memo).below) (asks_in entry)
-  all_named = all_both (NamesKept node (out-Memo memo).below) entry.ones entry.twos sound.ones_kept sound.twos_kept
+  all_named = all_both (NamesKept node (out-Memo memo).below) (questions_in entry.one) (questions_in entry.two) sound.ones_kept sound.twos_kept
 
   pub outcome_is : (context : Context) → entry.context ≡ context → entry.outcome ≡ lay m node context
   outcome_is context is = sound.stores ∙ ap (lay m node) is
@@ -55,7 +56,7 @@ module _ (m : MetricsValue) (node : Node) (memo : Memo) (entry : Entry) (agrees 
   pub asks_are : (context : Context) → entry.context ≡ context → asks_in entry ≡ questions m (seen_of node) context (answer_of m node)
   unfolding questions
   asks_are context is =
-      ap (λ (ones : List Question). ones ++ entry.twos) sound.ones
+      ap (λ (ones : List Question). ones ++ questions_in entry.two) sound.ones
       ∙ ap (λ (twos : List Question). first m (seen_of node) entry.context ++ twos) sound.twos
       ∙ ap (λ (c : Context). questions m (seen_of node) c (answer_of m node)) is
 

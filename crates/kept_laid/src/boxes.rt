@@ -1,6 +1,7 @@
 ghost use Rattle.std.specs.Prelude.{◌≡◌, ◌++◌, Some};
 ghost use Rattle.std.specs.Option.{option_and_then};
 ghost use Rattle.font_metrics.specs.Metrics.{MetricsValue};
+ghost use Rattle.layout_model.specs.Answers.{questions_in};
 ghost use Rattle.layout_model.specs.Layout.{laid, last_context};
 ghost use Rattle.layout_model.specs.declared.context.Context.{Context as ContextValue};
 ghost use Rattle.kept_results.specs.Kept.{Agrees, HasEntry, IsKept};
@@ -37,7 +38,8 @@ pub fn box_of(node: &Node, memo: &Memo, context: &Context, id: NodeId) -> Option
 fn box_of_kids(node: &Node, memo: &Memo, entry: &Entry, id: NodeId) -> Option<MathBox>
     requires agrees { AgreesWithSome node.now memo.now }
     requires has { HasEntry (out-Memo memo.now) entry.now }
-    ensures { (m : MetricsValue) → Agrees m node.now memo.now → result ≡ box_below id (kids_laid m node.now (entry.now.ones ++ entry.now.twos)) }
+    ensures { (m : MetricsValue) → Agrees m node.now memo.now →
+        result ≡ box_below id (kids_laid m node.now (questions_in entry.now.one ++ questions_in entry.now.two)) }
 {
     let mut index = 0;
     for place in 0..memo.below.len() {
@@ -63,9 +65,11 @@ fn box_of_kid(
     id: NodeId,
 ) -> Option<MathBox>
     requires agrees { AgreesWithSome child.now below.now }
-    requires kept { (context : ContextValue) → last_context (entry.now.ones ++ entry.now.twos) index ≡ Some context → IsKept (out-Memo below.now) context }
+    requires kept { (context : ContextValue) →
+        last_context (questions_in entry.now.one ++ questions_in entry.now.two) index ≡ Some context → IsKept (out-Memo below.now) context }
     ensures { (m : MetricsValue) → Agrees m child.now below.now →
-        result ≡ option_and_then (λ context. box_in id (laid m child.now context)) (last_context (entry.now.ones ++ entry.now.twos) index) }
+        result ≡ option_and_then (λ context. box_in id (laid m child.now context))
+        (last_context (questions_in entry.now.one ++ questions_in entry.now.two) index) }
 {
     if !has_id(child, id) {
         return None;

@@ -1,6 +1,7 @@
 ghost use Rattle.std.specs.Prelude.{◌≡◌, ◌≤◌, ◌++◌, map, IfOk};
 ghost use Rattle.font_metrics.specs.Metrics.{MetricsValue};
 ghost use Rattle.math_tree.specs.Trees.{element_count};
+ghost use Rattle.layout_model.specs.Answers.{questions_in};
 ghost use Rattle.layout_model.specs.Layout.{laid};
 ghost use Rattle.kept_results.specs.Kept.{Agrees, HasEntry, IsKept};
 ghost use Rattle.kept_results.specs.declared.memo.Memo.TheViews.{out-Memo};
@@ -48,7 +49,8 @@ fn laid_kids(alloc: Global, node: &Node, memo: &Memo, entry: &Entry) -> Result<L
     requires agrees { AgreesWithSome node.now memo.now }
     requires few { element_count node.now ≤ 65_536 }
     requires has { HasEntry (out-Memo memo.now) entry.now }
-    ensures { IfOk result (λ kids. (m : MetricsValue) → Agrees m node.now memo.now → kids ≡ kids_laid m node.now (entry.now.ones ++ entry.now.twos)) }
+    ensures { IfOk result (λ kids. (m : MetricsValue) → Agrees m node.now memo.now →
+        kids ≡ kids_laid m node.now (questions_in entry.now.one ++ questions_in entry.now.two)) }
 {
     let kids = kept_kids(alloc, node, memo, entry)?;
     let mut all = List::make(alloc);
@@ -70,7 +72,7 @@ pub fn kept_kids<'a>(
     requires has { HasEntry (out-Memo memo.now) entry.now }
     ensures kept { IfOk result (λ kids. AreKids node.now memo.now kids.items) }
     ensures laid { IfOk result (λ kids. (m : MetricsValue) → Agrees m node.now memo.now →
-        map (laid_kid m) kids.items ≡ kids_laid m node.now (entry.now.ones ++ entry.now.twos)) }
+        map (laid_kid m) kids.items ≡ kids_laid m node.now (questions_in entry.now.one ++ questions_in entry.now.two)) }
 {
     let facts = facts_below(alloc, memo.below.as_slice())?;
     let view = NodeView::make(alloc, node, memo.facts, &facts)?;

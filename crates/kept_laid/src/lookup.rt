@@ -6,7 +6,7 @@ ghost use Rattle.kept_results.specs.Kept.{Agrees, HasEntry, IsKept, is_live, is_
 ghost use Rattle.kept_results.specs.declared.memo.Memo.TheViews.{out-Memo};
 
 use fixed_units::MathBox;
-use kept_results::{Entry, Memo, is_same};
+use kept_results::{Entry, Memo};
 use layout_model::{Answer, Context};
 
 /// The answer that is kept of the root of a tree in a context. It takes no memory.
@@ -44,7 +44,7 @@ fn serves(memo: &Memo, entry: &Entry, context: &Context) -> bool
     ensures yes { result ≡ true → (is_live (is_marked (out-Memo memo.now)) entry.now ≡ true) × (entry.now.context ≡ context.now) }
     ensures no { result ≡ false → is_live (is_marked (out-Memo memo.now)) entry.now ≡ true → entry.now.context ≡ context.now → ⊥ }
 {
-    is_live(memo, entry) && is_same(&entry.context, context)
+    is_live(memo, entry) && entry.context.is_same(context)
 }
 
 /// Whether an entry of an element is no older one.

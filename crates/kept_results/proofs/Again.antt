@@ -15,6 +15,7 @@ use Rattle.math_tree.specs.declared.node.Node.TheViews.{out-Node}
 use Rattle.embellished.specs.Seen.{Child, HasChild, Seen, flow_children, flow_nodes, seen_of}
 use Rattle.style_scope.specs.Sizes.{size_of}
 use Rattle.embellished.proofs.InFlow.{among, shown}
+use Rattle.layout_model.specs.Answers.{answers_in, questions_in}
 use Rattle.layout_model.specs.Laws.{answer_of, visits_below}
 use Rattle.layout_model.specs.Fits.{AreAnswers, HasStyle}
 use Rattle.layout_model.specs.Layout.{equation, in_range, lay, visit_fits}
@@ -24,17 +25,19 @@ use Rattle.layout_model.specs.declared.context.Context.{Context}
 use Rattle.layout_model.specs.declared.context.Question.{Question}
 use Rattle.layout_model.specs.declared.outcome.Answer.{Answer}
 use Rattle.layout_model.specs.declared.outcome.Outcome.{Outcome}
+use Rattle.layout_model.specs.declared.reply.Reply.{Reply}
 use Rattle.layout_model.proofs.Made.{answer_of_child}
 use Rattle.layout_model.proofs.Places.{first_below}
-use Rattle.layout_core.proofs.Children.{few_children, in_flow}
-use Rattle.layout_core.proofs.Fits.{answers_are as answers_are_stored}
-use Rattle.layout_core.proofs.Waves.{all_fit, broken, fits_below}
-use Rattle.layout_core.proofs.Whole.{ones_false, range_waves}
+use Rattle.layout_model.proofs.Replies.{answer_there, answers_set, as_many, asked_within, question_there, question_was, questions_set}
+use Rattle.layout_model.proofs.Children.{few_children, in_flow}
+use Rattle.layout_model.proofs.Fits.{answers_are as answers_are_stored}
+use Rattle.layout_model.proofs.Waves.{all_fit, broken, fits_below}
+use Rattle.layout_model.proofs.Whole.{ones_false, range_waves}
 use Rattle.child_questions.proofs.Unstretched.{one_wave}
 use Rattle.kept_results.specs.Contexts.{IsProper, Suits}
 use Rattle.kept_results.specs.Ends.{undone, undone_from}
 use Rattle.kept_results.specs.Kept.{Agrees, IsKept, IsMemoOf, IsMissing, IsSound, Keeps, NamesKept, StaysBut, is_fresh, is_live, is_marked}
-use Rattle.kept_results.specs.Looking.{IsEarlier, IsEntryOf, IsMadeAgain, one_at, ones_at, remade, turned}
+use Rattle.kept_results.specs.Looking.{IsEarlier, IsEntryOf, IsMadeAgain, one_at, remade, turned}
 use Rattle.kept_results.specs.Passes.{AnswersNeed, Needs, Pair, Passes}
 use Rattle.kept_results.specs.Regular.{IsRegular, IsShownBy, restyled, restyled_at}
 use Rattle.kept_results.specs.Tidy.{AreTidy, IsTidy}
@@ -44,7 +47,6 @@ use Rattle.kept_results.specs.declared.memo.Entry.{Entry}
 use Rattle.kept_results.specs.declared.memo.Former.{Former}
 use Rattle.kept_results.specs.declared.memo.Origin.{Origin}
 use Rattle.kept_results.specs.declared.memo.Origin.TheVariants.{Standing}
-use Rattle.kept_results.specs.declared.memo.Said.{Said}
 use Rattle.kept_results.specs.declared.memo.Memo.TheOpen.{Memo-F}
 use Rattle.kept_results.specs.declared.memo.Memo.TheViews.{out-Memo, out-roll-Memo, roll-Memo}
 use Rattle.kept_results.proofs.Agreement.{agrees_child, has_put, names_renewed, renewed}
@@ -119,8 +121,8 @@ module _ (m : MetricsValue) (node : Node) (memo : Memo) (context : Context) (bef
   pub stays : StaysBut m node (out-Memo memo).below before.child b.entry
   stays = own.stays before.child b.alike before.entry b.entry b.at b.serves.older b.serves.regular
 
-  pub still_regular : IsRegular m node context b.entry.ones
-  still_regular = subst (λ (c : Context). IsRegular m node c b.entry.ones) b.serves.in_context stays.regular
+  pub still_regular : IsRegular m node context (questions_in b.entry.one)
+  still_regular = subst (λ (c : Context). IsRegular m node c (questions_in b.entry.one)) b.serves.in_context stays.regular
 
   pub shown_by : (other : Memo) → Agrees m node other → element_count node ≤ 65_536 → IsShownBy other node
   shown_by other agrees few = record {
@@ -134,21 +136,30 @@ module _ (m : MetricsValue) (node : Node) (memo : Memo) (context : Context) (bef
   pub still_sized : is_font_size (size_of m context.style) ≡ true
   still_sized = ap (λ (c : Context). is_font_size (size_of m c.style)) (sym b.serves.in_context) ∙ stays.sized
 
-  pub asks_are : map restyle b.entry.ones ≡ first m (seen_of node) context
+  pub asks_are : map restyle (questions_in b.entry.one) ≡ first m (seen_of node) context
   asks_are =
-      ap (λ (c : Context). map (restyled_at m (seen_of node) c before.child) b.entry.ones) (sym b.serves.in_context)
+      ap (λ (c : Context). map (restyled_at m (seen_of node) c before.child) (questions_in b.entry.one)) (sym b.serves.in_context)
       ∙ sym stays.ones ∙ ap (first m (seen_of node)) b.serves.in_context
 
-  module _ (asks : List Question) (o : asks ≡ map restyle b.entry.ones) where
-    pub as_many_asks : length asks ≡ length b.entry.ones
-    as_many_asks = ap length o ∙ length-map b.entry.ones restyle
+  -- what another child was asked and answered holds still
+  still_other : (i : ℕ) (q : Question) (answer : Answer) → slice_get (questions_in b.entry.one) i ≡ Some q → slice_get (answers_in b.entry.one) i ≡ Some answer
+      → (i ≡ before.child → ⊥) → (answer ≡ answer_of m node q) × NamesKept node (out-Memo memo).below q
+  still_other i q answer q_at answer_at apart =
+      let r = question_was b.entry.one i q q_at in
+      let holds = stays.others i r.0 r.1 apart in
+      let told : answer ≡ r.0.answer = same_Some answer r.0.answer (sym answer_at ∙ answer_there b.entry.one i r.0 r.1) in
+      (told ∙ holds.0 ∙ ap (answer_of m node) (sym r.2), subst (NamesKept node (out-Memo memo).below) (sym r.2) holds.1)
+
+  module _ (asks : List Question) (o : asks ≡ map restyle (questions_in b.entry.one)) where
+    pub as_many_asks : length asks ≡ length (questions_in b.entry.one)
+    as_many_asks = ap length o ∙ length-map (questions_in b.entry.one) restyle
 
     pub first_is : asks ≡ first m (seen_of node) context
     first_is = o ∙ asks_are
 
     -- a question was asked before
-    asked_at : (i : ℕ) (question : Question) → slice_get asks i ≡ Some question → (q : Question) × (slice_get b.entry.ones i ≡ Some q) × (question ≡ restyle q)
-    asked_at i question at = map_was restyle b.entry.ones i question (ap (λ (l : List Question). slice_get l i) (sym o) ∙ at)
+    asked_at : (i : ℕ) (question : Question) → slice_get asks i ≡ Some question → (q : Question) × (slice_get (questions_in b.entry.one) i ≡ Some q) × (question ≡ restyle q)
+    asked_at i question at = map_was restyle (questions_in b.entry.one) i question (ap (λ (l : List Question). slice_get l i) (sym o) ∙ at)
 
     pub kid_is : (i : ℕ) (question : Question) → slice_get asks i ≡ Some question → question.kid ≡ i
     kid_is i question at =
@@ -163,7 +174,7 @@ module _ (m : MetricsValue) (node : Node) (memo : Memo) (context : Context) (bef
         omega (arith, below, kid_is i question at, as_many_kids node still_regular.all)
 
     pub within_asks : before.child < length asks
-    within_asks = let w = b.serves.within in omega (arith, w, as_many_asks)
+    within_asks = let w = asked_within b.entry.one before.child b.serves.within in omega (arith, w, as_many_asks)
 
     pub near_child : before.child < length (out-Node node).children
     near_child = let q = there_is asks before.child within_asks in near before.child q.0 q.1
@@ -181,12 +192,13 @@ module _ (m : MetricsValue) (node : Node) (memo : Memo) (context : Context) (bef
     -- ---- with the answer of one child
     module _ (question : Question) (asked : slice_get asks before.child ≡ Some question) (child : Node) (there : slice_get (out-Node node).children before.child ≡ Some child)
         (old new : Memo) (at : slice_get (out-Memo memo).below before.child ≡ Some old) (keeps : Keeps old new) where
-      pub answers_are : (answer : Answer) → answer ≡ (lay m child question.context).answer → set b.entry.one before.child answer ≡ map (answer_of m node) asks
+      pub answers_are : (answer : Answer) → answer ≡ (lay m child question.context).answer → set (answers_in b.entry.one) before.child answer ≡ map (answer_of m node) asks
       answers_are answer e =
-          let long : length (set b.entry.one before.child answer) ≡ length asks = length-set b.entry.one before.child answer ∙ stays.as_many ∙ sym as_many_asks in
-          mapped_at (answer_of m node) (set b.entry.one before.child answer) asks long
+          let long : length (set (answers_in b.entry.one) before.child answer) ≡ length asks =
+          length-set (answers_in b.entry.one) before.child answer ∙ as_many b.entry.one ∙ sym as_many_asks in
+          mapped_at (answer_of m node) (set (answers_in b.entry.one) before.child answer) asks long
           (λ i y q y_at q_at.
-          elim (set_other b.entry.one before.child i answer y y_at) [
+          elim (set_other (answers_in b.entry.one) before.child i answer y y_at) [
             | inl p ↦ (
                 let same : question ≡ q = same_Some question q (sym asked ∙ ap (slice_get asks) (sym p.0) ∙ q_at) in
                 p.1 ∙ e ∙ sym (answer_of_child m node question record { place = before.child; node = child } (goes_to before.child question child asked there))
@@ -196,7 +208,7 @@ module _ (m : MetricsValue) (node : Node) (memo : Memo) (context : Context) (bef
                 let was = asked_at i q q_at in
                 let other : was.0.kid ≡ before.child → ⊥ = λ z. k.0 (sym (still_regular.in_order i was.0 was.1) ∙ z) in
                 let same : q ≡ was.0 = was.2 ∙ other_stays m (seen_of node) context before.child was.0 other in
-                (stays.others i was.0 y was.1 k.1 k.0).0 ∙ ap (answer_of m node) (sym same)
+                (still_other i was.0 y was.1 k.1 k.0).0 ∙ ap (answer_of m node) (sym same)
                 )
           ])
 
@@ -214,12 +226,12 @@ module _ (m : MetricsValue) (node : Node) (memo : Memo) (context : Context) (bef
           }
       name_at kept i q q_at (inr other) =
           let was = asked_at i q q_at in
-          let l = stays.as_many in
-          let a = there_is b.entry.one i (omega (arith, l, slice_get_within b.entry.ones i was.0 was.1)) in
+          let l = as_many b.entry.one in
+          let a = there_is (answers_in b.entry.one) i (omega (arith, l, slice_get_within (questions_in b.entry.one) i was.0 was.1)) in
           let apart : was.0.kid ≡ before.child → ⊥ = λ z. other (sym (still_regular.in_order i was.0 was.1) ∙ z) in
           let same : q ≡ was.0 = was.2 ∙ other_stays m (seen_of node) context before.child was.0 apart in
           names_renewed memo before.child old new at keeps node q
-          (subst (NamesKept node (out-Memo memo).below) (sym same) (stays.others i was.0 a.0 was.1 a.1 other).1)
+          (subst (NamesKept node (out-Memo memo).below) (sym same) (still_other i was.0 a.0 was.1 a.1 other).1)
 
       same_place : (i : ℕ) → (i ≡ before.child) ⊎ (i ≡ before.child → ⊥)
       same_place i = elim (eqb_tells i before.child) [ inl p ↦ inl p.1 | inr q ↦ inr q.1 ]
@@ -240,7 +252,7 @@ module _ (m : MetricsValue) (node : Node) (memo : Memo) (context : Context) (bef
             (passes_under m node memo before.child (AnswersNeed m node asks) h there at need made)
 
       -- both waves, where it is done
-      module _ (answer : Answer) (e : answer ≡ (lay m child question.context).answer) (one : List Answer) (one_is : one ≡ set b.entry.one before.child answer)
+      module _ (answer : Answer) (e : answer ≡ (lay m child question.context).answer) (one : List Answer) (one_is : one ≡ set (answers_in b.entry.one) before.child answer)
           (now : Agrees m node (roll-Memo (renewed memo before.child new))) (kept : IsKept (out-Memo new) question.context) where
         pub named_again : AllByRecursion (NamesKept node (out-Memo (roll-Memo (renewed memo before.child new))).below) asks
         named_again =
@@ -300,40 +312,41 @@ module _ (m : MetricsValue) (node : Node) (memo : Memo) (context : Context) (bef
 
   -- ---- the question to the child on the way, once more
 
-  module _ (was asked : Question) (was_at : slice_get b.entry.ones before.child ≡ Some was) (is : asked ≡ restyled m (seen_of node) context was) where
-    restyled_here : (i : ℕ) (q : Question) → slice_get b.entry.ones i ≡ Some q → i ≡ before.child → restyle q ≡ asked
+  module _ (was asked : Question) (was_at : slice_get (questions_in b.entry.one) before.child ≡ Some was) (is : asked ≡ restyled m (seen_of node) context was) where
+    restyled_here : (i : ℕ) (q : Question) → slice_get (questions_in b.entry.one) i ≡ Some q → i ≡ before.child → restyle q ≡ asked
     restyled_here i q at e =
         let own : q.kid ≡ before.child = still_regular.in_order i q at ∙ e in
-        let same : q ≡ was = same_Some q was (sym at ∙ ap (slice_get b.entry.ones) e ∙ was_at) in
+        let same : q ≡ was = same_Some q was (sym at ∙ ap (slice_get (questions_in b.entry.one)) e ∙ was_at) in
         ap (λ (t : Bool). cond t (restyled m (seen_of node) context q) q) (eq-eqb q.kid before.child own)
         ∙ ap (restyled m (seen_of node) context) same ∙ sym is
 
-    restyled_there : (i : ℕ) (q : Question) → slice_get b.entry.ones i ≡ Some q → (i ≡ before.child → ⊥) → restyle q ≡ q
+    restyled_there : (i : ℕ) (q : Question) → slice_get (questions_in b.entry.one) i ≡ Some q → (i ≡ before.child → ⊥) → restyle q ≡ q
     restyled_there i q at other = other_stays m (seen_of node) context before.child q (λ e. other (sym (still_regular.in_order i q at) ∙ e))
 
-    pub asks_are_set : set b.entry.ones before.child asked ≡ map restyle b.entry.ones
+    pub asks_are_set : set (questions_in b.entry.one) before.child asked ≡ map restyle (questions_in b.entry.one)
     asks_are_set =
-        mapped_at restyle (set b.entry.ones before.child asked) b.entry.ones (length-set b.entry.ones before.child asked)
+        mapped_at restyle (set (questions_in b.entry.one) before.child asked) (questions_in b.entry.one) (length-set (questions_in b.entry.one) before.child asked)
         (λ i y q y_at q_at.
-        elim (set_other b.entry.ones before.child i asked y y_at) [
+        elim (set_other (questions_in b.entry.one) before.child i asked y y_at) [
           | inl p ↦ p.1 ∙ sym (restyled_here i q q_at p.0)
           | inr k ↦ same_Some y q (sym k.1 ∙ q_at) ∙ sym (restyled_there i q q_at k.0)
         ])
 
-    pub asked_there : slice_get (set b.entry.ones before.child asked) before.child ≡ Some asked
-    asked_there = set_here b.entry.ones before.child asked was was_at
+    pub asked_there : slice_get (set (questions_in b.entry.one) before.child asked) before.child ≡ Some asked
+    asked_there = set_here (questions_in b.entry.one) before.child asked was was_at
 
-    pub styles_again : HasStyle asked → All HasStyle (set b.entry.ones before.child asked)
-    styles_again style = All-set HasStyle b.entry.ones before.child asked style stays.styled
+    pub styles_again : HasStyle asked → All HasStyle (set (questions_in b.entry.one) before.child asked)
+    styles_again style = All-set HasStyle (questions_in b.entry.one) before.child asked style stays.styled
 
-  pub was_near : (was : Question) → slice_get b.entry.ones before.child ≡ Some was → was.kid < length (seen_of node).kids
+  pub was_near : (was : Question) → slice_get (questions_in b.entry.one) before.child ≡ Some was → was.kid < length (seen_of node).kids
   was_near was at =
-      let near = near_kids (map restyle b.entry.ones) refl in
+      let near = near_kids (map restyle (questions_in b.entry.one)) refl in
       omega (arith, near, still_regular.in_order before.child was at)
 
-  pub was_here : (list : List Question) (entry : Entry) (was : Question) → list ≡ entry.ones → entry ≡ b.entry → was ≡ get_or list before.child was
-      → slice_get b.entry.ones before.child ≡ Some was
-  was_here list entry was e f is = read_at list b.entry.ones before.child was (e ∙ ap (λ (x : Entry). x.ones) f) b.serves.within is
+  pub was_here : (list : List Reply) (entry : Entry) (was : Reply) → list ≡ entry.one → entry ≡ b.entry → was ≡ get_or list before.child was
+      → slice_get (questions_in b.entry.one) before.child ≡ Some was.question
+  was_here list entry was e f is =
+      question_there b.entry.one before.child was (read_at list b.entry.one before.child was (e ∙ ap (λ (x : Entry). x.one) f) b.serves.within is)
 
   marked : is_marked (out-Memo memo) ≡ true
   marked = by (out-Memo memo).former b.alike
@@ -354,27 +367,33 @@ module _ (m : MetricsValue) (node : Node) (memo : Memo) (context : Context) (bef
     pub near_entry : before.entry < length (out-Memo now).entries
     near_entry = slice_get_within (out-Memo now).entries before.entry b.entry entry_now
 
-    pub ones_now : ones_at (out-Memo now) before.entry ≡ b.entry.ones
-    ones_now = ap (λ (o : Option Entry). option_map_or (λ (e : Entry). e.ones) o []) entry_now
-
     pub one_now : one_at (out-Memo now) before.entry ≡ b.entry.one
     one_now = ap (λ (o : Option Entry). option_map_or (λ (e : Entry). e.one) o []) entry_now
 
-    module _ (after : Memo) (outcome : Outcome) (said : Said) (made : IsMadeAgain now after before outcome said) where
+    module _ (asked : Question) (answer : Answer) where
+      abbrev pub reply : Reply
+      reply = record { question = asked; answer = answer }
+
+      -- what is asked and answered with this reply
+      pub asked_now : questions_in (set (one_at (out-Memo now) before.entry) before.child reply) ≡ set (questions_in b.entry.one) before.child asked
+      asked_now = ap (λ (l : List Reply). questions_in (set l before.child reply)) one_now ∙ questions_set b.entry.one before.child reply
+
+      pub told_now : answers_in (set (one_at (out-Memo now) before.entry) before.child reply) ≡ set (answers_in b.entry.one) before.child answer
+      told_now = ap (λ (l : List Reply). answers_in (set l before.child reply)) one_now ∙ answers_set b.entry.one before.child reply
+
+    module _ (after : Memo) (outcome : Outcome) (reply : Reply) (made : IsMadeAgain now after before outcome reply) where
       abbrev pub entry_made : Entry
-      entry_made = remade (turned made.entry before.child said) outcome before.child made.had
+      entry_made = remade (turned made.entry before.child reply) outcome before.child made.had
 
       pub was_entry : made.entry ≡ b.entry
       was_entry = same_Some made.entry b.entry (sym made.at ∙ entry_now)
 
-      pub made_holds : IsEntryOf entry_made context outcome
-          record { ones = set b.entry.ones before.child said.asked; one = set b.entry.one before.child said.answer; twos = []; regular = true }
+      pub made_holds : IsEntryOf entry_made context outcome record { one = set b.entry.one before.child reply; two = []; regular = true }
       made_holds = record {
         stores = refl;
         in_context = ap (λ (e : Entry). e.context) was_entry ∙ b.serves.in_context;
-        ones_are = ap (λ (e : Entry). set e.ones before.child said.asked) was_entry;
-        one_is = ap (λ (e : Entry). set e.one before.child said.answer) was_entry;
-        twos_are = ap (λ (e : Entry). e.twos) was_entry ∙ stays.twos;
+        one_is = ap (λ (e : Entry). set e.one before.child reply) was_entry;
+        two_is = ap (λ (e : Entry). e.two) was_entry ∙ stays.two;
         regular_is = ap (λ (e : Entry). e.regular) was_entry ∙ b.serves.regular;
       }
 
@@ -386,9 +405,8 @@ module _ (m : MetricsValue) (node : Node) (memo : Memo) (context : Context) (bef
           (λ i. record {
             context = made.entry.context;
             outcome = made.entry.outcome;
-            ones = set_back made.entry.ones before.child said.asked made.had.asked made.has_said.asked i;
-            one = set_back made.entry.one before.child said.answer made.had.answer made.has_said.answer i;
-            twos = made.entry.twos;
+            one = set_back made.entry.one before.child reply made.had made.has i;
+            two = made.entry.two;
             regular = made.entry.regular;
             origin = sym stood i;
           } ∷ [])
@@ -406,7 +424,7 @@ module _ (m : MetricsValue) (node : Node) (memo : Memo) (context : Context) (bef
       put_again from to agrees sound missing need step =
           subst (λ (z : Memo). Passes m node (Needs m node context) now z from to true) (sym made.changed)
           (passes_put m node (Needs m node context) now before.entry made.entry entry_made context from to agrees made.at was_older same_before sound
-          (missing_again (map restyle b.entry.ones) refl before.child new missing) made_holds.in_context refl need step)
+          (missing_again (map restyle (questions_in b.entry.one)) refl before.child new missing) made_holds.in_context refl need step)
 
       pub kept_again : IsKept (out-Memo after) context
       kept_again =
@@ -424,12 +442,12 @@ module _ (m : MetricsValue) (node : Node) (memo : Memo) (context : Context) (bef
 
 module _ (m : MetricsValue) (node : Node) (memo : Memo) (context : Context) (before : Earlier) (h : Agrees m node memo) (b : IsEarlier (out-Memo memo) context before)
     (few : element_count node ≤ 65_536) (suits : Suits m node context)
-    (was asked : Question) (was_at : slice_get b.entry.ones before.child ≡ Some was) (is : asked ≡ restyled m (seen_of node) context was) (style : HasStyle asked)
+    (was asked : Question) (was_at : slice_get (questions_in b.entry.one) before.child ≡ Some was) (is : asked ≡ restyled m (seen_of node) context was) (style : HasStyle asked)
     (child : Node) (there : slice_get (out-Node node).children before.child ≡ Some child) (old new : Memo) (at : slice_get (out-Memo memo).below before.child ≡ Some old) where
   abbrev asks : List Question
-  asks = set b.entry.ones before.child asked
+  asks = set (questions_in b.entry.one) before.child asked
 
-  o : asks ≡ map (restyled_at m (seen_of node) context before.child) b.entry.ones
+  o : asks ≡ map (restyled_at m (seen_of node) context before.child) (questions_in b.entry.one)
   o = asks_are_set m node memo context before h b was asked was_at is
 
   own_ask : slice_get asks before.child ≡ Some asked
@@ -463,7 +481,7 @@ module _ (m : MetricsValue) (node : Node) (memo : Memo) (context : Context) (bef
   module _ (from mid : ℕ) (pass : Passes m child (Needs m child asked.context) old new from mid true)
       (answer : Answer) (e : answer ≡ (lay m child asked.context).answer) (kept : IsKept (out-Memo new) asked.context) where
     abbrev answers : List Answer
-    answers = set b.entry.one before.child answer
+    answers = set (answers_in b.entry.one) before.child answer
 
     abbrev below_now : List Memo
     below_now = (out-Memo (now m node memo context before h b new)).below
@@ -501,15 +519,18 @@ module _ (m : MetricsValue) (node : Node) (memo : Memo) (context : Context) (bef
 
     -- the entry is made anew
     module _ (after : Memo) (outcome : Outcome) (out_is : outcome ≡ equation m (seen_of node) context answers [])
-        (made : IsMadeAgain (now m node memo context before h b new) after before outcome record { asked = asked; answer = answer }) where
+        (made : IsMadeAgain (now m node memo context before h b new) after before outcome record { question = asked; answer = answer }) where
       pub passed_all : (to : ℕ) → outcome_fits outcome ≡ true
           → IsMissing (is_marked (out-Memo memo)) context (out-Memo memo).entries → to ≡ mid + 1 → Passes m node (Needs m node context) memo after from to true
       passed_all to fits missing step =
-          let entry = entry_made m node memo context before h b new after outcome record { asked = asked; answer = answer } made in
-          let holds = made_holds m node memo context before h b new after outcome record { asked = asked; answer = answer } made in
+          let said : Reply = record { question = asked; answer = answer } in
+          let entry = entry_made m node memo context before h b new after outcome said made in
+          let holds = made_holds m node memo context before h b new after outcome said made in
           let sound : IsSound m node below_now entry =
-          sound_made waves below_now entry outcome true holds out_is suits (fit (ap outcome_fits (sym out_is) ∙ fits)) styles named tt
+          sound_made waves below_now entry outcome true (set b.entry.one before.child said) []
+          (questions_set b.entry.one before.child said) (answers_set b.entry.one before.child said) refl refl
+          holds out_is suits (fit (ap outcome_fits (sym out_is) ∙ fits)) styles named tt
           (λ _. regular_again m node memo context before h b asks o) in
           passes_both m (passed_child from mid true pass)
-          (put_again m node memo context before h b new after outcome record { asked = asked; answer = answer } made mid to agrees sound missing
+          (put_again m node memo context before h b new after outcome said made mid to agrees sound missing
           record { element = node; made = (refl, refl) } step)

@@ -4,6 +4,7 @@ use Rattle.std.proofs.lemmas.Option.{none-some, same_Some}
 use Rattle.font_metrics.specs.Metrics.{MetricsValue}
 use Rattle.math_tree.specs.declared.node.Node.{Node}
 use Rattle.math_tree.specs.declared.node.Node.TheViews.{out-Node}
+use Rattle.layout_model.specs.Answers.{questions_in}
 use Rattle.layout_model.specs.declared.context.Context.{Context}
 use Rattle.layout_model.specs.declared.context.Question.{Question}
 use Rattle.kept_results.specs.Kept.{Agrees, AreApart, HasEntry, Holds, HoldsIn, HoldsOne, IsKept, IsMemoOf, IsMissing, IsSound, Keeps, NamesKept, StandAt, is_fresh, is_live, is_marked}
@@ -194,9 +195,10 @@ module _ (m : MetricsValue) where
               ones = s.ones;
               one = s.one;
               twos = s.twos;
+              two = s.two;
               styled = s.styled;
-              ones_kept = move entry.ones s.ones_kept;
-              twos_kept = move entry.twos s.twos_kept;
+              ones_kept = move (questions_in entry.one) s.ones_kept;
+              twos_kept = move (questions_in entry.two) s.twos_kept;
               regular = s.regular;
             };
         apart = here.apart;
@@ -207,11 +209,10 @@ module _ (m : MetricsValue) where
               sized = s.sized;
               ones = s.ones;
               styled = s.styled;
-              twos = s.twos;
-              as_many = s.as_many;
-              others = λ index question answer x y other.
-                  let k = s.others index question answer x y other in
-                  (k.0, names_renewed memo place old new at keeps node question k.1);
+              two = s.two;
+              others = λ index reply x other.
+                  let k = s.others index reply x other in
+                  (k.0, names_renewed memo place old new at keeps node reply.question k.1);
             };
       } in
       agrees_made node (renewed memo place new) own (λ j kid kept f g.

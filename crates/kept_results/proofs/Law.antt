@@ -9,6 +9,7 @@ use Rattle.math_tree.specs.declared.node.Node.TheViews.{out-Node}
 use Rattle.math_tree.proofs.Nodes.{by_children}
 use Rattle.embellished.specs.Seen.{Child, flow_children}
 use Rattle.embellished.proofs.InFlow.{among}
+use Rattle.layout_model.specs.Answers.{questions_in}
 use Rattle.layout_model.specs.Laws.{answer_of}
 use Rattle.layout_model.specs.Layout.{lay}
 use Rattle.layout_model.specs.declared.context.Context.{Context}
@@ -16,7 +17,7 @@ use Rattle.layout_model.specs.declared.context.Question.{Question}
 use Rattle.layout_model.specs.declared.outcome.Answer.{Answer}
 use Rattle.layout_model.specs.declared.outcome.Outcome.{Outcome}
 use Rattle.layout_model.proofs.Made.{answer_of_child}
-use Rattle.layout_core.proofs.Whole.{lay_waves}
+use Rattle.layout_model.proofs.Whole.{lay_waves}
 use Rattle.kept_results.specs.Closed.{ClosedLaw, IsClosed, IsReached, NamesAnswer}
 use Rattle.kept_results.specs.Kept.{Stores}
 use Rattle.kept_results.specs.declared.memo.Entry.{Entry}
@@ -50,7 +51,7 @@ module _ (m : MetricsValue) where
 
     module _ (memo : Memo) (entry : Entry) (closed : AllClosed node memo entry) where
       -- the answer of a question is that of the child's layout
-      answer_is : (question : Question) (answer : Answer) → Contains (entry.ones ++ entry.twos) question → NamesAnswer node (out-Memo memo).below question answer
+      answer_is : (question : Question) (answer : Answer) → Contains (questions_in entry.one ++ questions_in entry.two) question → NamesAnswer node (out-Memo memo).below question answer
           → answer ≡ answer_of m node question
       answer_is question answer asked h =
           let next = of_child h.child question.kid h.names.to h.memo h.entry
@@ -60,7 +61,7 @@ module _ (m : MetricsValue) where
           ∙ ap (λ (c : Context). (lay m h.child.node c).answer) h.names.in_context
           ∙ sym (answer_of_child m node question h.child h.names.to)
 
-      answers_are : (asks : List Question) (answers : List Answer) → ((question : Question) → Contains asks question → Contains (entry.ones ++ entry.twos) question)
+      answers_are : (asks : List Question) (answers : List Answer) → ((question : Question) → Contains asks question → Contains (questions_in entry.one ++ questions_in entry.two) question)
           → AllZip (NamesAnswer node (out-Memo memo).below) asks answers → answers ≡ map (answer_of m node) asks
       answers_are [] [] within h = refl
       answers_are [] (answer ∷ answers) within h = absurd h
@@ -73,9 +74,9 @@ module _ (m : MetricsValue) where
       keeps_layout : Stores entry (lay m node entry.context)
       keeps_layout =
           let own = closed [] node memo entry (refl, refl, refl) in
-          let ones = answers_are entry.ones own.one (λ q c. Contains-append_left entry.ones entry.twos q c) own.one_named in
-          let twos = answers_are entry.twos own.two (λ q c. Contains-append_right entry.ones entry.twos q c) own.two_named in
-          subst (Stores entry) (lay_waves m node node entry.context refl entry.ones own.ones own.one ones entry.twos own.twos own.two twos) own.stores
+          let ones = answers_are (questions_in entry.one) own.one (λ q c. Contains-append_left (questions_in entry.one) (questions_in entry.two) q c) own.one_named in
+          let twos = answers_are (questions_in entry.two) own.two (λ q c. Contains-append_right (questions_in entry.one) (questions_in entry.two) q c) own.two_named in
+          subst (Stores entry) (lay_waves m node node entry.context refl (questions_in entry.one) own.ones own.one ones (questions_in entry.two) own.twos own.two twos) own.stores
 
   all_keep : (node : Node) → KeepsLayouts node
   all_keep = by_children KeepsLayouts keeps_layout

@@ -8,6 +8,7 @@ use Rattle.font_metrics.specs.Metrics.{MetricsValue}
 use Rattle.math_tree.specs.declared.node.Node.{Node}
 use Rattle.layout_model.specs.declared.context.Context.{Context}
 use Rattle.layout_model.specs.declared.context.Question.{Question}
+use Rattle.layout_model.specs.Answers.{questions_in}
 use Rattle.kept_results.specs.Ends.{all_undone, sealed, settled, settled_all, stripped}
 use Rattle.kept_results.specs.Kept.{Agrees, AreApart, HasEntry, Holds, HoldsIn, IsMemoOf, IsMissing, IsSound, NamesKept, StandAt, is_live, is_marked}
 use Rattle.kept_results.specs.Laws.{SealLaw, WasHeld, is_unmarked, unmarked_layer}
@@ -130,9 +131,10 @@ module _ (m : MetricsValue) where
           ones = s.ones;
           one = s.one;
           twos = s.twos;
+          two = s.two;
           styled = s.styled;
-          ones_kept = names r.former.ones s.ones_kept;
-          twos_kept = names r.former.twos s.twos_kept;
+          ones_kept = names (questions_in r.former.one) s.ones_kept;
+          twos_kept = names (questions_in r.former.two) s.twos_kept;
           regular = s.regular;
         } in
         subst (IsSound m node (sealed_over layer).below) (sym r.is) is;

@@ -182,9 +182,8 @@ pub settled_same : (entry : Entry) → is_fresh entry ≡ false → settled entr
 settled_same entry h = λ i. record {
   context = entry.context;
   outcome = entry.outcome;
-  ones = entry.ones;
   one = entry.one;
-  twos = entry.twos;
+  two = entry.two;
   regular = entry.regular;
   origin = sym (stands entry.origin h) i;
 }

@@ -8,6 +8,7 @@ use Rattle.font_metrics.specs.Metrics.{MetricsValue}
 use Rattle.math_tree.specs.declared.node.Node.{Node}
 use Rattle.embellished.specs.Seen.{Child, HasChild, flow_children, kid_of, seen_of}
 use Rattle.style_scope.specs.Sizes.{size_of}
+use Rattle.layout_model.specs.Answers.{answers_in, questions_in}
 use Rattle.layout_model.specs.Fits.{AreAnswers, HasStyle}
 use Rattle.layout_model.specs.Laws.{answer_of}
 use Rattle.layout_model.specs.Layout.{equation, in_range, lay, questions}
@@ -19,10 +20,11 @@ use Rattle.layout_model.specs.declared.context.Context.{Context}
 use Rattle.layout_model.specs.declared.context.Question.{Question}
 use Rattle.layout_model.specs.declared.outcome.Answer.{Answer}
 use Rattle.layout_model.specs.declared.outcome.Outcome.{Outcome}
+use Rattle.layout_model.specs.declared.reply.Reply.{Reply}
 use Rattle.layout_model.proofs.Alike.{handed_down}
 use Rattle.layout_model.proofs.Made.{answer_of_child}
-use Rattle.layout_core.proofs.Waves.{all_fit}
-use Rattle.layout_core.proofs.Whole.{and_true, fits_true, first_false, lay_waves, ones_below, ones_stored, outcome_false, range_waves, twos_below, twos_stored}
+use Rattle.layout_model.proofs.Waves.{all_fit}
+use Rattle.layout_model.proofs.Whole.{and_true, fits_true, first_false, lay_waves, ones_below, ones_stored, outcome_false, range_waves, twos_below, twos_stored}
 use Rattle.embellished.specs.Facts.{facts}
 use Rattle.math_tree.specs.declared.node.Node.TheViews.{out-Node}
 use Rattle.kept_results.specs.Contexts.{IsProper, Suits}
@@ -227,28 +229,32 @@ module _ {m : MetricsValue} {node shown : Node} {context : Context} {ones twos :
       (outcome_false (is_font_size (size_of m context.style)) (outcome_fits (lay m node context)) (ap outcome_fits (sym waves_lay) ∙ fit))
 
   -- the entry that is kept then is sound
-  pub sound_made : (below : List Memo) (entry : Entry) (outcome : Outcome) (regular : Bool)
-      → IsEntryOf entry context outcome record { ones = ones; one = one; twos = twos; regular = regular }
+  pub sound_made : (below : List Memo) (entry : Entry) (outcome : Outcome) (regular : Bool) (said told : List Reply)
+      → questions_in said ≡ ones → answers_in said ≡ one → questions_in told ≡ twos → answers_in told ≡ two
+      → IsEntryOf entry context outcome record { one = said; two = told; regular = regular }
       → outcome ≡ equation m (seen_of shown) context one two
       → Suits m node context → in_range m node context ≡ true → All HasStyle ones
       → AllByRecursion (NamesKept node below) ones → AllByRecursion (NamesKept node below) twos
       → (regular ≡ true → IsRegular m node context ones) → IsSound m node below entry
-  sound_made below entry outcome regular kept is suits fits styles h k same =
+  sound_made below entry outcome regular said told q a r d kept is suits fits styles h k same =
       let here = kept.in_context in
+      let ones_are : questions_in entry.one ≡ ones = ap questions_in kept.one_is ∙ q in
+      let twos_are : questions_in entry.two ≡ twos = ap questions_in kept.two_is ∙ r in
       record {
         stores = subst (Stores entry) (is ∙ waves_lay ∙ ap (lay m node) (sym here)) kept.stores;
         suits = subst (Suits m node) (sym here) suits;
         fits = ap (in_range m node) here ∙ fits;
-        ones = kept.ones_are ∙ first_are m node shown context w.shown_is ones w.ones_are ∙ ap (first m (seen_of node)) (sym here);
-        twos = kept.twos_are ∙ second_are m node shown context w.shown_is ones w.ones_are one w.one_is twos w.twos_are
+        ones = ones_are ∙ first_are m node shown context w.shown_is ones w.ones_are ∙ ap (first m (seen_of node)) (sym here);
+        twos = twos_are ∙ second_are m node shown context w.shown_is ones w.ones_are one w.one_is twos w.twos_are
             ∙ ap (λ (c : Context). second m (seen_of node) c (map (answer_of m node) (first m (seen_of node) c))) (sym here);
-        styled = subst (All HasStyle) (sym kept.ones_are) styles;
-        one = kept.one_is ∙ w.one_is ∙ ap (map (answer_of m node)) (sym kept.ones_are);
-        ones_kept = subst (AllByRecursion (NamesKept node below)) (sym kept.ones_are) h;
-        twos_kept = subst (AllByRecursion (NamesKept node below)) (sym kept.twos_are) k;
+        styled = subst (All HasStyle) (sym ones_are) styles;
+        one = ap answers_in kept.one_is ∙ a ∙ w.one_is ∙ ap (map (answer_of m node)) (sym ones_are);
+        two = ap answers_in kept.two_is ∙ d ∙ w.two_is ∙ ap (map (answer_of m node)) (sym twos_are);
+        ones_kept = subst (AllByRecursion (NamesKept node below)) (sym ones_are) h;
+        twos_kept = subst (AllByRecursion (NamesKept node below)) (sym twos_are) k;
         regular = λ e.
-            subst (λ (c : Context). IsRegular m node c entry.ones) (sym here)
-            (subst (IsRegular m node context) (sym kept.ones_are) (same (sym kept.regular_is ∙ e)));
+            subst (λ (c : Context). IsRegular m node c (questions_in entry.one)) (sym here)
+            (subst (IsRegular m node context) (sym ones_are) (same (sym kept.regular_is ∙ e)));
       }
 
 -- ---- what is known of the children

@@ -10,6 +10,7 @@ use Rattle.layout_model.specs.declared.context.Context.{Context}
 use Rattle.layout_model.specs.declared.context.Question.{Question}
 use Rattle.layout_model.specs.declared.outcome.Answer.{Answer}
 use Rattle.layout_model.specs.declared.outcome.Outcome.{Outcome}
+use Rattle.layout_model.specs.declared.reply.Reply.{Reply}
 use Rattle.layout_model.specs.declared.context.Stretch.TheVariants.{None as Unstretched}
 use Rattle.style_scope.specs.declared.style.Style.{Style}
 use Rattle.kept_results.specs.Ends.{all_undone}
@@ -37,19 +38,22 @@ none_on_the_way m seen context style = refl
 -- ---- undone
 
 -- an entry in a context, of a regular element
-abbrev entry : Context → Outcome → List Question → List Answer → Origin → Entry
-entry context outcome ones one origin = record { context = context; outcome = outcome; ones = ones; one = one; twos = []; regular = true; origin = origin }
+abbrev entry : Context → Outcome → List Reply → Origin → Entry
+entry context outcome one origin = record { context = context; outcome = outcome; one = one; two = []; regular = true; origin = origin }
+
+abbrev reply : ℕ → Style → Answer → Reply
+reply kid style answer = record { question = question kid style; answer = answer }
 
 what_was_made_goes : (context : Context) (a b : Outcome)
-    → all_undone (entry context a [] [] Standing ∷ entry context b [] [] Made ∷ []) ≡ entry context a [] [] Standing ∷ []
+    → all_undone (entry context a [] Standing ∷ entry context b [] Made ∷ []) ≡ entry context a [] Standing ∷ []
 what_was_made_goes context a b = refl
 
 -- the second child was asked in another style, and answered something else
 abbrev stood : Context → Outcome → Style → Answer → Answer → Entry
-stood context a old first was = entry context a (question 0 old ∷ question 1 old ∷ []) (first ∷ was ∷ []) Standing
+stood context a old first was = entry context a (reply 0 old first ∷ reply 1 old was ∷ []) Standing
 
 what_was_made_anew_is_what_it_was : (context : Context) (a b : Outcome) (old new : Style) (first was now : Answer)
-    → all_undone (remade (turned (stood context a old first was) 1 record { asked = question 1 new; answer = now }) b 1 record { asked = question 1 old; answer = was } ∷ [])
+    → all_undone (remade (turned (stood context a old first was) 1 (reply 1 new now)) b 1 (reply 1 old was) ∷ [])
     ≡ stood context a old first was ∷ []
 what_was_made_anew_is_what_it_was context a b old new first was now = refl
 
@@ -60,10 +64,10 @@ abbrev layer : Facts → List Entry → Memo-F Memo
 layer facts entries = record { former = Some record { facts = facts; alike_but = Some 2 }; facts = facts; entries = entries; below = [] }
 
 only_the_third : (facts : Facts) (context : Context) (a b : Outcome) (style : Style) (was : Answer)
-    → only_touched (layer facts (remade (entry context a [] [] Standing) b 2 record { asked = question 2 style; answer = was } ∷ [])) ≡ Some 2
+    → only_touched (layer facts (remade (entry context a [] Standing) b 2 (reply 2 style was) ∷ [])) ≡ Some 2
 only_the_third facts context a b style was = refl
 
-any_where_one_is_new : (facts : Facts) (context : Context) (a : Outcome) → only_touched (layer facts (entry context a [] [] Made ∷ [])) ≡ None
+any_where_one_is_new : (facts : Facts) (context : Context) (a : Outcome) → only_touched (layer facts (entry context a [] Made ∷ [])) ≡ None
 any_where_one_is_new facts context a = refl
 
 a_marked_one_is_not_calm : (facts : Facts) → is_calm (layer facts []) ≡ false

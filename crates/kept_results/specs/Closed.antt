@@ -4,6 +4,7 @@ use Rattle.std.specs.List.{AllZip, Contains}
 use Rattle.font_metrics.specs.Metrics.{MetricsValue}
 use Rattle.math_tree.specs.declared.node.Node.{Node}
 use Rattle.embellished.specs.Seen.{Child, flow_children, seen_of}
+use Rattle.layout_model.specs.Answers.{questions_in}
 use Rattle.layout_model.specs.Layout.{equation, lay}
 use Rattle.layout_model.specs.Questions.{first, second}
 use Rattle.layout_model.specs.declared.context.Question.{Question}
@@ -36,10 +37,10 @@ pub record NamesAnswer (node : Node) (below : List Memo) (question : Question) (
 pub record IsClosed (m : MetricsValue) (node : Node) (below : List Memo) (entry : Entry) : Type 0 where
   pub one : List Answer
   pub two : List Answer
-  pub ones : entry.ones ≡ first m (seen_of node) entry.context
-  pub twos : entry.twos ≡ second m (seen_of node) entry.context one
-  pub one_named : AllZip (NamesAnswer node below) entry.ones one
-  pub two_named : AllZip (NamesAnswer node below) entry.twos two
+  pub ones : questions_in entry.one ≡ first m (seen_of node) entry.context
+  pub twos : questions_in entry.two ≡ second m (seen_of node) entry.context one
+  pub one_named : AllZip (NamesAnswer node below) (questions_in entry.one) one
+  pub two_named : AllZip (NamesAnswer node below) (questions_in entry.two) two
   pub stores : Stores entry (equation m (seen_of node) entry.context one two)
 
 -- an entry is reached from another by naming, down the places of children
@@ -47,7 +48,7 @@ abbrev pub IsReached : List ℕ → Node → Memo → Entry → Node → Memo �
 IsReached [] node memo entry element kept other = (element ≡ node) × (kept ≡ memo) × (other ≡ entry)
 IsReached (place ∷ path) node memo entry element kept other =
     (question : Question) × (child : Child) × (below : Memo) × (next : Entry)
-    × Contains (entry.ones ++ entry.twos) question × Names node (out-Memo memo).below question child below next
+    × Contains (questions_in entry.one ++ questions_in entry.two) question × Names node (out-Memo memo).below question child below next
     × (child.place ≡ place) × IsReached path child.node below next element kept other
 
 -- where an entry and all that are reached from it are closed, it keeps the layout of its element

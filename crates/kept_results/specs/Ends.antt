@@ -19,9 +19,8 @@ abbrev pub restored : Entry → Before → Entry
 restored entry before = record {
   context = entry.context;
   outcome = before.outcome;
-  ones = slice_set entry.ones before.child before.said.asked;
-  one = slice_set entry.one before.child before.said.answer;
-  twos = entry.twos;
+  one = slice_set entry.one before.child before.reply;
+  two = entry.two;
   regular = entry.regular;
   origin = Standing;
 }
@@ -59,9 +58,8 @@ abbrev pub settled : Entry → Entry
 settled entry = record {
   context = entry.context;
   outcome = entry.outcome;
-  ones = entry.ones;
   one = entry.one;
-  twos = entry.twos;
+  two = entry.two;
   regular = entry.regular;
   origin = Standing;
 }

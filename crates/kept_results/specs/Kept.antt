@@ -8,6 +8,7 @@ use Rattle.math_tree.specs.declared.node.Node.TheViews.{out-Node}
 use Rattle.embellished.specs.Facts.{facts}
 use Rattle.embellished.specs.Seen.{Child, flow_children, seen_of}
 use Rattle.style_scope.specs.Sizes.{size_of}
+use Rattle.layout_model.specs.Answers.{answers_in, questions_in}
 use Rattle.layout_model.specs.Fits.{HasStyle}
 use Rattle.layout_model.specs.Laws.{answer_of}
 use Rattle.layout_model.specs.Layout.{in_range, lay}
@@ -15,8 +16,8 @@ use Rattle.layout_model.specs.Questions.{first, second}
 use Rattle.layout_model.specs.Range.{is_font_size}
 use Rattle.layout_model.specs.declared.context.Context.{Context}
 use Rattle.layout_model.specs.declared.context.Question.{Question}
-use Rattle.layout_model.specs.declared.outcome.Answer.{Answer}
 use Rattle.layout_model.specs.declared.outcome.Outcome.{Outcome}
+use Rattle.layout_model.specs.declared.reply.Reply.{Reply}
 use Rattle.kept_results.specs.Contexts.{Suits}
 use Rattle.kept_results.specs.Regular.{IsRegular, restyled_at}
 use Rattle.kept_results.specs.declared.memo.Entry.{Entry}
@@ -87,34 +88,34 @@ pub record NamesKept (node : Node) (below : List Memo) (question : Question) : T
   pub at : slice_get below child.place ≡ Some memo
   pub kept : IsKept (out-Memo memo) question.context
 
--- an entry keeps the layout of its element as the tree is now, with what was answered first; all that is made for it is in
+-- an entry keeps the layout of its element as the tree is now, with what was answered in both waves; all that is made for it is in
 -- range; what it asks first keeps the bounds of styles; all that it asks is kept; and where it is noted as regular, its
 -- element is
 pub record IsSound (m : MetricsValue) (node : Node) (below : List Memo) (entry : Entry) : Type 0 where
   pub stores : Stores entry (lay m node entry.context)
   pub suits : Suits m node entry.context
   pub fits : in_range m node entry.context ≡ true
-  pub ones : entry.ones ≡ first m (seen_of node) entry.context
-  pub one : entry.one ≡ map (answer_of m node) entry.ones
-  pub twos : entry.twos ≡ second m (seen_of node) entry.context (map (answer_of m node) (first m (seen_of node) entry.context))
-  pub styled : All HasStyle entry.ones
-  pub ones_kept : AllByRecursion (NamesKept node below) entry.ones
-  pub twos_kept : AllByRecursion (NamesKept node below) entry.twos
-  pub regular : entry.regular ≡ true → IsRegular m node entry.context entry.ones
+  pub ones : questions_in entry.one ≡ first m (seen_of node) entry.context
+  pub one : answers_in entry.one ≡ map (answer_of m node) (questions_in entry.one)
+  pub twos : questions_in entry.two ≡ second m (seen_of node) entry.context (map (answer_of m node) (first m (seen_of node) entry.context))
+  pub two : answers_in entry.two ≡ map (answer_of m node) (questions_in entry.two)
+  pub styled : All HasStyle (questions_in entry.one)
+  pub ones_kept : AllByRecursion (NamesKept node below) (questions_in entry.one)
+  pub twos_kept : AllByRecursion (NamesKept node below) (questions_in entry.two)
+  pub regular : entry.regular ≡ true → IsRegular m node entry.context (questions_in entry.one)
 
 -- a regular entry of before the edit, where only the child at a place may have another head and other answers since: its
 -- element is regular as the tree is now, in a size that a style may have; what it asked is what the element asks now, but for
 -- the style of that child, and keeps the bounds of styles; it asked nothing in the second wave; what the other children
 -- answered is what they answer now, and is kept
 pub record StaysBut (m : MetricsValue) (node : Node) (below : List Memo) (place : ℕ) (entry : Entry) : Type 0 where
-  pub regular : IsRegular m node entry.context entry.ones
+  pub regular : IsRegular m node entry.context (questions_in entry.one)
   pub sized : is_font_size (size_of m entry.context.style) ≡ true
-  pub ones : first m (seen_of node) entry.context ≡ map (restyled_at m (seen_of node) entry.context place) entry.ones
-  pub styled : All HasStyle entry.ones
-  pub twos : entry.twos ≡ []
-  pub as_many : length entry.one ≡ length entry.ones
-  pub others : (index : ℕ) (question : Question) (answer : Answer) → slice_get entry.ones index ≡ Some question
-      → slice_get entry.one index ≡ Some answer → (index ≡ place → ⊥) → (answer ≡ answer_of m node question) × NamesKept node below question
+  pub ones : first m (seen_of node) entry.context ≡ map (restyled_at m (seen_of node) entry.context place) (questions_in entry.one)
+  pub styled : All HasStyle (questions_in entry.one)
+  pub two : entry.two ≡ []
+  pub others : (index : ℕ) (reply : Reply) → slice_get entry.one index ≡ Some reply → (index ≡ place → ⊥)
+      → (reply.answer ≡ answer_of m node reply.question) × NamesKept node below reply.question
 
 -- what is known of an element, one memo for each child, and entries that are sound, but for the
 -- older ones, and of which no two are in one context. Older ones that are regular stay, but for one child, where layout sees

@@ -2,9 +2,9 @@
 use Rattle.std.specs.Prelude.{◌≡◌, ℕ, ◌<◌, true, false, List, ◌++◌, ◌∷◌, [], length, Some, slice_get, slice_set}
 use Rattle.std.specs.Option.{option_map_or}
 use Rattle.layout_model.specs.declared.context.Context.{Context}
-use Rattle.layout_model.specs.declared.context.Question.{Question}
 use Rattle.layout_model.specs.declared.outcome.Answer.{Answer}
 use Rattle.layout_model.specs.declared.outcome.Outcome.{Outcome}
+use Rattle.layout_model.specs.declared.reply.Reply.{Reply}
 use Rattle.embellished.specs.declared.facts.Facts.{Facts}
 use Rattle.kept_results.specs.Kept.{HasEntry, Stores, alike_but, is_fresh}
 use Rattle.kept_results.specs.declared.earlier.Earlier.{Earlier}
@@ -12,7 +12,6 @@ use Rattle.kept_results.specs.declared.entries.Asked.{Asked}
 use Rattle.kept_results.specs.declared.memo.Entry.{Entry}
 use Rattle.kept_results.specs.declared.memo.Memo.{Memo}
 use Rattle.kept_results.specs.declared.memo.Origin.TheVariants.{Made, Remade}
-use Rattle.kept_results.specs.declared.memo.Said.{Said}
 use Rattle.kept_results.specs.declared.memo.Memo.TheOpen.{Memo-F}
 use Rattle.kept_results.specs.declared.memo.Memo.TheViews.{out-Memo, roll-Memo}
 
@@ -29,7 +28,7 @@ pub record HasAnswer (layer : Memo-F Memo) (context : Context) (answer : Answer)
 pub record CanServe (entry : Entry) (context : Context) (child : ℕ) : Type 0 where
   pub older : is_fresh entry ≡ false
   pub regular : entry.regular ≡ true
-  pub within : child < length entry.ones
+  pub within : child < length entry.one
   pub in_context : entry.context ≡ context
 
 -- this names such an entry, and the place of a child but for which layout sees the same of the element
@@ -44,14 +43,13 @@ abbrev pub HasNoEarlier : Memo-F Memo → Context → Type 0
 HasNoEarlier layer context = (child : ℕ) → alike_but layer ≡ Some child → (place : ℕ) (entry : Entry)
     → slice_get layer.entries place ≡ Some entry → CanServe entry context child → ⊥
 
--- an entry in a context has this outcome; this was asked for it, and answered in the first wave, and this is said of whether its
--- element is regular
+-- an entry in a context has this outcome; these are the replies for it, and this is said of whether its element is
+-- regular
 pub record IsEntryOf (entry : Entry) (context : Context) (outcome : Outcome) (asked : Asked) : Type 0 where
   pub stores : Stores entry outcome
   pub in_context : entry.context ≡ context
-  pub ones_are : entry.ones ≡ asked.ones
   pub one_is : entry.one ≡ asked.one
-  pub twos_are : entry.twos ≡ asked.twos
+  pub two_is : entry.two ≡ asked.two
   pub regular_is : entry.regular ≡ asked.regular
 
 -- one entry that the pass made was added, in a context, with an outcome and what was asked for it
@@ -68,46 +66,35 @@ pub record IsKeptNow (before after : Memo) (context : Context) (outcome : Outcom
 
 -- ---- made anew
 
--- what the entry at a place asked in the first wave; nothing where there is none
-abbrev pub ones_at : Memo-F Memo → ℕ → List Question
-ones_at layer place = option_map_or (λ entry. entry.ones) (slice_get layer.entries place) []
-
--- what was answered to that
-abbrev pub one_at : Memo-F Memo → ℕ → List Answer
+-- the replies of the first wave of the entry at a place; none where there is no entry
+abbrev pub one_at : Memo-F Memo → ℕ → List Reply
 one_at layer place = option_map_or (λ entry. entry.one) (slice_get layer.entries place) []
 
--- the same where the child at a place answers this
-abbrev pub answers_with : Memo → Earlier → Answer → List Answer
-answers_with memo before answer = slice_set (one_at (out-Memo memo) before.entry) before.child answer
+-- the same where this is the reply of the child at a place
+abbrev pub one_with : Memo → Earlier → Reply → List Reply
+one_with memo before reply = slice_set (one_at (out-Memo memo) before.entry) before.child reply
 
--- an entry that says of the child at a place that it was asked and answered this
-abbrev pub turned : Entry → ℕ → Said → Entry
-turned entry child said = record {
+-- an entry with this reply of the child at a place
+abbrev pub turned : Entry → ℕ → Reply → Entry
+turned entry child reply = record {
   context = entry.context;
   outcome = entry.outcome;
-  ones = slice_set entry.ones child said.asked;
-  one = slice_set entry.one child said.answer;
-  twos = entry.twos;
+  one = slice_set entry.one child reply;
+  two = entry.two;
   regular = entry.regular;
   origin = entry.origin;
 }
 
--- an entry with another outcome: it holds the one that it had, and what it said of a child before that child was asked again
-abbrev pub remade : Entry → Outcome → ℕ → Said → Entry
+-- an entry with another outcome: it holds the one that it had, and the reply of a child before that child was asked again
+abbrev pub remade : Entry → Outcome → ℕ → Reply → Entry
 remade entry outcome child had = record {
   context = entry.context;
   outcome = outcome;
-  ones = entry.ones;
   one = entry.one;
-  twos = entry.twos;
+  two = entry.two;
   regular = entry.regular;
-  origin = Remade (record { child = child; said = had; outcome = entry.outcome } ∷ []);
+  origin = Remade (record { child = child; reply = had; outcome = entry.outcome } ∷ []);
 }
-
--- of the child at a place an entry has this question, and this answer to it
-pub record HasSaid (entry : Entry) (child : ℕ) (said : Said) : Type 0 where
-  pub asked : slice_get entry.ones child ≡ Some said.asked
-  pub answer : slice_get entry.one child ≡ Some said.answer
 
 -- another entry at a place
 abbrev pub with_entry : Memo → ℕ → Entry → Memo-F Memo
@@ -118,13 +105,13 @@ with_entry memo place entry = record {
   below = (out-Memo memo).below;
 }
 
--- an entry was made anew: the child on the way was asked and answered this, and so it has this outcome
-pub record IsMadeAgain (before after : Memo) (earlier : Earlier) (outcome : Outcome) (said : Said) : Type 0 where
+-- an entry was made anew: this is the reply of the child on the way since, and so it has this outcome
+pub record IsMadeAgain (before after : Memo) (earlier : Earlier) (outcome : Outcome) (reply : Reply) : Type 0 where
   pub entry : Entry
   pub at : slice_get (out-Memo before).entries earlier.entry ≡ Some entry
-  pub had : Said
-  pub has_said : HasSaid entry earlier.child had
-  pub changed : after ≡ roll-Memo (with_entry before earlier.entry (remade (turned entry earlier.child said) outcome earlier.child had))
+  pub had : Reply
+  pub has : slice_get entry.one earlier.child ≡ Some had
+  pub changed : after ≡ roll-Memo (with_entry before earlier.entry (remade (turned entry earlier.child reply) outcome earlier.child had))
 
 -- what the element of a memo is among operators
 abbrev pub own_facts : Memo → Facts

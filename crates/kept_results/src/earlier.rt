@@ -2,6 +2,7 @@ ghost use Rattle.std.specs.Prelude.{◌≡◌, ◌≤◌, ◌<◌, ◌+◌, ◌^
 ghost use Rattle.fixed_units.specs.declared.refusal.LayRefusal.TheVariants.{Range};
 ghost use Rattle.embellished.specs.Seen.{seen_of};
 ghost use Rattle.style_scope.specs.Sizes.{IsStyle, size_of};
+ghost use Rattle.layout_model.specs.Answers.{answers_in, questions_in};
 ghost use Rattle.layout_model.specs.Fits.{AreAnswers, HasStyle, IsContext};
 ghost use Rattle.layout_model.specs.Layout.{equation};
 ghost use Rattle.layout_model.specs.Questions.{first};
@@ -11,14 +12,14 @@ ghost use Rattle.kept_results.specs.Looking.{CanServe, HasNoEarlier, IsEarlier};
 ghost use Rattle.kept_results.specs.Regular.{AreInOrder, IsRegular, restyled};
 ghost use Rattle.kept_results.specs.declared.memo.Memo.TheViews.{out-Memo};
 
-use crate::contexts::{copy_of_stretch, is_same};
 use crate::memo::{Entry, Memo};
 use crate::whole_view::WholeView;
+use child_questions::{Survey, style_of_kid};
 use embellished::{NodeView, View};
 use fixed_units::{LayRefusal, List, Memory, Steps};
 use font_metrics::Metrics;
-use layout_core::{Survey, finish_asked, style_of_kid};
-use layout_model::{Answer, Context, Outcome, Question};
+use layout_model::{Context, Outcome, Question, Reply};
+use outcomes::finish_replies;
 use std::alloc::Global;
 use std::sync::ledger::Ledger;
 
@@ -52,10 +53,7 @@ fn can_serve(entry: &Entry, context: &Context, child: usize) -> bool
     ensures yes { result ≡ true → CanServe entry.now context.now child }
     ensures no { result ≡ false → CanServe entry.now context.now child → ⊥ }
 {
-    !entry.is_fresh()
-        && entry.regular
-        && child < entry.ones.len()
-        && is_same(&entry.context, context)
+    !entry.is_fresh() && entry.regular && child < entry.one.len() && entry.context.is_same(context)
 }
 
 /// A question of before the edit again, with the style that the child has now to which it goes.
@@ -73,7 +71,7 @@ pub fn asked_again(
     ensures style { IfOk result HasStyle }
 {
     let style = style_of_kid(view, context, metrics, asked.kid as usize);
-    let stretch = copy_of_stretch(alloc, &asked.context.stretch)?;
+    let stretch = asked.context.stretch.copy(alloc)?;
     let context = Context {
         style,
         form: asked.context.form,
@@ -85,31 +83,28 @@ pub fn asked_again(
     })
 }
 
-/// The outcome of a regular element over what it asks and the answers to that. It takes one step.
+/// The outcome of a regular element over the replies to what it asks. It takes one step.
 pub fn outcome_of<L: Ledger>(
     alloc: Global,
     view: &WholeView,
     context: &Context,
     metrics: &Metrics,
-    ones: &List<Question>,
-    one: &List<Answer>,
+    one: &List<Reply>,
     steps: &mut Steps<L>,
 ) -> Result<Outcome, LayRefusal>
     requires fits { IsContext context.now }
     requires size { size_of metrics.now context.now.style ≤ℤ pos (2 ^ 20) }
     requires one_wave { has_one_wave (survey_of metrics.now (seen_of view.now.node.now) context.now) ≡ true }
-    requires ones { ones.now ≡ first metrics.now (seen_of view.now.node.now) context.now }
-    requires as_many { length one.now ≡ length ones.now }
-    requires stored { AreAnswers one.now }
-    ensures ok { IfOk result (λ outcome. outcome ≡ equation metrics.now (seen_of view.now.node.now) context.now one.now []) }
-    ensures fit { OnOk result (outcome_fits (equation metrics.now (seen_of view.now.node.now) context.now one.now []) ≡ true) }
+    requires ones { questions_in one.now ≡ first metrics.now (seen_of view.now.node.now) context.now }
+    requires stored { AreAnswers (answers_in one.now) }
+    ensures ok { IfOk result (λ outcome. outcome ≡ equation metrics.now (seen_of view.now.node.now) context.now (answers_in one.now) []) }
+    ensures fit { OnOk result (outcome_fits (equation metrics.now (seen_of view.now.node.now) context.now (answers_in one.now) []) ≡ true) }
     ensures range { result ≡ Err Range →
-        outcome_fits (equation metrics.now (seen_of view.now.node.now) context.now one.now []) ≡ false }
+        outcome_fits (equation metrics.now (seen_of view.now.node.now) context.now (answers_in one.now) []) ≡ false }
     ensures step { steps.new ≡ steps.old + 1 }
 {
-    let twos = List::make(alloc);
     let two = List::make(alloc);
-    finish_asked(alloc, view, context, metrics, ones, &twos, one, &two, steps)
+    finish_replies(alloc, view, context, metrics, one, &two, steps)
 }
 
 /// Whether an element has all its children in flow, and no prescripts, and asks each child once, in order,
@@ -119,24 +114,24 @@ pub fn is_regular(
     survey: &Survey,
     context: &Context,
     metrics: &Metrics,
-    ones: &List<Question>,
+    one: &List<Reply>,
 ) -> bool
     requires { survey.now ≡ survey_of metrics.now (seen_of view.now.node.now) context.now }
-    ensures { result ≡ true → IsRegular metrics.now view.now.node.now context.now ones.now }
+    ensures { result ≡ true → IsRegular metrics.now view.now.node.now context.now (questions_in one.now) }
 {
     let all = view.node().children.len();
     if (view.kids() != all) | (view.prescripts() != all) | !survey.has_one_wave() {
         return false;
     }
-    are_in_order(ones.as_slice())
+    are_in_order(one.as_slice())
 }
 
 /// Does each question go to the child in flow of its own place?
-fn are_in_order(asks: &[Question]) -> bool
-    ensures { result ≡ true → AreInOrder asks.now }
+fn are_in_order(replies: &[Reply]) -> bool
+    ensures { result ≡ true → AreInOrder (questions_in replies.now) }
 {
-    for index in 0..asks.len() {
-        if asks[index].kid as usize != index {
+    for index in 0..replies.len() {
+        if replies[index].question.kid as usize != index {
             return false;
         }
     }

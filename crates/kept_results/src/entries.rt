@@ -4,11 +4,10 @@ ghost use Rattle.kept_results.specs.Looking.{HasAnswer, IsKeptNow, own_facts};
 ghost use Rattle.kept_results.specs.Tidy.{has_none_fresh, has_none_new, is_calm, only_touched};
 ghost use Rattle.kept_results.specs.declared.memo.Memo.TheViews.{out-Memo};
 
-use crate::contexts::{copy_of as copy_of_context, is_same};
 use crate::memo::{Entry, Memo, Origin};
 use embellished::Facts;
 use fixed_units::{List, Memory};
-use layout_model::{Answer, Context, Outcome, Question};
+use layout_model::{Answer, Context, Outcome, Reply};
 use std::alloc::Global;
 
 /// Whether the present edit changes the element, or one below it.
@@ -75,7 +74,7 @@ fn serves(marked: bool, entry: &Entry, context: &Context) -> bool
     ensures yes { result ≡ true → (is_live marked entry.now ≡ true) × (entry.now.context ≡ context.now) }
     ensures no { result ≡ false → is_live marked entry.now ≡ true → entry.now.context ≡ context.now → ⊥ }
 {
-    is_live(marked, entry) && is_same(&entry.context, context)
+    is_live(marked, entry) && entry.context.is_same(context)
 }
 
 /// The answer that is kept of an element in a context, where one is.
@@ -86,7 +85,7 @@ pub fn kept_answer(alloc: Global, memo: &Memo, context: &Context) -> Result<Opti
     let marked = is_marked(memo);
     for entry in memo.entries.as_slice() {
         if serves(marked, entry, context) {
-            return Ok(Some(copy_of(alloc, &entry.outcome.answer)?));
+            return Ok(Some(entry.outcome.answer.copy(alloc)?));
         }
     }
     Ok(None)
@@ -103,12 +102,11 @@ pub fn facts_below(alloc: Global, below: &[Memo]) -> Result<List<Facts>, Memory>
     Ok(kids)
 }
 
-/// What an element asked for an outcome, and what was answered in the first wave.
+/// What an element asked for an outcome in both waves, and what was answered.
 #[derive(Debug, Drop)]
 pub struct Asked {
-    pub ones: List<Question>,
-    pub one: List<Answer>,
-    pub twos: List<Question>,
+    pub one: List<Reply>,
+    pub two: List<Reply>,
     /// Whether the element is regular, as an `Entry` says it.
     pub regular: bool,
 }
@@ -130,9 +128,8 @@ pub fn keep(
             let entry = Entry {
                 context,
                 outcome,
-                ones: asked.ones,
                 one: asked.one,
-                twos: asked.twos,
+                two: asked.two,
                 regular: asked.regular,
                 origin: Origin::Made,
             };
@@ -157,29 +154,6 @@ pub fn keep(
 fn copies_of(alloc: Global, answer: &Answer, context: &Context) -> Result<(Answer, Context), Memory>
     ensures { IfOk result (λ copied. (copied.0 ≡ answer.now) × (copied.1 ≡ context.now)) }
 {
-    let answer = copy_of(alloc, answer)?;
-    Ok((answer, copy_of_context(alloc, context)?))
-}
-
-/// The same answer again.
-pub fn copy_of(alloc: Global, answer: &Answer) -> Result<Answer, Memory>
-    ensures { IfOk result (λ copied. copied ≡ answer.now) }
-{
-    Ok(Answer {
-        frame: answer.frame,
-        before: answer.before,
-        after: answer.after,
-        cells: copy_of_cells(alloc, &answer.cells)?,
-    })
-}
-
-/// The same widths of cells again. Only rows of tables have any.
-fn copy_of_cells(alloc: Global, cells: &List<i64>) -> Result<List<i64>, Memory>
-    ensures { IfOk result (λ copied. copied ≡ cells.now) }
-{
-    if cells.is_empty() {
-        Ok(List::make(alloc))
-    } else {
-        cells.copy(alloc)
-    }
+    let answer = answer.copy(alloc)?;
+    Ok((answer, context.copy(alloc)?))
 }

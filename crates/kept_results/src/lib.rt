@@ -14,18 +14,16 @@
 //! - Change what a kept layout is: `specs/Kept.antt`.
 #![tactic(auto)]
 
-mod contexts; // the same context, and once more
 mod earlier; // what a pass takes over from before the edit
 mod ends; // undo_pass, seal
 mod entries; // one element's entries
 pub mod laws; // what holds of kept layouts
-mod memo; // Memo, Former; Entry, and what a pass did to it: Origin, Before, Said
+mod memo; // Memo, Former; Entry, and what a pass did to it: Origin, Before
 mod relay; // a pass over an element
 mod remaking; // an entry that a pass makes anew, and what it was
 mod whole_view; // a view of an element that has all its children in flow
 
-pub use contexts::is_same;
 pub use ends::{seal, undo_pass};
 pub use entries::{facts_below, is_marked};
-pub use memo::{Before, Entry, Former, Memo, Origin, Said};
+pub use memo::{Before, Entry, Former, Memo, Origin};
 pub use relay::relay_element;

@@ -4,19 +4,17 @@ ghost use Rattle.kept_results.specs.Tidy.{is_new};
 
 use embellished::Facts;
 use fixed_units::List;
-use layout_model::{Answer, Context, Outcome, Question};
+use layout_model::{Context, Outcome, Reply};
 
 /// A layout of an element that is kept: the outcome in a context, and what was asked for it.
 #[derive(Debug, Drop)]
 pub struct Entry {
     pub context: Context,
     pub outcome: Outcome,
-    /// What the element asked in the first wave.
-    pub ones: List<Question>,
-    /// What was answered to that.
-    pub one: List<Answer>,
-    /// What it asked in the second wave.
-    pub twos: List<Question>,
+    /// What the element asked in the first wave, and what was answered.
+    pub one: List<Reply>,
+    /// The same of the second wave.
+    pub two: List<Reply>,
     /// Whether it is known that all children are in flow, none of them a prescript, and that each is asked
     /// once, in order, in the first wave, whatever they answer.
     pub regular: bool,
@@ -42,18 +40,9 @@ pub struct Before {
     /// The place of the child that was asked again.
     pub child: usize,
     /// What that child was asked, and answered.
-    pub said: Said,
+    pub reply: Reply,
     /// The outcome over that.
     pub outcome: Outcome,
-}
-
-/// What a child was asked, and what it answered.
-#[derive(Debug, Drop)]
-pub struct Said {
-    /// The question of the first wave.
-    pub asked: Question,
-    /// The answer to it.
-    pub answer: Answer,
 }
 
 impl Entry {

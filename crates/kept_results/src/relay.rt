@@ -2,6 +2,7 @@ ghost use Rattle.std.specs.Prelude.{◌≡◌, ◌≤◌, map, true, false, IfOk
 ghost use Rattle.std.specs.List.{All, AllByRecursion, flat_map, list_all};
 ghost use Rattle.fixed_units.specs.declared.refusal.LayRefusal.TheVariants.{Range};
 ghost use Rattle.math_tree.specs.Trees.{element_count};
+ghost use Rattle.layout_model.specs.Answers.{answers_in, questions_in};
 ghost use Rattle.layout_model.specs.Laws.{answer_of, visits_below};
 ghost use Rattle.layout_model.specs.Layout.{in_range, lay, visit_fits};
 ghost use Rattle.kept_results.specs.Contexts.{IsProper, Suits};
@@ -13,15 +14,16 @@ ghost use Rattle.kept_results.specs.declared.memo.Memo.TheViews.{out-Memo};
 
 use crate::earlier::{Earlier, asked_again, find_earlier, is_regular};
 use crate::entries::{Asked, facts_below, keep, kept_answer};
-use crate::memo::{Memo, Said};
+use crate::memo::Memo;
 use crate::remaking::make_again;
 use crate::whole_view::WholeView;
+use child_questions::{Survey, first_wave, second_wave};
 use embellished::NodeView;
 use fixed_units::{LayRefusal, List, Steps};
 use font_metrics::Metrics;
-use layout_core::{Survey, finish_asked, first_questions, second_questions};
-use layout_model::{Answer, Context, Question};
+use layout_model::{Answer, Context, Reply};
 use math_tree::Node;
+use outcomes::finish_replies;
 use std::alloc::Global;
 use std::sync::ledger::Ledger;
 
@@ -85,20 +87,13 @@ fn relay_anew<L: Ledger>(
     let kids = facts_below(alloc, memo.below.as_slice())?;
     let view = NodeView::make(alloc, node, memo.facts, &kids)?;
     let survey = Survey::make(alloc, &view, context, metrics)?;
-    let ones = first_questions(alloc, &view, &survey, context, metrics)?;
-    let one = relay_all(alloc, node, memo, &view, &ones, metrics, steps)?;
-    let twos = second_questions(alloc, &view, &survey, context, metrics, &one)?;
-    let two = relay_all(alloc, node, memo, &view, &twos, metrics, steps)?;
-    let outcome = finish_asked(
-        alloc, &view, context, metrics, &ones, &twos, &one, &two, steps,
-    )?;
-    let regular = is_regular(&view, &survey, context, metrics, &ones);
-    let asked = Asked {
-        ones,
-        one,
-        twos,
-        regular,
-    };
+    let mut one = first_wave(alloc, &view, &survey, context, metrics)?;
+    relay_all(alloc, node, memo, &view, &mut one, metrics, steps)?;
+    let mut two = second_wave(alloc, &view, &survey, context, metrics, &one)?;
+    relay_all(alloc, node, memo, &view, &mut two, metrics, steps)?;
+    let outcome = finish_replies(alloc, &view, context, metrics, &one, &two, steps)?;
+    let regular = is_regular(&view, &survey, context, metrics, &one);
+    let asked = Asked { one, two, regular };
     Ok(keep(alloc, memo, context, outcome, asked)?)
 }
 
@@ -131,49 +126,54 @@ fn relay_again<L: Ledger>(
 {
     let place = before.child;
     let entry = &memo.entries.as_slice()[before.entry];
-    let was = &entry.ones.as_slice()[place];
+    let was = &entry.one.as_slice()[place];
     let view = WholeView::of(node, memo);
-    let asked = asked_again(alloc, &view, was, context, metrics)?;
+    let asked = asked_again(alloc, &view, &was.question, context, metrics)?;
     let child = &node.children.as_slice()[place];
     let below = memo.below.at_mut(place);
     let answer = relay_element(alloc, child, below, &asked.context, metrics, steps)?;
-    let said = Said { asked, answer };
-    make_again(alloc, node, memo, context, before, said, metrics, steps)
+    let reply = Reply {
+        question: asked,
+        answer,
+    };
+    make_again(alloc, node, memo, context, before, reply, metrics, steps)
 }
 
-/// The answers of the children that an element asks, in order.
+/// Has the children that an element asks answer, in order.
 #[cycle(relay)]
 fn relay_all<L: Ledger>(
     alloc: Global,
     node: &Node,
     memo: &mut Memo,
     view: &NodeView,
-    asks: &List<Question>,
+    replies: &mut List<Reply>,
     metrics: &Metrics,
     steps: &mut Steps<L>,
-) -> Result<List<Answer>, LayRefusal>
+) -> Result<(), LayRefusal>
     requires shown { view.now.node.now ≡ node.now }
     requires agrees { Agrees metrics.now node.now memo.old }
     requires few { element_count node.now ≤ 65_536 }
-    requires proper { All (IsProper metrics.now node.now) asks.now }
-    ensures passes { Passes metrics.now node.now (AnswersNeed metrics.now node.now asks.now) memo.old memo.new steps.old steps.new false }
-    ensures passed { OnOk result (Passes metrics.now node.now (AnswersNeed metrics.now node.now asks.now) memo.old memo.new steps.old steps.new true) }
+    requires proper { All (IsProper metrics.now node.now) (questions_in replies.old) }
+    ensures passes { Passes metrics.now node.now (AnswersNeed metrics.now node.now (questions_in replies.old)) memo.old memo.new steps.old steps.new false }
+    ensures passed { OnOk result (Passes metrics.now node.now (AnswersNeed metrics.now node.now (questions_in replies.old)) memo.old memo.new steps.old steps.new true) }
     ensures own { (out-Memo memo.new).entries ≡ (out-Memo memo.old).entries }
     ensures marked { (out-Memo memo.new).former ≡ (out-Memo memo.old).former }
-    ensures kept { OnOk result (AllByRecursion (NamesKept node.now (out-Memo memo.new).below) asks.now) }
+    ensures kept { OnOk result (AllByRecursion (NamesKept node.now (out-Memo memo.new).below) (questions_in replies.old)) }
     ensures tidy { OnOk result (AreTidy (out-Memo memo.old).below → AreTidy (out-Memo memo.new).below) }
-    ensures ok { IfOk result (λ answers. answers ≡ map (answer_of metrics.now node.now) asks.now) }
-    ensures fit { OnOk result (list_all (visit_fits metrics.now) (flat_map (visits_below metrics.now node.now) asks.now) ≡ true) }
+    ensures asked { OnOk result (questions_in replies.new ≡ questions_in replies.old) }
+    ensures ok { OnOk result (answers_in replies.new ≡ map (answer_of metrics.now node.now) (questions_in replies.old)) }
+    ensures fit { OnOk result (list_all (visit_fits metrics.now) (flat_map (visits_below metrics.now node.now) (questions_in replies.old)) ≡ true) }
     ensures range { result ≡ Err Range →
-        list_all (visit_fits metrics.now) (flat_map (visits_below metrics.now node.now) asks.now) ≡ false }
+        list_all (visit_fits metrics.now) (flat_map (visits_below metrics.now node.now) (questions_in replies.old)) ≡ false }
 {
-    let mut answers = List::with_room(alloc, asks.len())?;
-    for asked in asks.as_slice() {
-        let index = asked.kid as usize;
-        let kid = view.node_at(index);
-        let below = memo.below.at_mut(view.place(index));
-        let answer = relay_element(alloc, kid, below, &asked.context, metrics, steps)?;
-        answers.push(answer)?;
+    for index in 0..replies.len() {
+        let reply = replies.at_mut(index);
+        let place = reply.question.kid as usize;
+        let kid = view.node_at(place);
+        let below = memo.below.at_mut(view.place(place));
+        let context = &reply.question.context;
+        let answer = relay_element(alloc, kid, below, context, metrics, steps)?;
+        reply.answer = answer;
     }
-    Ok(answers)
+    Ok(())
 }

@@ -9,13 +9,14 @@ use Rattle.math_tree.specs.declared.node.Node.TheViews.{out-Node, size-Node}
 use Rattle.embellished.specs.Facts.{facts}
 use Rattle.embellished.specs.Seen.{Child, HasChild, flow_children, seen_of}
 use Rattle.embellished.proofs.InFlow.{among, shown}
+use Rattle.layout_model.specs.Answers.{questions_in}
 use Rattle.layout_model.specs.Laws.{answer_of}
 use Rattle.layout_model.specs.Layout.{questions}
 use Rattle.layout_model.specs.Made.{IsMade, asks_of}
 use Rattle.layout_model.specs.Questions.{first, second}
 use Rattle.layout_model.specs.declared.context.Context.{Context}
 use Rattle.layout_model.specs.declared.context.Question.{Question}
-use Rattle.layout_core.proofs.Children.{smaller}
+use Rattle.layout_model.proofs.Children.{smaller}
 use Rattle.kept_results.specs.Ends.{settled}
 use Rattle.kept_results.specs.Kept.{Agrees, AreApart, HasEntry, HoldsIn, HoldsOne, IsKept, IsMemoOf, IsMissing, IsSound, NamesKept, is_fresh, is_live, is_marked}
 use Rattle.kept_results.specs.Looking.{own_facts}
@@ -164,9 +165,8 @@ abbrev pub fresh : Entry → Entry
 fresh entry = record {
   context = entry.context;
   outcome = entry.outcome;
-  ones = entry.ones;
   one = entry.one;
-  twos = entry.twos;
+  two = entry.two;
   regular = entry.regular;
   origin = Made;
 }
@@ -201,7 +201,7 @@ flagged_over memo place entry below = record {
 
 module _ (m : MetricsValue) (node : Node) (memo : Memo) (context : Context) (place : ℕ) (entry : Entry) (below : List Memo)
     (h : Agrees m node memo) (whole : Agrees m node (cleared memo)) (at : slice_get (out-Memo memo).entries place ≡ Some entry) (is : entry.context ≡ context)
-    (need : AreFlagged m node (entry.ones ++ entry.twos) (out-Memo memo).below below) where
+    (need : AreFlagged m node (questions_in entry.one ++ questions_in entry.two) (out-Memo memo).below below) where
   abbrev entries : List Entry
   entries = (out-Memo memo).entries
 
@@ -217,15 +217,15 @@ module _ (m : MetricsValue) (node : Node) (memo : Memo) (context : Context) (pla
   sound_now : IsSound m node (map cleared (out-Memo memo).below) (settled entry)
   sound_now = sound_settled m node memo whole place entry at
 
-  asks_are : entry.ones ++ entry.twos ≡ asks_of m node context
+  asks_are : questions_in entry.one ++ questions_in entry.two ≡ asks_of m node context
   unfolding questions
   asks_are =
       let seconds : Context → List Question = λ c. second m (seen_of node) c (map (answer_of m node) (first m (seen_of node) c)) in
-      ap (λ (l : List Question). l ++ entry.twos) sound_now.ones
+      ap (λ (l : List Question). l ++ questions_in entry.two) sound_now.ones
       ∙ ap (λ (l : List Question). first m (seen_of node) entry.context ++ l) sound_now.twos
       ∙ ap (λ (c : Context). first m (seen_of node) c ++ seconds c) is
 
-  need_down : (pair : Pair) → AnswersNeed m node (entry.ones ++ entry.twos) pair → Needs m node context pair
+  need_down : (pair : Pair) → AnswersNeed m node (questions_in entry.one ++ questions_in entry.two) pair → Needs m node context pair
   need_down pair x = record {
     element = x.below.element;
     made = subst (λ (path : List ℕ). IsMade m path node context x.below.element pair.context) (sym x.down)
@@ -260,7 +260,7 @@ module _ (m : MetricsValue) (node : Node) (memo : Memo) (context : Context) (pla
         | inr y ↦ inr (need_down (record { path = j ∷ path; context = other }) y)
       ]
 
-  pub flagged_made : AllByRecursion (NamesKept node below) entry.ones → AllByRecursion (NamesKept node below) entry.twos
+  pub flagged_made : AllByRecursion (NamesKept node below) (questions_in entry.one) → AllByRecursion (NamesKept node below) (questions_in entry.two)
       → IsFlagged m node context memo (roll-Memo layer)
   flagged_made ones twos =
       let own = h.at [] node memo (refl, refl) in
@@ -273,6 +273,7 @@ module _ (m : MetricsValue) (node : Node) (memo : Memo) (context : Context) (pla
         ones = sound_now.ones;
         one = sound_now.one;
         twos = sound_now.twos;
+        two = sound_now.two;
         styled = sound_now.styled;
         ones_kept = ones;
         twos_kept = twos;
@@ -292,9 +293,10 @@ module _ (m : MetricsValue) (node : Node) (memo : Memo) (context : Context) (pla
                 ones = r.ones;
                 one = r.one;
                 twos = r.twos;
+                two = r.two;
                 styled = r.styled;
-                ones_kept = move e.ones r.ones_kept;
-                twos_kept = move e.twos r.twos_kept;
+                ones_kept = move (questions_in e.one) r.ones_kept;
+                twos_kept = move (questions_in e.two) r.twos_kept;
                 regular = r.regular;
               }
         ];
@@ -308,11 +310,10 @@ module _ (m : MetricsValue) (node : Node) (memo : Memo) (context : Context) (pla
                 sized = r.sized;
                 ones = r.ones;
                 styled = r.styled;
-                twos = r.twos;
-                as_many = r.as_many;
-                others = λ index question answer x y other.
-                    let k = r.others index question answer x y other in
-                    (k.0, named_still need question k.1);
+                two = r.two;
+                others = λ index reply x other.
+                    let k = r.others index reply x other in
+                    (k.0, named_still need reply.question k.1);
               }
         ];
       } in
@@ -381,8 +382,8 @@ pub record IsReady (m : MetricsValue) (node : Node) (layer : Memo-F Memo) (entry
   pub known : map own_facts layer.below ≡ map facts (out-Node node).children
   pub agrees : BelowAgree m node layer.below
   pub whole : BelowAgree m node (map cleared layer.below)
-  pub ones : AllByRecursion (NamesKept node (map cleared layer.below)) entry.ones
-  pub twos : AllByRecursion (NamesKept node (map cleared layer.below)) entry.twos
+  pub ones : AllByRecursion (NamesKept node (map cleared layer.below)) (questions_in entry.one)
+  pub twos : AllByRecursion (NamesKept node (map cleared layer.below)) (questions_in entry.two)
 
 module _ (m : MetricsValue) (node : Node) (memo : Memo) (place : ℕ) (entry : Entry) (h : Agrees m node memo) (whole : Agrees m node (cleared memo))
     (at : slice_get (out-Memo memo).entries place ≡ Some entry) where
@@ -403,7 +404,7 @@ module _ (m : MetricsValue) (node : Node) (memo : Memo) (place : ℕ) (entry : E
   -- when the parts are given back
   pub flagged_end : (context : Context) (read : Entry) (below : List Memo) → entry.context ≡ context
       → slice_get (out-Memo (roll-Memo (with_below (whole_of memo) below))).entries place ≡ Some read
-      → AreFlagged m node (entry.ones ++ entry.twos) (out-Memo (whole_of memo)).below below → AllByRecursion (NamesKept node below) entry.ones → AllByRecursion (NamesKept node below) entry.twos
+      → AreFlagged m node (questions_in entry.one ++ questions_in entry.two) (out-Memo (whole_of memo)).below below → AllByRecursion (NamesKept node below) (questions_in entry.one) → AllByRecursion (NamesKept node below) (questions_in entry.two)
       → IsFlagged m node context memo (roll-Memo (flagged_over (roll-Memo (with_below (whole_of memo) below)) place read (out-Memo (roll-Memo (with_below (whole_of memo) below))).below))
   flagged_end context read below is there need ones twos =
       let layer : Memo-F Memo = with_below (whole_of memo) below in
@@ -415,4 +416,4 @@ module _ (m : MetricsValue) (node : Node) (memo : Memo) (place : ℕ) (entry : E
       ∙ ap (λ (z : Memo). roll-Memo (flagged_over z place read below)) (same_whole memo)
       ∙ ap (λ (y : Entry). roll-Memo (flagged_over memo place y below)) same in
       subst (IsFlagged m node context memo) (sym all)
-      (flagged_made m node memo context place entry below h whole at is (subst (λ (z : Memo). AreFlagged m node (entry.ones ++ entry.twos) (out-Memo z).below below) (same_whole memo) need) ones twos)
+      (flagged_made m node memo context place entry below h whole at is (subst (λ (z : Memo). AreFlagged m node (questions_in entry.one ++ questions_in entry.two) (out-Memo z).below below) (same_whole memo) need) ones twos)

@@ -2,6 +2,7 @@ ghost use Rattle.std.specs.Prelude.{◌≡◌, ◌++◌, map, true, false, IfSom
 ghost use Rattle.std.specs.List.{AllByRecursion};
 ghost use Rattle.math_tree.specs.declared.node.Node.TheViews.{out-Node};
 ghost use Rattle.embellished.specs.Facts.{facts};
+ghost use Rattle.layout_model.specs.Answers.{questions_in};
 ghost use Rattle.kept_results.specs.Kept.{Agrees, IsKept, IsMissing, NamesKept};
 ghost use Rattle.kept_results.specs.Looking.{own_facts};
 ghost use Rattle.kept_results.specs.declared.memo.Memo.TheViews.{out-Memo};
@@ -11,8 +12,8 @@ use crate::places::{Spot, place_from};
 use embellished::Facts;
 use fixed_units::List;
 use font_metrics::Metrics;
-use kept_results::{Entry, Former, Memo, Origin, is_same};
-use layout_model::{Context, Question};
+use kept_results::{Entry, Former, Memo, Origin};
+use layout_model::{Context, Reply};
 use math_tree::Node;
 
 /// Marks every element.
@@ -59,14 +60,14 @@ fn flag_asked(node: &Node, own: &Facts, below: &mut List<Memo>, entry: &Entry, m
     requires known { map own_facts below.old ≡ map facts (out-Node node.now).children }
     requires agrees { BelowAgree metrics.now node.now below.old }
     requires whole { BelowAgree metrics.now node.now (map cleared below.old) }
-    requires ones { AllByRecursion (NamesKept node.now (map cleared below.old)) entry.now.ones }
-    requires twos { AllByRecursion (NamesKept node.now (map cleared below.old)) entry.now.twos }
-    ensures flagged { AreFlagged metrics.now node.now (entry.now.ones ++ entry.now.twos) below.old below.new }
-    ensures ones { AllByRecursion (NamesKept node.now below.new) entry.now.ones }
-    ensures twos { AllByRecursion (NamesKept node.now below.new) entry.now.twos }
+    requires ones { AllByRecursion (NamesKept node.now (map cleared below.old)) (questions_in entry.now.one) }
+    requires twos { AllByRecursion (NamesKept node.now (map cleared below.old)) (questions_in entry.now.two) }
+    ensures flagged { AreFlagged metrics.now node.now (questions_in entry.now.one ++ questions_in entry.now.two) below.old below.new }
+    ensures ones { AllByRecursion (NamesKept node.now below.new) (questions_in entry.now.one) }
+    ensures twos { AllByRecursion (NamesKept node.now below.new) (questions_in entry.now.two) }
 {
-    flag_wave(node, own, below, &entry.ones, metrics);
-    flag_wave(node, own, below, &entry.twos, metrics);
+    flag_wave(node, own, below, &entry.one, metrics);
+    flag_wave(node, own, below, &entry.two, metrics);
 }
 
 /// Flags what the answers to the questions of one wave need.
@@ -75,22 +76,33 @@ fn flag_wave(
     node: &Node,
     own: &Facts,
     below: &mut List<Memo>,
-    asks: &List<Question>,
+    replies: &List<Reply>,
     metrics: &Metrics,
 )
     requires own { own.now ≡ facts node.now }
     requires known { map own_facts below.old ≡ map facts (out-Node node.now).children }
     requires agrees { BelowAgree metrics.now node.now below.old }
     requires whole { BelowAgree metrics.now node.now (map cleared below.old) }
-    requires named { AllByRecursion (NamesKept node.now (map cleared below.old)) asks.now }
-    ensures flagged { AreFlagged metrics.now node.now asks.now below.old below.new }
-    ensures named { AllByRecursion (NamesKept node.now below.new) asks.now }
+    requires named { AllByRecursion (NamesKept node.now (map cleared below.old)) (questions_in replies.now) }
+    ensures flagged { AreFlagged metrics.now node.now (questions_in replies.now) below.old below.new }
+    ensures named { AllByRecursion (NamesKept node.now below.new) (questions_in replies.now) }
 {
     let mut spot = Spot { index: 0, place: 0 };
-    for asked in asks.as_slice() {
-        spot = place_from(node, own, below.as_slice(), spot, asked.kid as usize);
+    for asked in replies.as_slice() {
+        spot = place_from(
+            node,
+            own,
+            below.as_slice(),
+            spot,
+            asked.question.kid as usize,
+        );
         let child = &node.children.as_slice()[spot.place];
-        flag_needed(child, below.at_mut(spot.place), &asked.context, metrics);
+        flag_needed(
+            child,
+            below.at_mut(spot.place),
+            &asked.question.context,
+            metrics,
+        );
     }
 }
 
@@ -112,5 +124,5 @@ fn is_in(entry: &Entry, context: &Context) -> bool
     ensures yes { result ≡ true → entry.now.context ≡ context.now }
     ensures no { result ≡ false → entry.now.context ≡ context.now → ⊥ }
 {
-    is_same(&entry.context, context)
+    entry.context.is_same(context)
 }

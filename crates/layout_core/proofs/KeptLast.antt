@@ -20,7 +20,7 @@ use Rattle.layout_model.specs.declared.context.Context.{Context}
 use Rattle.layout_model.specs.declared.context.Question.{Question}
 use Rattle.layout_model.specs.declared.laid.Laid.{Laid}
 use Rattle.layout_core.specs.Slots.{laid_for, with_laid}
-use Rattle.layout_core.proofs.Waves.{laid_out}
+use Rattle.layout_core.proofs.Placed.{laid_out}
 
 -- ---- lists over places
 

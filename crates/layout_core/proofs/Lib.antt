@@ -1,6 +1,4 @@
-pub mod Children
-pub mod Fits
-pub mod KeptLast
-pub mod Roots
-pub mod Waves
-pub mod Whole
+mod KeptLast
+mod LaidWaves
+mod Placed
+mod Roots

@@ -16,17 +16,15 @@ ghost use Rattle.layout_core.specs.Slots.{filled, with_laid};
 
 use crate::slots::{empty_slots, filled};
 use child_questions::{wave_one, wave_two};
-use element_outcomes::finish;
 use embellished::{Known, NodeView, View, known_of};
 use fixed_units::{LayRefusal, List, Memory, Steps};
 use font_metrics::Metrics;
-use layout_model::{Answer, Context, Laid, Outcome, Question, Stretch};
+use layout_model::{Answer, Context, Laid, Outcome, Question};
 use math_tree::{Node, Tree};
-use op_dictionary::Form;
+use outcomes::finish;
 use std::alloc::Global;
 use std::mem;
 use std::sync::ledger::Ledger;
-use style_scope::root_style;
 
 /// Lays out a tree, every element afresh. It is refused with `Range` exactly where a number of a
 /// layout that is made on the way can't be stored. Where it is done, it took one step for each layout that
@@ -44,11 +42,7 @@ pub fn lay_fresh<L: Ledger>(
 {
     let root = tree.root();
     let known = known_of(alloc, root)?;
-    let context = Context {
-        style: root_style(&root.head, metrics),
-        form: Form::Infix,
-        stretch: Stretch::None,
-    };
+    let context = Context::at_root(&root.head, metrics);
     lay_element(alloc, root, &known, &context, metrics, steps)
 }
 
@@ -191,17 +185,5 @@ fn take_in(
 fn add_answer(alloc: Global, answers: &mut List<Answer>, answer: &Answer) -> Result<(), Memory>
     ensures { OnOk result (answers.new ≡ answers.old ++ answer.now ∷ []) }
 {
-    answers.push(copy_of(alloc, answer)?)
-}
-
-/// The same answer again.
-fn copy_of(alloc: Global, answer: &Answer) -> Result<Answer, Memory>
-    ensures { IfOk result (λ copied. copied ≡ answer.now) }
-{
-    Ok(Answer {
-        frame: answer.frame,
-        before: answer.before,
-        after: answer.after,
-        cells: answer.cells.copy(alloc)?,
-    })
+    answers.push(answer.copy(alloc)?)
 }

@@ -3,14 +3,19 @@ pub mod AllAsked
 pub mod Asked
 pub mod Carried
 pub mod Cells
+pub mod Children
 pub mod Counted
 pub mod Drawn
+pub mod Fits
 pub mod FontSizes
 pub mod LaidTrees
 pub mod Made
 pub mod Offsets
 pub mod Places
 pub mod Ranges
+pub mod Replies
 pub mod Trees
 pub mod TwoContexts
+pub mod Waves
+pub mod Whole
 mod Worked

@@ -4,6 +4,7 @@ use Rattle.std.specs.List.{zip}
 use Rattle.fixed_units.specs.Boxes.{empty_box}
 use Rattle.layout_model.specs.declared.context.Question.{Question}
 use Rattle.layout_model.specs.declared.outcome.Answer.{Answer}
+use Rattle.layout_model.specs.declared.reply.Reply.{Reply}
 
 -- what stands for the answer of a child that wasn't asked: a box of zeros
 abbrev pub no_answer : Answer
@@ -22,3 +23,10 @@ last_some (x ∷ y ∷ xs) = last_some (y ∷ xs)
 -- the one that counts
 unfoldable pub last_answer : List Question → List Answer → ℕ → Answer
 last_answer asks answers kid = unwrap_or (last_some (answers_to kid asks answers)) no_answer
+
+-- what replies ask, and what they answer, in order
+abbrev pub questions_in : List Reply → List Question
+questions_in replies = map (λ reply. reply.question) replies
+
+abbrev pub answers_in : List Reply → List Answer
+answers_in replies = map (λ reply. reply.answer) replies

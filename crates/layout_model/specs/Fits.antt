@@ -6,6 +6,7 @@ use Rattle.fixed_units.specs.Numbers.{IsWithin}
 use Rattle.font_metrics.specs.Metrics.{MetricsValue}
 use Rattle.embellished.specs.Seen.{Seen}
 use Rattle.style_scope.specs.Sizes.{IsStyle}
+use Rattle.layout_model.specs.Answers.{answers_in, questions_in}
 use Rattle.layout_model.specs.Questions.{first, second}
 use Rattle.layout_model.specs.Range.{answer_fits}
 use Rattle.layout_model.specs.declared.context.Context.{Context}
@@ -13,6 +14,7 @@ use Rattle.layout_model.specs.declared.context.Question.{Question}
 use Rattle.layout_model.specs.declared.context.Stretch.{Stretch}
 use Rattle.layout_model.specs.declared.context.Stretch.TheVariants.{None as Unstretched, Block, Inline, Columns}
 use Rattle.layout_model.specs.declared.outcome.Answer.{Answer}
+use Rattle.layout_model.specs.declared.reply.Reply.{Reply}
 
 -- what stretches can be stored; of columns, the width of each (the width of all may be too large, and
 -- then the row that is asked with it can't be stored)
@@ -43,3 +45,10 @@ pub record AnswersAll (m : MetricsValue) (seen : Seen) (context : Context) (one 
   pub twos : length two ≡ length (second m seen context one)
   pub one_fits : AreAnswers one
   pub two_fits : AreAnswers two
+
+-- replies to exactly what an element asks in both waves, of which all answers can be stored
+pub record RepliesAll (m : MetricsValue) (seen : Seen) (context : Context) (one two : List Reply) : Type 0 where
+  pub one_asked : questions_in one ≡ first m seen context
+  pub two_asked : questions_in two ≡ second m seen context (answers_in one)
+  pub one_fits : AreAnswers (answers_in one)
+  pub two_fits : AreAnswers (answers_in two)

@@ -1,6 +1,14 @@
-use fixed_units::List;
+ghost use Rattle.std.specs.Prelude.{◌≡◌, true, false, IfOk};
+ghost use Rattle.layout_model.specs.Contexts.{pull_of, stretch_of};
+ghost use Rattle.layout_model.specs.Fits.{IsContext};
+ghost use Rattle.layout_model.specs.Layout.{root_context};
+
+use fixed_units::{List, Memory, Pull};
+use font_metrics::Metrics;
+use math_tree::Head;
 use op_dictionary::Form;
-use style_scope::Style;
+use std::alloc::Global;
+use style_scope::{Style, root_style};
 
 /// What stretches an element. Lengths are in units (1/1024 px).
 #[derive(Debug, Drop)]
@@ -16,6 +24,62 @@ pub enum Stretch {
     Columns(List<i64>),
 }
 
+impl Stretch {
+    /// What a pull is to a child.
+    #[tactic(auto, unfolding(crate::specs::Contexts::stretch_of))]
+    pub fn of(pull: Pull) -> Stretch
+        ensures { result ≡ stretch_of pull }
+    {
+        match pull {
+            Pull::Free => Stretch::None,
+            Pull::Block(ascent, descent) => Stretch::Block(ascent, descent),
+            Pull::Inline(width) => Stretch::Inline(width),
+        }
+    }
+
+    /// What pulls a row, a base or an operator; columns pull none of them.
+    #[tactic(auto, unfolding(crate::specs::Contexts::pull_of))]
+    pub fn pull(&self) -> Pull
+        ensures { result ≡ pull_of self.now }
+    {
+        match self {
+            Stretch::None | Stretch::Columns(_) => Pull::Free,
+            Stretch::Block(ascent, descent) => Pull::Block(*ascent, *descent),
+            Stretch::Inline(width) => Pull::Inline(*width),
+        }
+    }
+
+    /// Do both stretch an element alike?
+    pub fn is_same(&self, other: &Stretch) -> bool
+        ensures yes { result ≡ true → self.now ≡ other.now }
+        ensures no { result ≡ false → self.now ≡ other.now → ⊥ }
+    {
+        match (self, other) {
+            (Stretch::None, Stretch::None) => true,
+            (Stretch::Block(up, down), Stretch::Block(other_up, other_down)) => {
+                *up == *other_up && *down == *other_down
+            }
+            (Stretch::Inline(width), Stretch::Inline(other)) => *width == *other,
+            (Stretch::Columns(widths), Stretch::Columns(others)) => {
+                widths.as_slice() == others.as_slice()
+            }
+            _ => false,
+        }
+    }
+
+    /// The same again. Only columns take memory.
+    pub fn copy(&self, alloc: Global) -> Result<Stretch, Memory>
+        ensures { IfOk result (λ copied. copied ≡ self.now) }
+    {
+        match self {
+            Stretch::None => Ok(Stretch::None),
+            Stretch::Block(up, down) => Ok(Stretch::Block(*up, *down)),
+            Stretch::Inline(width) => Ok(Stretch::Inline(*width)),
+            Stretch::Columns(widths) => Ok(Stretch::Columns(widths.copy(alloc)?)),
+        }
+    }
+}
+
 /// In what an element is laid out: what comes from its place in the tree, and what its parent asks.
 #[derive(Debug, Drop)]
 pub struct Context {
@@ -25,10 +89,56 @@ pub struct Context {
     pub stretch: Stretch,
 }
 
+impl Context {
+    /// That of the root of a tree: it is infix, and nothing stretches it.
+    #[tactic(auto, unfolding(crate::specs::Layout::root_context))]
+    pub fn at_root(root: &Head, metrics: &Metrics) -> Context
+        ensures exact { result ≡ root_context metrics.now root.now }
+        ensures fits { IsContext result }
+    {
+        Context {
+            style: root_style(root, metrics),
+            form: Form::Infix,
+            stretch: Stretch::None,
+        }
+    }
+
+    /// Are both the same?
+    pub fn is_same(&self, other: &Context) -> bool
+        ensures yes { result ≡ true → self.now ≡ other.now }
+        ensures no { result ≡ false → self.now ≡ other.now → ⊥ }
+    {
+        self.style == other.style && self.form == other.form && self.stretch.is_same(&other.stretch)
+    }
+
+    /// The same again. Only columns take memory.
+    pub fn copy(&self, alloc: Global) -> Result<Context, Memory>
+        ensures { IfOk result (λ copied. copied ≡ self.now) }
+    {
+        Ok(Context {
+            style: self.style,
+            form: self.form,
+            stretch: self.stretch.copy(alloc)?,
+        })
+    }
+}
+
 /// A question of an element to one of its children: its layout in a context.
 #[derive(Debug, Drop)]
 pub struct Question {
     /// The child's place among the children in flow, counted from 0.
     pub kid: u32,
     pub context: Context,
+}
+
+impl Question {
+    /// The same again.
+    pub fn copy(&self, alloc: Global) -> Result<Question, Memory>
+        ensures { IfOk result (λ copied. copied ≡ self.now) }
+    {
+        Ok(Question {
+            kid: self.kid,
+            context: self.context.copy(alloc)?,
+        })
+    }
 }

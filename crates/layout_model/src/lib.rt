@@ -16,8 +16,10 @@ mod context; // Stretch, Context, Question
 mod laid; // Laid
 pub mod laws; // what holds of all elements and trees
 mod outcome; // Answer, Offset, Outcome
+mod reply; // Reply
 
 pub use asking::Asking;
 pub use context::{Context, Question, Stretch};
 pub use laid::Laid;
 pub use outcome::{Answer, Offset, Outcome};
+pub use reply::{Answered, Reply};

@@ -1,5 +1,9 @@
-use fixed_units::{List, MathBox};
+ghost use Rattle.std.specs.Prelude.{◌≡◌, pos, [], IfOk};
+ghost use Rattle.layout_model.specs.Answers.{no_answer};
+
+use fixed_units::{List, MathBox, Memory};
 use font_metrics::Mark;
+use std::alloc::Global;
 
 /// What the layout of an element tells its parent. Lengths are in units (1/1024 px).
 #[derive(Debug, Drop)]
@@ -12,6 +16,61 @@ pub struct Answer {
     /// Of a row of a table the widths of its cells, in order.
     pub cells: List<i64>,
 }
+
+impl Answer {
+    /// What counts as the answer of a child that wasn't asked: a box of zeros. It takes no memory.
+    pub fn none(alloc: Global) -> Answer
+        ensures { result ≡ no_answer }
+    {
+        Answer::of_box(alloc, EMPTY)
+    }
+
+    /// That of a box, with no space round it, and no cells. It takes no memory.
+    pub fn of_box(alloc: Global, frame: MathBox) -> Answer
+        ensures { result ≡ record { frame = frame; before = pos 0; after = pos 0; cells = [] } }
+    {
+        Answer {
+            frame,
+            before: 0,
+            after: 0,
+            cells: List::make(alloc),
+        }
+    }
+
+    /// The same again. Only that of a row of a table takes memory.
+    pub fn copy(&self, alloc: Global) -> Result<Answer, Memory>
+        ensures { IfOk result (λ copied. copied ≡ self.now) }
+    {
+        Ok(Answer {
+            frame: self.frame,
+            before: self.before,
+            after: self.after,
+            cells: copied(alloc, &self.cells)?,
+        })
+    }
+}
+
+/// The same widths of cells again. Most elements have none.
+fn copied(alloc: Global, cells: &List<i64>) -> Result<List<i64>, Memory>
+    ensures { IfOk result (λ copied. copied ≡ cells.now) }
+{
+    if cells.is_empty() {
+        Ok(List::make(alloc))
+    } else {
+        cells.copy(alloc)
+    }
+}
+
+/// A box without size.
+const EMPTY: MathBox = MathBox {
+    width: 0,
+    ascent: 0,
+    descent: 0,
+    ink_ascent: 0,
+    ink_descent: 0,
+    italic: 0,
+    accent: 0,
+};
 
 /// Where a child stands: from the start of its parent to the right, and downward from its parent's
 /// baseline to its own.

@@ -1,6 +1,7 @@
-use Rattle.std.proofs.Common.{◌≡◌, ◌∙◌, sym, ap, subst, ℕ, [], ◌∷◌, length, take, arith, List, ℤ, w64, to_z, of_z, lit<}
+use Rattle.std.proofs.Common.{◌≡◌, ◌∙◌, sym, ap, subst, ℕ, [], ◌∷◌, ◌++◌, length, map, take, arith, List, ℤ, w64, to_z, of_z, lit<}
 use Rattle.std.specs.List.{All}
 use Rattle.std.proofs.lemmas.List.Elements.{All-append, All-cons, All-nil}
+use Rattle.layout_model.specs.Answers.{questions_in}
 use Rattle.layout_model.specs.Fits.{HasStyle}
 use Rattle.std.proofs.lemmas.Int.{to_z-of_z}
 use Rattle.fixed_units.specs.Boxes.{farthest}
@@ -15,6 +16,7 @@ use Rattle.layout_model.specs.declared.context.Question.{Question}
 use Rattle.layout_model.specs.declared.context.Stretch.TheVariants.{Columns}
 use Rattle.math_tables.specs.Placing.{table_width_of}
 use Rattle.layout_model.proofs.Ranges.{columns_few, columns_in}
+use Rattle.layout_model.proofs.Replies.{questions_more}
 use Rattle.child_questions.proofs.tables.rows_asked.Goals as goal
 
 abbrev asked_in : ℕ → Context → Question
@@ -22,27 +24,31 @@ asked_in kid context = record { kid = kid; context = context }
 
 pub total_width-total-requires-clause-few : goal.total_width-total-requires-clause-few
 total_width-total-requires-clause-few g c =
-    let e = c.as_slice.ensures ∙ c.in_ok-widths.ensures {u = tt} ∙ ap columns_over c.as_slice-rows.ensures in
-    omega (arith, ap length e, columns_few 65_536 c.args.rows.now c.requires.answers.few)
+    let told = map (g.A.Answered.told) in
+    let e = c.as_slice.ensures ∙ c.in_ok-widths.ensures {u = tt} ∙ ap columns_over (ap told c.as_slice-rows.ensures) in
+    omega (arith, ap length e, columns_few 65_536 (told c.args.rows.now) c.requires.answers.few)
 
 pub total_width-total-requires-clause-fit : goal.total_width-total-requires-clause-fit
 total_width-total-requires-clause-fit g c =
-    let e = c.as_slice.ensures ∙ c.in_ok-widths.ensures {u = tt} ∙ ap columns_over c.as_slice-rows.ensures in
-    subst (All (IsWithin farthest)) (sym e) (columns_in c.args.rows.now c.requires.answers.fit)
+    let told = map (g.A.Answered.told) in
+    let e = c.as_slice.ensures ∙ c.in_ok-widths.ensures {u = tt} ∙ ap columns_over (ap told c.as_slice-rows.ensures) in
+    subst (All (IsWithin farthest)) (sym e) (columns_in (told c.args.rows.now) c.requires.answers.fit)
 
 pub loop-index-init : goal.loop-index-init
-loop-index-init g c = record {
-  value = (c.in_ok-asks.ensures {u = tt}) ∙ sym (list_to-zero (row_asked c.args.metrics.now (seen_of (g.V.View.element c.args.parent.now)) c.args.context.now c.as_slice-rows.result.now));
-  styles = subst (All HasStyle) (sym (c.in_ok-asks.ensures {u = tt})) (All-nil HasStyle);
-}
+loop-index-init g c =
+    let rows = map (g.A.Answered.told) c.as_slice-rows.result.now in
+    let none = ap questions_in (c.in_ok-asks.ensures {u = tt}) in
+    record {
+      value = none ∙ sym (list_to-zero (row_asked c.args.metrics.now (seen_of (g.V.View.element c.args.parent.now)) c.args.context.now rows));
+      styles = subst (All HasStyle) (sym none) (All-nil HasStyle);
+    }
 
 pub loop-index-preserved : goal.loop-index-preserved
 loop-index-preserved g c =
-    let row = row_asked c.args.metrics.now (seen_of (g.V.View.element c.args.parent.now)) c.args.context.now c.as_slice-rows.result.now in
-    let pushed = (c.in_ok-push.ensures {u = tt}).ok in
+    let rows = map (g.A.Answered.told) c.as_slice-rows.result.now in
+    let row = row_asked c.args.metrics.now (seen_of (g.V.View.element c.args.parent.now)) c.args.context.now rows in
     let before = c.loop-index.invariant.value in
     let more = list_to-add_one c.loop-index.index row in
-    let rows = c.as_slice-rows.result.now in
     let widths : c.in_ok-widths.widths ≡ columns_over rows = c.in_ok-widths.ensures {u = tt} in
     let total : to_z w64 (of_z w64 c.total_width-total.result) ≡ table_width_of (columns_over rows) =
     to_z-of_z w64 c.total_width-total.result (fits_i64 c.total_width-total.ensures.within (lit< tt)) ∙ c.total_width-total.ensures.value ∙ ap table_width_of (c.as_slice.ensures ∙ widths) in
@@ -52,9 +58,10 @@ loop-index-preserved g c =
     ∙ ap (λ (w : List ℤ). Columns (table_width_of (columns_over rows) ∷ take c.cells_at.result w)) widths
     ∙ ap (λ (n : ℕ). Columns (table_width_of (columns_over rows) ∷ take n (columns_over rows))) c.cells_at.ensures in
     let context = c.kid_context-context.ensures.value ∙ ap (kid_context c.args.metrics.now (seen_of (g.V.View.element c.args.parent.now)) c.args.context.now c.loop-index.index) stretch in
-    let made = ap (asked_in c.loop-index.index) context in
+    let made : c.to_come.result.question ≡ row c.loop-index.index = c.to_come.ensures.question ∙ ap (asked_in c.loop-index.index) context in
+    let pushed = questions_more c.loop-index.asks c.push.new.self c.to_come.result (row c.loop-index.index) (c.in_ok-push.ensures {u = tt}).ok made in
     record {
-      value = cc;
-      styles = subst (All HasStyle) (sym pushed) (All-append HasStyle c.loop-index.asks _ c.loop-index.invariant.styles
-          (All-cons HasStyle _ [] c.kid_context-context.ensures.style (All-nil HasStyle)));
+      value = pushed ∙ ap (λ (l : List Question). l ++ row c.loop-index.index ∷ []) before ∙ sym more;
+      styles = subst (All HasStyle) (sym pushed) (All-append HasStyle (questions_in c.loop-index.asks) _ c.loop-index.invariant.styles
+          (All-cons HasStyle _ [] (subst (λ (x : Context). HasStyle (asked_in c.loop-index.index x)) context c.kid_context-context.ensures.style) (All-nil HasStyle)));
     }

@@ -4,11 +4,12 @@ use Rattle.std.specs.Option.{option_map}
 use Rattle.std.specs.Borrow.{Bor}
 use Rattle.math_tree.specs.declared.node.Node.{Node}
 use Rattle.embellished.specs.Seen.{flow_nodes, seen_of}
+use Rattle.layout_model.specs.Answers.{questions_in}
 use Rattle.layout_model.specs.Layout.{last_context}
 use Rattle.layout_model.specs.Questions.{IsBelow}
 use Rattle.layout_model.specs.declared.context.Context.{Context}
 use Rattle.fixed_units.specs.Sums.{list_to}
-use Rattle.layout_core.proofs.Children.{among_all, as_many_nodes, child_of, few_children, in_flow, near}
+use Rattle.layout_model.proofs.Children.{among_all, as_many_nodes, child_of, few_children, in_flow, near}
 use Rattle.kept_results.specs.Kept.{IsMemoOf}
 use Rattle.kept_results.specs.Looking.{own_facts}
 use Rattle.kept_results.specs.declared.memo.Memo.{Memo}
@@ -36,13 +37,13 @@ pub last_contexts-requires-clause-ones : goal.last_contexts-requires-clause-ones
 last_contexts-requires-clause-ones c =
     let count = c.kids-count.ensures.count ∙ ap (λ (n : Node). length (seen_of n).kids) (c.in_ok-view.ensures {u = tt}) in
     let within = ones_within c.requires.agrees.metrics c.args.node.now c.args.memo.now c.args.entry.now c.requires.agrees.agrees c.requires.has in
-    subst (λ n. All (IsBelow n) c.args.entry.now.ones) (sym count) within
+    subst (λ n. All (IsBelow n) (questions_in c.args.entry.now.one)) (sym count) within
 
 pub last_contexts-requires-clause-twos : goal.last_contexts-requires-clause-twos
 last_contexts-requires-clause-twos c =
     let count = c.kids-count.ensures.count ∙ ap (λ (n : Node). length (seen_of n).kids) (c.in_ok-view.ensures {u = tt}) in
     let within = twos_within c.requires.agrees.metrics c.args.node.now c.args.memo.now c.args.entry.now c.requires.agrees.agrees c.requires.has in
-    subst (λ n. All (IsBelow n) c.args.entry.now.twos) (sym count) within
+    subst (λ n. All (IsBelow n) (questions_in c.args.entry.now.two)) (sym count) within
 
 pub loop-index-init : goal.loop-index-init
 unfolding list_to

@@ -2,7 +2,8 @@ use Rattle.std.proofs.Common.{◌≡◌, ◌∙◌, refl, sym, ap, Bool, true, f
 use Rattle.std.proofs.lemmas.Bool.{eqb-true}
 use Rattle.math_tree.specs.declared.node.Node.{Node}
 use Rattle.math_tree.specs.declared.node.Node.TheViews.{out-Node}
-use Rattle.layout_model.specs.declared.context.Question.{Question}
+use Rattle.layout_model.specs.Answers.{questions_in}
+use Rattle.layout_model.specs.declared.reply.Reply.{Reply}
 use Rattle.child_questions.specs.Surveys.{has_one_wave}
 use Rattle.kept_results.proofs.Flowing.{all_in_flow}
 use Rattle.kept_results.proofs.earlier.is_regular.Goals as goal
@@ -27,5 +28,5 @@ returns c =
       all = all_in_flow node (sym c.kids.ensures.count ∙ kids ∙ many);
       behind = sym c.prescripts.ensures ∙ behind ∙ many;
       one_wave = ap has_one_wave (sym c.requires) ∙ sym c.has_one_wave.ensures ∙ holds _ one.1;
-      in_order = λ index question at. c.are_in_order.ensures e index question (ap (λ (l : List Question). slice_get l index) c.as_slice.ensures ∙ at);
+      in_order = λ index question at. c.are_in_order.ensures e index question (ap (λ (l : List Reply). slice_get (questions_in l) index) c.as_slice.ensures ∙ at);
     }

@@ -3,6 +3,7 @@ use Rattle.std.proofs.lemmas.Option.{same_Some}
 use Rattle.std.specs.Result.{result_err}
 use Rattle.fixed_units.specs.declared.refusal.LayRefusal.TheVariants.{Range}
 use Rattle.embellished.specs.Seen.{seen_of}
+use Rattle.layout_model.specs.Answers.{answers_in, questions_in}
 use Rattle.layout_model.specs.Fits.{AreAnswers}
 use Rattle.layout_model.specs.Layout.{equation}
 use Rattle.layout_model.specs.Range.{outcome_fits}
@@ -11,43 +12,34 @@ use Rattle.layout_model.specs.declared.outcome.Outcome.{Outcome}
 use Rattle.kept_results.specs.Looking.{remade, turned, with_entry}
 use Rattle.kept_results.specs.declared.memo.Entry.{Entry}
 use Rattle.kept_results.specs.declared.memo.Memo.TheViews.{roll-Memo}
-use Rattle.kept_results.proofs.Replacing.{as_many_turned, near_one, near_ones, one_turned, ones_turned, put_back, put_twice, stands_there, turned_back}
+use Rattle.kept_results.proofs.Replacing.{near_one, one_turned, put_back, put_twice, stands_there, turned_back}
 use Rattle.kept_results.proofs.remaking.make_again.Goals as goal
-
-pub lay_again-made-requires-clause-as_many : goal.lay_again-made-requires-clause-as_many
-lay_again-made-requires-clause-as_many g c =
-    as_many_turned c.args.memo.now c.args.before.entry c.args.before.child c.args.said c.at_mut.result.now c.turn-had.new.entry c.at_mut.ensures.value c.turn-had.ensures.turned c.requires.as_many
 
 pub lay_again-made-requires-clause-ones : goal.lay_again-made-requires-clause-ones
 lay_again-made-requires-clause-ones g c =
-    ones_turned c.args.memo.now c.args.before.entry c.args.before.child c.args.said c.at_mut.result.now c.turn-had.new.entry c.at_mut.ensures.value c.turn-had.ensures.turned ∙ c.requires.ones
+    ap questions_in (one_turned c.args.memo.now c.args.before.entry c.args.before.child c.args.reply c.at_mut.result.now c.turn-had.new.entry c.at_mut.ensures.value c.turn-had.ensures.turned) ∙ c.requires.ones
 
 pub lay_again-made-requires-clause-stored : goal.lay_again-made-requires-clause-stored
 lay_again-made-requires-clause-stored g c =
     subst AreAnswers
-    (sym (one_turned c.args.memo.now c.args.before.entry c.args.before.child c.args.said c.at_mut.result.now c.turn-had.new.entry c.at_mut.ensures.value c.turn-had.ensures.turned))
+    (sym (ap answers_in (one_turned c.args.memo.now c.args.before.entry c.args.before.child c.args.reply c.at_mut.result.now c.turn-had.new.entry c.at_mut.ensures.value c.turn-had.ensures.turned)))
     c.requires.stored
 
-pub turn-requires-clause-asked : goal.turn-requires-clause-asked
-turn-requires-clause-asked g c =
-    near_ones c.args.memo.now c.args.before.entry c.args.before.child c.args.said c.at_mut.result.now c.turn-had.new.entry c.at_mut.ensures.value c.turn-had.ensures.turned
+pub turn-requires : goal.turn-requires
+turn-requires g c =
+    near_one c.args.memo.now c.args.before.entry c.args.before.child c.args.reply c.at_mut.result.now c.turn-had.new.entry c.at_mut.ensures.value c.turn-had.ensures.turned
     c.at_mut-entry.result.now c.at_mut-entry.ensures.value c.requires.asked
-
-pub turn-requires-clause-answered : goal.turn-requires-clause-answered
-turn-requires-clause-answered g c =
-    near_one c.args.memo.now c.args.before.entry c.args.before.child c.args.said c.at_mut.result.now c.turn-had.new.entry c.at_mut.ensures.value c.turn-had.ensures.turned
-    c.at_mut-entry.result.now c.at_mut-entry.ensures.value (omega (arith, c.requires.asked, c.requires.as_many))
 
 pub returns-in-Ok-clause-ok : goal.returns-in-Ok-clause-ok
 returns-in-Ok-clause-ok g c =
-    let one = one_turned c.args.memo.now c.args.before.entry c.args.before.child c.args.said c.at_mut.result.now c.turn-had.new.entry c.at_mut.ensures.value c.turn-had.ensures.turned in
+    let one = ap answers_in (one_turned c.args.memo.now c.args.before.entry c.args.before.child c.args.reply c.at_mut.result.now c.turn-had.new.entry c.at_mut.ensures.value c.turn-had.ensures.turned) in
     (c.in-Ok.ensures {u = tt}).answer
     ∙ ap (λ (o : Outcome). o.answer)
     ((c.in-Ok.ensures {u = tt}).outcome ∙ ap (λ (l : List Answer). equation c.args.metrics.now (seen_of c.args.node.now) c.args.context.now l []) one)
 
 pub returns-in-Ok-clause-fit : goal.returns-in-Ok-clause-fit
 returns-in-Ok-clause-fit g c =
-    let one = one_turned c.args.memo.now c.args.before.entry c.args.before.child c.args.said c.at_mut.result.now c.turn-had.new.entry c.at_mut.ensures.value c.turn-had.ensures.turned in
+    let one = ap answers_in (one_turned c.args.memo.now c.args.before.entry c.args.before.child c.args.reply c.at_mut.result.now c.turn-had.new.entry c.at_mut.ensures.value c.turn-had.ensures.turned) in
     ap (λ (l : List Answer). outcome_fits (equation c.args.metrics.now (seen_of c.args.node.now) c.args.context.now l [])) (sym one) ∙ (c.in-Ok.ensures {u = tt}).fit
 
 pub returns-in-Ok-clause-made : goal.returns-in-Ok-clause-made
@@ -55,17 +47,17 @@ returns-in-Ok-clause-made g c =
     let memo = c.args.memo.now in
     let place = c.args.before.entry in
     let child = c.args.before.child in
-    let said = c.args.said in
+    let reply = c.args.reply in
     let entry = c.at_mut.result.now in
     let had = c.turn-had.result in
-    let one = one_turned memo place child said entry c.turn-had.new.entry c.at_mut.ensures.value c.turn-had.ensures.turned in
-    let there = stands_there memo place child said entry c.turn-had.new.entry c.at_mut.ensures.value c.turn-had.ensures.turned c.at_mut-entry.result.now c.at_mut-entry.ensures.value in
+    let one = ap answers_in (one_turned memo place child reply entry c.turn-had.new.entry c.at_mut.ensures.value c.turn-had.ensures.turned) in
+    let there = stands_there memo place child reply entry c.turn-had.new.entry c.at_mut.ensures.value c.turn-had.ensures.turned c.at_mut-entry.result.now c.at_mut-entry.ensures.value in
     let outcome = (c.in-Ok.ensures {u = tt}).outcome ∙ ap (λ (l : List Answer). equation c.args.metrics.now (seen_of c.args.node.now) c.args.context.now l []) one in
     record {
       entry = entry;
       at = c.at_mut.ensures.value;
       had = had;
-      has_said = c.turn-had.ensures.had;
+      has = c.turn-had.ensures.had;
       changed =
           put_twice memo place entry c.at_mut.ensures.value c.turn-had.new.entry c.remake.new.entry
           ∙ ap (λ (e : Entry). roll-Memo (with_entry memo place e)) (c.remake.ensures ∙ (λ i. remade (there i) (outcome i) child had));
@@ -74,7 +66,7 @@ returns-in-Ok-clause-made g c =
 pub returns-in-Err-clause-range : goal.returns-in-Err-clause-range
 returns-in-Err-clause-range g c =
     λ e.
-    let one = one_turned c.args.memo.now c.args.before.entry c.args.before.child c.args.said c.at_mut.result.now c.turn-had.new.entry c.at_mut.ensures.value c.turn-had.ensures.turned in
+    let one = ap answers_in (one_turned c.args.memo.now c.args.before.entry c.args.before.child c.args.reply c.at_mut.result.now c.turn-had.new.entry c.at_mut.ensures.value c.turn-had.ensures.turned) in
     let same = same_Some c.in-Err.refusal Range (ap result_err e) in
     ap (λ (l : List Answer). outcome_fits (equation c.args.metrics.now (seen_of c.args.node.now) c.args.context.now l [])) (sym one)
     ∙ (c.in-Err.ensures {u = tt}).range (ap Err same)
@@ -84,11 +76,11 @@ returns-in-Err-clause-unchanged g c =
     let memo = c.args.memo.now in
     let place = c.args.before.entry in
     let child = c.args.before.child in
-    let said = c.args.said in
+    let reply = c.args.reply in
     let entry = c.at_mut.result.now in
     let had = c.turn-had.result in
-    let there = stands_there memo place child said entry c.turn-had.new.entry c.at_mut.ensures.value c.turn-had.ensures.turned c.at_mut-entry.result.now c.at_mut-entry.ensures.value in
+    let there = stands_there memo place child reply entry c.turn-had.new.entry c.at_mut.ensures.value c.turn-had.ensures.turned c.at_mut-entry.result.now c.at_mut-entry.ensures.value in
     put_twice memo place entry c.at_mut.ensures.value c.turn-had.new.entry c.turn.new.entry
     ∙ ap (λ (e : Entry). roll-Memo (with_entry memo place e))
-    (c.turn.ensures.turned ∙ ap (λ (e : Entry). turned e child had) there ∙ turned_back entry child said had c.turn-had.ensures.had)
+    (c.turn.ensures.turned ∙ ap (λ (e : Entry). turned e child had) there ∙ turned_back entry child reply had c.turn-had.ensures.had)
     ∙ put_back memo place entry c.at_mut.ensures.value

@@ -7,8 +7,10 @@ use Rattle.math_tree.specs.declared.node.Node.TheViews.{out-Node, size-Node}
 use Rattle.embellished.specs.Facts.{facts}
 use Rattle.embellished.specs.Seen.{flow_children}
 use Rattle.embellished.proofs.InFlow.{among}
+use Rattle.layout_model.specs.Answers.{questions_in}
 use Rattle.layout_model.specs.declared.context.Question.{Question}
-use Rattle.layout_core.proofs.Children.{item_of}
+use Rattle.layout_model.proofs.Replies.{asked_at, asked_within}
+use Rattle.layout_model.proofs.Children.{item_of}
 use Rattle.kept_results.specs.Kept.{NamesKept}
 use Rattle.kept_results.specs.Looking.{own_facts}
 use Rattle.kept_results.specs.declared.memo.Memo.{Memo}
@@ -64,19 +66,19 @@ flag_asked-flag_wave-requires-2 t c =
     let node = c.args.node.now in
     let done = c.flag_wave.ensures.flagged in
     let whole : BelowAgree m node (map cleared c.flag_wave.new.below) = subst (λ (l : List Memo). BelowAgree m node l) (sym done.same) c.requires.whole in
-    let twos : AllByRecursion (NamesKept node (map cleared c.flag_wave.new.below)) c.args.entry.now.twos =
-    subst (λ (l : List Memo). AllByRecursion (NamesKept node l) c.args.entry.now.twos) (sym done.same) c.requires.twos in
+    let twos : AllByRecursion (NamesKept node (map cleared c.flag_wave.new.below)) (questions_in c.args.entry.now.two) =
+    subst (λ (l : List Memo). AllByRecursion (NamesKept node l) (questions_in c.args.entry.now.two)) (sym done.same) c.requires.twos in
     (omega arith, (c.requires.own, (known_still done c.requires.known, (done.agrees, (whole, twos)))))
 
 pub flag_asked-returns-clause-flagged : goal.flag_asked-returns-clause-flagged
 flag_asked-returns-clause-flagged t c =
-    let ones : List Question = c.args.entry.now.ones in
-    let twos : List Question = c.args.entry.now.twos in
+    let ones : List Question = questions_in c.args.entry.now.one in
+    let twos : List Question = questions_in c.args.entry.now.two in
     flagged_both (ones ++ twos) (λ q i. Contains-append_left ones twos q i) (λ q i. Contains-append_right ones twos q i) c.flag_wave.ensures.flagged c.flag_wave-2.ensures.flagged
 
 pub flag_asked-returns-clause-ones : goal.flag_asked-returns-clause-ones
 flag_asked-returns-clause-ones t c =
-    all_then (NamesKept c.args.node.now c.flag_wave.new.below) (NamesKept c.args.node.now c.flag_wave-2.new.below) (named_still c.flag_wave-2.ensures.flagged) c.args.entry.now.ones c.flag_wave.ensures.named
+    all_then (NamesKept c.args.node.now c.flag_wave.new.below) (NamesKept c.args.node.now c.flag_wave-2.new.below) (named_still c.flag_wave-2.ensures.flagged) (questions_in c.args.entry.now.one) c.flag_wave.ensures.named
 
 -- ---- one question after another
 
@@ -86,14 +88,14 @@ flag_wave-place_from-spot-requires-clause-known t c = ap (map own_facts) c.as_sl
 pub flag_wave-place_from-spot-requires-clause-within : goal.flag_wave-place_from-spot-requires-clause-within
 flag_wave-place_from-spot-requires-clause-within t c =
     let node = c.args.node.now in
-    let q = c.asked-item.result in
+    let q = c.asked-item.result.question in
     let P : Question → Type 0 = NamesKept node (map cleared c.args.below.now) in
-    let named = item_of P _ _ c.loop-asked.asked-index q (All-from_recursion P c.args.asks.now c.requires.named) c.as_slice-asked-items.ensures c.loop-asked-test.true c.asked-item.is in
+    let named = item_of P _ _ c.loop-asked.asked-index q (All-from_recursion P (questions_in c.args.replies.now) c.requires.named) (ap questions_in c.as_slice-asked-items.ensures) (asked_within _ _ c.loop-asked-test.true) (asked_at _ _ _ c.loop-asked-test.true c.asked-item.is) in
     slice_get_within (flow_children node) q.kid named.child named.to
 
 pub flag_wave-bounds-as_slice-spot : goal.flag_wave-bounds-as_slice-spot
 flag_wave-bounds-as_slice-spot t c =
-    omega (arith, place_near c.args.node.now c.asked-item.result.kid c.place_from-spot.result.place c.place_from-spot.ensures.child, ap length c.as_slice-in-loop-asked.ensures)
+    omega (arith, place_near c.args.node.now c.asked-item.result.question.kid c.place_from-spot.result.place c.place_from-spot.ensures.child, ap length c.as_slice-in-loop-asked.ensures)
 
 pub flag_wave-offset_bounds-as_slice-spot : goal.flag_wave-offset_bounds-as_slice-spot
 flag_wave-offset_bounds-as_slice-spot t c =
@@ -103,7 +105,7 @@ flag_wave-offset_bounds-as_slice-spot t c =
 pub flag_wave-at_mut-requires : goal.flag_wave-at_mut-requires
 flag_wave-at_mut-requires t c =
     let node = c.args.node.now in
-    let near = place_near node c.asked-item.result.kid c.place_from-spot.result.place c.place_from-spot.ensures.child in
+    let near = place_near node c.asked-item.result.question.kid c.place_from-spot.result.place c.place_from-spot.ensures.child in
     let known = ap length (known_still c.loop-asked.invariant.flagged c.requires.known) in
     omega (arith, near, known, length-map c.loop-asked.below own_facts, length-map (out-Node node).children facts)
 
@@ -111,13 +113,13 @@ pub flag_wave-flag_needed-requires : goal.flag_wave-flag_needed-requires
 flag_wave-flag_needed-requires t c =
     let m = c.args.metrics.now in
     let node = c.args.node.now in
-    let q = c.asked-item.result in
+    let q = c.asked-item.result.question in
     let place = c.place_from-spot.result.place in
     let kid = c.index-as_slice-spot.result in
     let old = c.at_mut.result.now in
     let done = c.loop-asked.invariant.flagged in
     let P : Question → Type 0 = NamesKept node (map cleared c.args.below.now) in
-    let named = item_of P _ _ c.loop-asked.asked-index q (All-from_recursion P c.args.asks.now c.requires.named) c.as_slice-asked-items.ensures c.loop-asked-test.true c.asked-item.is in
+    let named = item_of P _ _ c.loop-asked.asked-index q (All-from_recursion P (questions_in c.args.replies.now) c.requires.named) (ap questions_in c.as_slice-asked-items.ensures) (asked_within _ _ c.loop-asked-test.true) (asked_at _ _ _ c.loop-asked-test.true c.asked-item.is) in
     let to = child_read node kid q.kid place c.as_slice-in-loop-asked.result.now c.place_from-spot.ensures.child c.as_slice-in-loop-asked.ensures c.index-as_slice-spot.is in
     let at : slice_get (out-Node node).children place ≡ Some kid = among node q.kid record { place = place; node = kid } to in
     let falls : size-Node kid < size-Node node = found_smaller node kid q.kid place to in
@@ -128,22 +130,22 @@ pub flag_wave-loop-asked-preserved : goal.flag_wave-loop-asked-preserved
 flag_wave-loop-asked-preserved t c =
     let m = c.args.metrics.now in
     let node = c.args.node.now in
-    let asks = c.args.asks.now in
-    let items = c.as_slice-asked-items.result.now in
+    let asks = questions_in c.args.replies.now in
+    let items = questions_in c.as_slice-asked-items.result.now in
     let i = c.loop-asked.asked-index in
-    let q = c.asked-item.result in
+    let q = c.asked-item.result.question in
     let below = c.loop-asked.below in
     let new = c.flag_needed.new.memo in
     let place = c.place_from-spot.result.place in
     let kid = c.index-as_slice-spot.result in
-    let asked : Contains asks q = subst (λ (l : List Question). Contains l q) c.as_slice-asked-items.ensures (i, c.loop-asked-test.true, sym c.asked-item.is) in
+    let asked : Contains asks q = subst (λ (l : List Question). Contains l q) (ap questions_in c.as_slice-asked-items.ensures) (i, asked_within _ _ c.loop-asked-test.true, sym (asked_at _ _ _ c.loop-asked-test.true c.asked-item.is)) in
     let to = child_read node kid q.kid place c.as_slice-in-loop-asked.result.now c.place_from-spot.ensures.child c.as_slice-in-loop-asked.ensures c.index-as_slice-spot.is in
     let one : AreFlagged m node asks below (set below place new) =
     flagged_one m node kid place asks q asked to below c.at_mut.result.now new c.at_mut.ensures.value c.flag_needed.ensures c.loop-asked.invariant.flagged.agrees in
     let last : NamesKept node (set below place new) q = named_one m node kid place asks q asked to below c.at_mut.result.now new c.at_mut.ensures.value c.flag_needed.ensures in
     record {
       flagged = flagged_both asks (λ x k. k) (λ x k. k) c.loop-asked.invariant.flagged one;
-      named = all_more (NamesKept node (set below place new)) items i q c.loop-asked-test.true c.asked-item.is
+      named = all_more (NamesKept node (set below place new)) items i q (asked_within _ _ c.loop-asked-test.true) (asked_at _ _ _ c.loop-asked-test.true c.asked-item.is)
           (all_then (NamesKept node below) (NamesKept node (set below place new)) (named_still one) (take i items) c.loop-asked.invariant.named) last;
       counted = c.place_from-spot.ensures.spot;
     }

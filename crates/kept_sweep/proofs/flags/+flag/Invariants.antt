@@ -2,6 +2,7 @@ use Rattle.std.proofs.Common.{◌≡◌, ℕ, List, take}
 use Rattle.std.specs.List.{AllByRecursion}
 use Rattle.font_metrics.specs.Metrics.{MetricsValue}
 use Rattle.math_tree.specs.declared.node.Node.{Node}
+use Rattle.layout_model.specs.Answers.{questions_in}
 use Rattle.layout_model.specs.declared.context.Question.{Question}
 use Rattle.kept_results.specs.Kept.{NamesKept}
 use Rattle.kept_results.specs.declared.memo.Memo.{Memo}
@@ -17,4 +18,4 @@ pub record Asked (m : MetricsValue) (node : Node) (asks items : List Question) (
   pub counted : spot.index ≡ shown_before node spot.place
 
 abbrev pub invariant-flag_wave-loop-asked : goal.invariant-flag_wave-loop-asked
-invariant-flag_wave-loop-asked l = Asked l.metrics l.node l.asks l.asked-items l.asked-index l.fn.below l.below l.spot
+invariant-flag_wave-loop-asked l = Asked l.metrics l.node (questions_in l.replies) (questions_in l.asked-items) l.asked-index l.fn.below l.below l.spot

@@ -15,10 +15,12 @@ use Rattle.layout_model.specs.Range.{is_font_size, outcome_fits}
 use Rattle.layout_core.specs.Slots.{with_laid}
 use Rattle.style_scope.specs.Sizes.{size_of}
 use Rattle.layout_model.proofs.Asked.{IsQuestionStored}
-use Rattle.layout_core.proofs.Children.{child_of, few_below, few_children, in_flow, item_of, known_at, known_below, near, smaller}
-use Rattle.layout_core.proofs.Fits.{answers_are, range_is}
-use Rattle.layout_core.proofs.Waves.{all_fit, as_many_places, broken, count_more, fit_more, kept_more, kept_none, told_more}
-use Rattle.layout_core.proofs.Whole.{and_true, answers_all, fits_true, first_false, laid_waves, lay_waves, ones_below, ones_false, ones_stored, outcome_false, range_waves, size_false, twos_below, twos_false, twos_stored, visits_waves}
+use Rattle.layout_model.proofs.Children.{child_of, few_below, few_children, in_flow, item_of, known_at, known_below, near, smaller}
+use Rattle.layout_model.proofs.Fits.{answers_are, range_is}
+use Rattle.layout_core.proofs.Placed.{as_many_places, kept_more, kept_none, told_more}
+use Rattle.layout_model.proofs.Waves.{all_fit, broken, count_more, fit_more}
+use Rattle.layout_core.proofs.LaidWaves.{laid_waves}
+use Rattle.layout_model.proofs.Whole.{and_true, answers_all, fits_true, first_false, lay_waves, ones_below, ones_false, ones_stored, outcome_false, range_waves, size_false, twos_below, twos_false, twos_stored, visits_waves}
 use Rattle.layout_core.proofs.fresh.+lay.Goals as goal
 
 -- ---- one question after another

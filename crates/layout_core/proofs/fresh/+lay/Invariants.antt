@@ -1,7 +1,7 @@
 use Rattle.std.proofs.Common.{◌≡◌, ◌+◌, true, map, take}
 use Rattle.layout_core.specs.Slots.{with_laid}
 use Rattle.layout_model.specs.Laws.{answer_of}
-use Rattle.layout_core.proofs.Waves.{all_fit, count_below}
+use Rattle.layout_model.proofs.Waves.{all_fit, count_below}
 use Rattle.layout_core.proofs.fresh.+lay.Given as goal
 
 -- the questions so far are answered, each child is kept at its place, and all that was made fits

@@ -1,4 +1,0 @@
-pub mod FontSizes
-pub mod Kids
-mod Lasts
-pub mod Lists

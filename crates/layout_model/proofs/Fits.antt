@@ -1,0 +1,101 @@
+-- Answers of layouts that can be stored can be stored.
+use Rattle.std.proofs.Common.{◌≡◌, ◌∙◌, refl, sym, ap, ℕ, ◌≤◌, arith, true, ◌&&◌, List, [], ◌∷◌, length, map, All, Option, Some, None, slice_get}
+use Rattle.std.proofs.lemmas.Bool.{and_parts}
+use Rattle.std.proofs.lemmas.List.Elements.{All-cons, All-map, All-nil}
+use Rattle.std.proofs.lemmas.List.Folds.{list_all-append}
+use Rattle.std.proofs.lemmas.Option.{none-some, same_Some, slice_get-map}
+use Rattle.std.specs.List.{flat_map, list_all}
+use Rattle.std.specs.Option.{option_map, option_map_or}
+use Rattle.fixed_units.specs.Boxes.{is_stored}
+use Rattle.font_metrics.specs.Metrics.{MetricsValue}
+use Rattle.math_tree.specs.Trees.{element_count}
+use Rattle.math_tree.specs.declared.node.Node.{Node}
+use Rattle.math_tree.specs.declared.node.Node.TheViews.{out-Node}
+use Rattle.math_tree.proofs.Counts.{elements_are, one_of}
+use Rattle.embellished.specs.Seen.{Child, flow_children, flow_nodes, seen_of}
+use Rattle.embellished.proofs.InFlow.{among}
+use Rattle.style_scope.specs.Sizes.{size_of}
+use Rattle.layout_model.specs.Answers.{no_answer}
+use Rattle.layout_model.specs.Fits.{AreAnswers}
+use Rattle.layout_model.specs.Laws.{answer_of, visits_below}
+use Rattle.layout_model.specs.Layout.{in_range, lay, questions, visit_fits, visits}
+use Rattle.layout_model.specs.Range.{answer_fits, is_font_size, mark_fits, offset_fits, outcome_fits}
+use Rattle.layout_model.specs.declared.context.Context.{Context}
+use Rattle.layout_model.specs.declared.context.Question.{Question}
+use Rattle.layout_model.specs.declared.outcome.Answer.{Answer}
+use Rattle.layout_model.specs.declared.outcome.Outcome.{Outcome}
+use Rattle.layout_model.proofs.Cells.{lay_cells}
+use Rattle.layout_model.proofs.Trees.{visits_are}
+use Rattle.layout_model.proofs.Children.{few_children, few_in_flow}
+use Rattle.layout_model.proofs.Waves.{all_fit}
+
+module _ (m : MetricsValue) where
+  -- ---- an element whose layouts fit
+
+  -- its own, and all that are made for its questions
+  pub range_is : (node : Node) (context : Context)
+      → in_range m node context
+      ≡ ((is_font_size (size_of m context.style) && outcome_fits (lay m node context)) && all_fit m node (questions m (seen_of node) context (answer_of m node)))
+  unfolding in_range
+  range_is node context = ap (list_all (visit_fits m)) (visits_are m node context)
+
+  own_fits : (node : Node) (context : Context) → in_range m node context ≡ true → outcome_fits (lay m node context) ≡ true
+  own_fits node context e =
+      (and_parts (is_font_size (size_of m context.style)) (outcome_fits (lay m node context))
+      (and_parts (is_font_size (size_of m context.style) && outcome_fits (lay m node context)) (all_fit m node (questions m (seen_of node) context (answer_of m node)))
+      (sym (range_is node context) ∙ e)).0).1
+
+  answer_in : (outcome : Outcome) → outcome_fits outcome ≡ true → answer_fits outcome.answer ≡ true
+  unfolding outcome_fits
+  answer_in outcome e =
+      (and_parts (answer_fits outcome.answer) (list_all offset_fits outcome.offsets)
+      (and_parts (answer_fits outcome.answer && list_all offset_fits outcome.offsets) (list_all mark_fits outcome.marks) e).0).0
+
+  -- ---- the answers of a wave
+  module _ (node : Node) (few : element_count node ≤ 65_536) where
+    abbrev PassBelow : Question → Type 0
+    PassBelow question = list_all (visit_fits m) (visits_below m node question) ≡ true
+
+    each_fits : (asks : List Question) → all_fit m node asks ≡ true → All PassBelow asks
+    each_fits [] e = All-nil PassBelow
+    each_fits (question ∷ asks) e =
+        let parts = and_parts (list_all (visit_fits m) (visits_below m node question)) (all_fit m node asks)
+        (sym (list_all-append (visit_fits m) (visits_below m node question) (flat_map (visits_below m node) asks)) ∙ e) in
+        All-cons PassBelow question asks parts.0 (each_fits asks parts.1)
+
+    -- a question names a child, or no one answers
+    answer_passes : (question : Question) → PassBelow question → answer_fits (answer_of m node question) ≡ true
+    unfolding answer_of visits_below answer_fits is_stored in_range
+    answer_passes question = by (slice_get (flow_nodes node) question.kid)
+      where
+        by : (found : Option Node)
+            → list_all (visit_fits m) (option_map_or (λ (kid : Node). visits m kid question.context) found []) ≡ true
+            → answer_fits (option_map_or (λ (kid : Node). (lay m kid question.context).answer) found no_answer) ≡ true
+        by None e = refl
+        by (Some kid) e = answer_in (lay m kid question.context) (own_fits kid question.context e)
+
+    child_count : (index : ℕ) (kid : Node) → slice_get (flow_nodes node) index ≡ Some kid → element_count kid ≤ 65_536
+    child_count index kid at = by (slice_get (flow_children node) index) refl (sym (slice_get-map (λ (child : Child). child.node) (flow_children node) index) ∙ at)
+      where
+        by : (found : Option Child) → slice_get (flow_children node) index ≡ found → option_map (λ (child : Child). child.node) found ≡ Some kid → element_count kid ≤ 65_536
+        by None e is = absurd (none-some kid is)
+        by (Some child) e is =
+            let all = among node index child e in
+            let same : element_count child.node ≡ element_count kid = ap element_count (same_Some child.node kid is) in
+            omega (arith, few, elements_are node, one_of (out-Node node).children child.place child.node all, same)
+
+    cells_few : (question : Question) → length (answer_of m node question).cells ≤ 65_536
+    unfolding answer_of
+    cells_few question = by (slice_get (flow_nodes node) question.kid) refl
+      where
+        by : (found : Option Node) → slice_get (flow_nodes node) question.kid ≡ found
+            → length (option_map_or (λ (kid : Node). (lay m kid question.context).answer) found no_answer).cells ≤ 65_536
+        by None e = omega arith
+        by (Some kid) e =
+            omega (arith, lay_cells m kid question.context, few_in_flow kid, few_children kid, child_count question.kid kid e)
+
+    pub answers_are : (asks : List Question) → all_fit m node asks ≡ true → AreAnswers (map (answer_of m node) asks)
+    answers_are asks e = record {
+      fit = All-map (λ answer. answer_fits answer ≡ true) (answer_of m node) asks (λ k d l. answer_passes _ (each_fits asks e k d l));
+      few = All-map (λ (answer : Answer). length answer.cells ≤ 65_536) (answer_of m node) asks (λ k d l. cells_few _);
+    }

@@ -1,0 +1,9 @@
+mod CellBounds
+mod Exactly
+mod FontSizes
+mod Kids
+mod Lasts
+mod Leaves
+mod Lists
+mod Roots
+mod RowBounds

@@ -1,0 +1,33 @@
+//! The outcome of one element, over the replies of its children: its box, where its children stand,
+//! and what it draws.
+//!
+//! `finish_replies` takes the replies of both waves; `finish` takes the answers alone, and asks again.
+//! An `Element` is what an equation reads: the answer that counts of each child, the context, the
+//! metrics.
+//!
+//! - Models: MathML Core 3; a file a construct, and each kind names the equation of a crate below.
+//! - Proved: the outcome is `equation` of `layout_model`, exactly; it is refused exactly where one of
+//!   its numbers is out of range.
+//! - Knows nothing of: trees. It sees one element through a `View`.
+//! - Change how a kind is laid out: its arm in `specs/Equations.antt` of `layout_model`, then the
+//!   function of that kind, named in `src/kinds.rt`. Which answer counts: `specs/Answers.antt` of
+//!   `layout_model`, then `src/answers.rt`.
+#![tactic(auto, using(fixed_units::proofs::Signed::from_bits))]
+
+mod answers; // the answer that counts of each child
+mod element; // Element
+mod finishing; // finish, finish_replies
+mod fraction; // a fraction
+mod kinds; // one function a kind
+mod leaf; // tokens, operators and spaces
+mod limits; // limits over and under a base
+mod listing; // lists of offsets and marks
+mod padding; // padded rows
+mod pairs; // scripts in pairs
+mod range; // which outcomes can be stored
+mod root; // a root with an index
+mod row; // rows, errors, square roots and cells
+mod script; // scripts beside a base
+mod table; // tables and their rows
+
+pub use finishing::{finish, finish_replies};

@@ -1,0 +1,133 @@
+ghost use Rattle.std.specs.Prelude.{◌≡◌, ◌^◌, pos, slice_index_or, IfOk};
+ghost use Rattle.std.specs.List.{All};
+ghost use Rattle.fixed_units.specs.Boxes.{IsBoxWithin};
+ghost use Rattle.fixed_units.specs.Numbers.{IsWithin};
+ghost use Rattle.embellished.specs.Seen.{seen_of};
+ghost use Rattle.layout_model.specs.Elements.{along, row_in, shows_spaces};
+ghost use Rattle.layout_model.specs.Equations.{cell_outcome, error_outcome, row_outcome, square_root_outcome};
+ghost use Rattle.layout_model.specs.Rows.{error_of};
+ghost use Rattle.outcomes.specs.Rows.{IsRowWithin};
+
+use crate::element::Element;
+use embellished::View;
+use fixed_units::{List, MathBox, Memory, half};
+use layout_model::{Offset, Outcome};
+use math_tables::{cell, cell_start};
+use radicals::square_root;
+use row_stretch::{Row, row_finish};
+use std::alloc::Global;
+
+/// A row (MathML Core 3.3.1.2).
+pub fn row_outcome<V: View>(alloc: Global, e: &Element<V>) -> Result<Outcome, Memory>
+    ensures { IfOk result (λ outcome. outcome ≡ row_outcome e.now) }
+{
+    let row = row_in(alloc, e)?;
+    let offsets = along(alloc, e, &row, 0, 0)?;
+    Ok(e.outcome(alloc, row.frame, offsets, List::make(alloc)))
+}
+
+/// An error: its row, with 1 px round it.
+pub fn error_outcome<V: View>(alloc: Global, e: &Element<V>) -> Result<Outcome, Memory>
+    ensures { IfOk result (λ outcome. outcome ≡ error_outcome e.now) }
+{
+    let row = row_in(alloc, e)?;
+    let frame = bordered(&row.frame);
+    let offsets = along(alloc, e, &row, BORDER, 0)?;
+    Ok(e.outcome(alloc, frame, offsets, List::make(alloc)))
+}
+
+/// A square root over a row (MathML Core 3.3.3.2).
+pub fn square_root_outcome<V: View>(alloc: Global, e: &Element<V>) -> Result<Outcome, Memory>
+    ensures { IfOk result (λ outcome. outcome ≡ square_root_outcome e.now) }
+{
+    let row = row_in(alloc, e)?;
+    let root = square_root(&row.frame, e.context().style.display, e.size(), e.metrics());
+    let offsets = along(alloc, e, &row, root.base.x, root.base.y)?;
+    let mut marks = List::make(alloc);
+    marks.push(root.surd)?;
+    marks.push(root.rule)?;
+    Ok(e.outcome(alloc, root.frame, offsets, marks))
+}
+
+/// A cell of a table: its row, with padding round it (MathML Core 3.5.3).
+pub fn cell_outcome<V: View>(alloc: Global, e: &Element<V>) -> Result<Outcome, Memory>
+    ensures { IfOk result (λ outcome. outcome ≡ cell_outcome e.now) }
+{
+    let row = row_in(alloc, e)?;
+    let frame = cell(&row.frame, e.size(), e.metrics());
+    let offsets = along(alloc, e, &row, cell_start(e.size()), 0)?;
+    Ok(e.outcome(alloc, frame, offsets, List::make(alloc)))
+}
+
+/// What stands round an error, in place of a border: 1 px.
+const BORDER: i64 = 1024;
+
+/// The box of an error round its row.
+#[tactic(auto, using(fixed_units::proofs::Signed::from_bits), unfolding(layout_model::specs::Rows::error_of))]
+fn bordered(row: &MathBox) -> MathBox
+    requires { IsBoxWithin (2 ^ 50) row.now }
+    ensures { result ≡ error_of row.now }
+{
+    let width = row.width + 2 * BORDER;
+    MathBox {
+        width,
+        ascent: row.ascent + BORDER,
+        descent: row.descent + BORDER,
+        ink_ascent: row.ink_ascent + BORDER,
+        ink_descent: row.ink_descent + BORDER,
+        italic: 0,
+        accent: half(width),
+    }
+}
+
+/// The children in flow in a row.
+#[tactic(auto, unfolding(layout_model::specs::Elements::row_in))]
+pub fn row_in<V: View>(alloc: Global, e: &Element<V>) -> Result<Row, Memory>
+    ensures value { IfOk result (λ row. row ≡ row_in e.now) }
+    ensures within { IfOk result IsRowWithin }
+{
+    e.has_row_kids();
+    row_finish(alloc, e, shows_spaces(e.view()))
+}
+
+/// Whether a row shows the spaces of its operators: it isn't embellished itself, or it is the root.
+fn shows_spaces<V: View>(view: &V) -> bool
+    ensures { result ≡ shows_spaces (seen_of (V.element view.now)) }
+{
+    view.head().id.0 == 1 || view.facts().core.is_none()
+}
+
+/// The children of a row that begins at a start, with its baseline so far below that of the element.
+pub fn along<V: View>(
+    alloc: Global,
+    e: &Element<V>,
+    row: &Row,
+    start: i64,
+    y: i64,
+) -> Result<List<Offset>, Memory>
+    requires offsets { All (IsWithin (2 ^ 50)) row.now.offsets }
+    requires start { IsWithin (2 ^ 62) start }
+    ensures { IfOk result (λ offsets. offsets ≡ along e.now row.now start y) }
+{
+    let mut offsets = List::with_room(alloc, e.count())?;
+    for index in 0..e.count() {
+        offsets.push(Offset {
+            kid: index as u32,
+            x: start + offset_at(row, index),
+            y,
+        })?;
+    }
+    Ok(offsets)
+}
+
+/// How far from the row's start a child stands.
+fn offset_at(row: &Row, index: usize) -> i64
+    requires { All (IsWithin (2 ^ 50)) row.now.offsets }
+    ensures value { result ≡ slice_index_or row.now.offsets index (pos 0) }
+    ensures within { IsWithin (2 ^ 50) result }
+{
+    match row.offsets.as_slice().get(index) {
+        Some(offset) => *offset,
+        None => 0,
+    }
+}

@@ -1,0 +1,112 @@
+ghost use Rattle.std.specs.Prelude.{◌≡◌, IfOk, pos, [], ◌∷◌};
+ghost use Rattle.scripts.specs.Beside.{sub_of, sub_sup_of, sup_of};
+ghost use Rattle.layout_model.specs.Elements.{font, frame_at, offset, outcome};
+ghost use Rattle.layout_model.specs.Equations.{has_large_base, sub_outcome, sub_sup_outcome, sup_outcome};
+
+use crate::element::Element;
+use crate::listing::list_of;
+use child_questions::base_properties;
+use embellished::{View, fences_of};
+use fixed_units::{List, Memory};
+use layout_model::{Offset, Outcome};
+use scripts::{Scripted, Spot, sub, sub_sup, sup};
+use std::alloc::Global;
+
+/// Whether the base is a large operator.
+pub fn has_large_base<V: View>(e: &Element<V>) -> bool
+    ensures { result ≡ has_large_base e.now }
+{
+    let view = e.view();
+    match base_properties(view, fences_of(view), e.context(), e.metrics()) {
+        Some(base) => base.largeop,
+        None => false,
+    }
+}
+
+/// A child at a place.
+pub fn offset_at(kid: u32, spot: &Spot) -> Offset
+    ensures { result ≡ offset kid spot.now.x spot.now.y }
+{
+    Offset {
+        kid,
+        x: spot.x,
+        y: spot.y,
+    }
+}
+
+/// The place of the base, at the start.
+const BASE: Offset = Offset { kid: 0, x: 0, y: 0 };
+
+/// A base with a subscript (MathML Core 3.4.1).
+pub fn sub_outcome<V: View>(alloc: Global, e: &Element<V>) -> Result<Outcome, Memory>
+    ensures { IfOk result (λ outcome. outcome ≡ sub_outcome e.now) }
+{
+    with_sub(alloc, e, &sub_in(e))
+}
+
+fn sub_in<V: View>(e: &Element<V>) -> Scripted
+    ensures { result ≡ sub_of e.now.metrics (frame_at e.now 0) (has_large_base e.now) (frame_at e.now 1) (font e.now) }
+{
+    let large = has_large_base(e);
+    sub(&e.frame(0), large, &e.frame(1), e.size(), e.metrics())
+}
+
+fn with_sub<V: View>(alloc: Global, e: &Element<V>, scripted: &Scripted) -> Result<Outcome, Memory>
+    ensures { IfOk result (λ made. made ≡ outcome e.now scripted.now.frame
+        (offset 0 (pos 0) (pos 0) ∷ offset 1 scripted.now.sub.x scripted.now.sub.y ∷ []) []) }
+{
+    let offsets = list_of(alloc, &[BASE, offset_at(1, &scripted.sub)])?;
+    Ok(e.outcome(alloc, scripted.frame, offsets, List::make(alloc)))
+}
+
+/// A base with a superscript (MathML Core 3.4.1).
+pub fn sup_outcome<V: View>(alloc: Global, e: &Element<V>) -> Result<Outcome, Memory>
+    ensures { IfOk result (λ outcome. outcome ≡ sup_outcome e.now) }
+{
+    with_sup(alloc, e, &sup_in(e))
+}
+
+fn sup_in<V: View>(e: &Element<V>) -> Scripted
+    ensures { result ≡ sup_of e.now.metrics (frame_at e.now 0) (has_large_base e.now) e.now.context.style.cramped (frame_at e.now 1) (font e.now) }
+{
+    let large = has_large_base(e);
+    let cramped = e.context().style.cramped;
+    let (base, script) = (e.frame(0), e.frame(1));
+    sup(&base, large, cramped, &script, e.size(), e.metrics())
+}
+
+fn with_sup<V: View>(alloc: Global, e: &Element<V>, scripted: &Scripted) -> Result<Outcome, Memory>
+    ensures { IfOk result (λ made. made ≡ outcome e.now scripted.now.frame
+        (offset 0 (pos 0) (pos 0) ∷ offset 1 scripted.now.sup.x scripted.now.sup.y ∷ []) []) }
+{
+    let offsets = list_of(alloc, &[BASE, offset_at(1, &scripted.sup)])?;
+    Ok(e.outcome(alloc, scripted.frame, offsets, List::make(alloc)))
+}
+
+/// A base with a subscript and a superscript (MathML Core 3.4.1).
+pub fn sub_sup_outcome<V: View>(alloc: Global, e: &Element<V>) -> Result<Outcome, Memory>
+    ensures { IfOk result (λ outcome. outcome ≡ sub_sup_outcome e.now) }
+{
+    with_both(alloc, e, &sub_sup_in(e))
+}
+
+fn sub_sup_in<V: View>(e: &Element<V>) -> Scripted
+    ensures { result ≡ sub_sup_of e.now.metrics (frame_at e.now 0) (has_large_base e.now) e.now.context.style.cramped
+        (frame_at e.now 1) (frame_at e.now 2) (font e.now) }
+{
+    let large = has_large_base(e);
+    let cramped = e.context().style.cramped;
+    let (base, below, above) = (e.frame(0), e.frame(1), e.frame(2));
+    sub_sup(&base, large, cramped, &below, &above, e.size(), e.metrics())
+}
+
+fn with_both<V: View>(alloc: Global, e: &Element<V>, scripted: &Scripted) -> Result<Outcome, Memory>
+    ensures { IfOk result (λ made. made ≡ outcome e.now scripted.now.frame
+        (offset 0 (pos 0) (pos 0) ∷ offset 1 scripted.now.sub.x scripted.now.sub.y
+        ∷ offset 2 scripted.now.sup.x scripted.now.sup.y ∷ []) []) }
+{
+    let below = offset_at(1, &scripted.sub);
+    let above = offset_at(2, &scripted.sup);
+    let offsets = list_of(alloc, &[BASE, below, above])?;
+    Ok(e.outcome(alloc, scripted.frame, offsets, List::make(alloc)))
+}

@@ -1,0 +1,115 @@
+ghost use Rattle.std.specs.Prelude.{◌≡◌, ◌≤◌, ◌^◌, pos, length, map, IfOk};
+ghost use Rattle.std.specs.List.{All};
+ghost use Rattle.fixed_units.specs.Boxes.{IsStored, farthest};
+ghost use Rattle.fixed_units.specs.Numbers.{IsWithin};
+ghost use Rattle.fixed_units.specs.Sums.{list_to};
+ghost use Rattle.layout_model.specs.Elements.{frames_of, offset};
+ghost use Rattle.layout_model.specs.Equations.{cells_placed, row_at, table_outcome, table_row_outcome, widths_of};
+
+use crate::element::Element;
+use crate::row::along;
+use embellished::View;
+use fixed_units::{List, MathBox, Memory};
+use layout_model::{Offset, Outcome, Stretch};
+use math_tables::{row_of_cells, table_finish, total_width};
+use row_stretch::Row;
+use std::alloc::Global;
+
+/// A row of a table: its cells in the middle of their columns (MathML Core 3.5.2).
+pub fn table_row_outcome<V: View>(alloc: Global, e: &Element<V>) -> Result<Outcome, Memory>
+    ensures { IfOk result (λ outcome. outcome ≡ table_row_outcome e.now) }
+{
+    let cells = frames(alloc, e)?;
+    let widths = widths(alloc, cells.as_slice())?;
+    let row = cells_placed(alloc, e, &cells, &widths)?;
+    let offsets = along(alloc, e, &row, 0, 0)?;
+    Ok(e.outcome_with(row.frame, widths, offsets, List::make(alloc)))
+}
+
+/// The cells of a row in their columns; without columns, each in one as wide as itself.
+#[tactic(auto, unfolding(layout_model::specs::Equations::cells_placed))]
+fn cells_placed<V: View>(
+    alloc: Global,
+    e: &Element<V>,
+    cells: &List<MathBox>,
+    widths: &List<i64>,
+) -> Result<Row, Memory>
+    requires cells { cells.now ≡ frames_of e.now }
+    requires stored { All IsStored cells.now }
+    requires widths { widths.now ≡ widths_of e.now }
+    requires widths_fit { All (IsWithin farthest) widths.now }
+    ensures value { IfOk result (λ row. row ≡ cells_placed e.now) }
+    ensures within { IfOk result (λ row. All (IsWithin (2 ^ 50)) row.offsets) }
+{
+    let _count = e.count();
+    if let Stretch::Columns(columns) = &e.context().stretch {
+        if let Some((total, columns)) = columns.as_slice().split_first() {
+            let mut own = List::make(alloc);
+            own.push_all(columns)?;
+            return row_of_cells(alloc, cells, &own, *total);
+        }
+    }
+    row_of_cells(alloc, cells, widths, total_width(widths.as_slice()))
+}
+
+/// A table: its rows one under the other, round the axis (MathML Core 3.5.1).
+pub fn table_outcome<V: View>(alloc: Global, e: &Element<V>) -> Result<Outcome, Memory>
+    ensures { IfOk result (λ outcome. outcome ≡ table_outcome e.now) }
+{
+    let count = e.count();
+    let rows = frames(alloc, e)?;
+    let widths = e.columns(alloc)?;
+    let table = table_finish(alloc, &rows, &widths, e.size(), e.metrics())?;
+    let places = lines(alloc, count, table.1.as_slice())?;
+    Ok(e.outcome(alloc, table.0, places, List::make(alloc)))
+}
+
+/// The places of so many rows that stand so far below the baseline of their table.
+fn lines(alloc: Global, count: usize, below: &[i64]) -> Result<List<Offset>, Memory>
+    requires { count ≤ 65_535 }
+    ensures { IfOk result (λ places. places ≡ list_to count (λ index. offset index (pos 0) (row_at below.now index))) }
+{
+    let mut places = List::make(alloc);
+    for index in 0..count {
+        places.push(Offset {
+            kid: index as u32,
+            x: 0,
+            y: line(below, index),
+        })?;
+    }
+    Ok(places)
+}
+
+fn line(below: &[i64], index: usize) -> i64
+    ensures { result ≡ row_at below.now index }
+{
+    match below.get(index) {
+        Some(y) => *y,
+        None => 0,
+    }
+}
+
+/// The boxes of the children in flow.
+fn frames<V: View>(alloc: Global, e: &Element<V>) -> Result<List<MathBox>, Memory>
+    ensures value { IfOk result (λ frames. frames ≡ frames_of e.now) }
+    ensures stored { IfOk result (λ frames. All IsStored frames) }
+{
+    let mut frames = List::make(alloc);
+    for index in 0..e.count() {
+        frames.push(e.frame(index))?;
+    }
+    Ok(frames)
+}
+
+/// The widths of boxes.
+fn widths(alloc: Global, frames: &[MathBox]) -> Result<List<i64>, Memory>
+    requires { All IsStored frames.now }
+    ensures value { IfOk result (λ widths. widths ≡ map (λ frame. frame.width) frames.now) }
+    ensures within { IfOk result (λ widths. All (IsWithin farthest) widths) }
+{
+    let mut widths = List::make(alloc);
+    for frame in frames {
+        widths.push(frame.width)?;
+    }
+    Ok(widths)
+}

@@ -1,3 +1,0 @@
-mod CellBounds
-mod Roots
-mod RowBounds
