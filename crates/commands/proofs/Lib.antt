@@ -7,4 +7,5 @@ mod Continuing
 mod Parts
 mod Replying
 mod RepliesLaws
+mod DigitWords
 mod Worked

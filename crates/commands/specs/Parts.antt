@@ -5,7 +5,7 @@ use Rattle.doc_io.specs.Causes.{Files, Rose, SinkTold}
 use Rattle.font_metrics.specs.Metrics.{MetricsValue}
 use Rattle.math_tree.specs.Trees.{TreeValue}
 use Rattle.commands.specs.Answer.{content, started, tree_in}
-use Rattle.commands.specs.Command.{Work, LaysOut, Edits, Checks}
+use Rattle.commands.specs.Command.{Job, OverTree, Generates, Work, LaysOut, Edits, Checks}
 use Rattle.commands.specs.declared.replies.Stop.{Stop}
 use Rattle.commands.specs.declared.replies.Stop.TheVariants.{WriteFault, Memory}
 use Rattle.commands.specs.declared.status.Status.{Status}
@@ -26,6 +26,11 @@ LacksTree work metrics name files =
     (files name ≡ None)
     ⊎ ((tree : TreeValue) × (tree_in (content files name) ≡ Ok tree)
     × LacksScript work metrics tree files)
+
+-- a file that is needed behind the metrics isn't there
+abbrev pub LacksNext : Job → MetricsValue → Files → Type 0
+LacksNext (OverTree work tree) metrics files = LacksTree work metrics tree files
+LacksNext (Generates seed count) metrics files = ⊥
 
 -- ---- one reply among others
 

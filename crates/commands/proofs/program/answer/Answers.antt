@@ -6,7 +6,7 @@ use Rattle.commands.proofs.program.answer.Goals as goal
 
 pub returns-in-Ok-clause-answered : goal.returns-in-Ok-clause-answered
 returns-in-Ok-clause-answered g c =
-    let a = c.answer_over.ensures.answered in
+    let a = c.answer_with.ensures.answered in
     record {
       result = a.result;
       answers = with_metrics (asked_of c.args.request) _ _ _ c.in-Ok.metrics a.result c.in-Ok.ensures a.answers;
