@@ -9,12 +9,9 @@ MODULES = (
     "units", "dictionary", "elements", "jsontext", "metrics", "tree", "stages", "program", "style", "shaping", "equations",
     "layout")
 
-# The second program does all that is planned, in stages. At this one it has the commands `layout`, `edit`, `check` and
-# `gen`.
+# The second program does all that is planned, in stages. At this one it has the commands `layout`, `edit`, `check` and `gen`.
+# It has a script whole, of any length: what becomes of a run whose reads fail, `runs` works out.
 SO_FAR = 13
-
-# At this one it reads a script whole before anything is written, as the product does.
-WHOLE_SCRIPTS = 10
 
 
 def load(folder):
@@ -34,8 +31,7 @@ def run(reference, words, files):
         looked_for.append(name)
         return files.get(name)
 
-    is_edit = words[:1] == ["edit"] and len(words) == 4
-    status = reference.program.run(words, read, written.append, WHOLE_SCRIPTS if is_edit else SO_FAR)
+    status = reference.program.run(words, read, written.append, SO_FAR)
     return status, b"".join(written), looked_for
 
 

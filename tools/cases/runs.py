@@ -25,9 +25,7 @@ def run(reference, known, value):
     room = fields.within("room", 0, MOST_BYTES) if fields.has("room") else MOST_BYTES
     status, text, looked_for = so_far.run(reference, words, files)
     if status != READ_FAULT:
-        bounds = calls_made(reference, [files[name] for name in looked_for], cuts)
-        if has_call(failing, *bounds):
-            status, text = READ_FAULT, b""
+        status, text = cut_short(reference, words, files, looked_for, cuts, failing, (status, text))
     return told(*written(status, text, fields.items("fail_write", is_count, absent=[]), room), is_sum)
 
 
@@ -64,8 +62,10 @@ def text_of(value):
 
 def failing_calls(of_sink):
     """How the run ends where its first call fails, where its second does, and so on up to the first run that ends as
-    one without failing calls. All files are read before anything is written. So where a call of the inputs fails,
-    nothing is; where one of the sink fails, a front is, since what is written grows with each call."""
+    one without failing calls. A script is read line by line, each behind the last one's reply; all other files are read
+    before anything is written. So where a call of the inputs fails, nothing is or a front; the last call of a script is the
+    one that finds its end, behind all replies. Where one of the sink fails, a front is, since what is written grows with
+    each call."""
 
     def carried_out(reference, known, value):
         fields = Fields(value, "words", "files", "cut")
@@ -75,17 +75,58 @@ def failing_calls(of_sink):
         status, text, looked_for = so_far.run(reference, words, files)
         is_called = text != b"" if of_sink else looked_for != [] and status != READ_FAULT
         fault = WRITE_FAULT if of_sink else READ_FAULT
-        front = f"{fault} {'whole' if text == b'' else 'front'}; " if is_called else ""
-        return f"{front}{status} whole"
+        endings = [f"{fault} {'whole' if text == b'' else 'front'}"] if is_called else []
+        if not of_sink and is_script_read(looked_for) and text != b"":
+            if status != 0:
+                raise Undetermined("how far a script is read that passes a limit isn't told by the formats")
+            endings.append(f"{fault} whole")
+        return "; ".join([*endings, f"{status} whole"])
 
     return carried_out
 
 
+def is_script_read(looked_for):
+    """Whether the files that a run looks for are three: the last one is a script, and is there."""
+    return len(looked_for) == 3
+
+
+def cut_short(reference, words, files, looked_for, cuts, failing, ending):
+    """How a run ends, and what it writes, where the calls of the inputs with these numbers fail; `ending` is how it ends
+    where none does."""
+    few, many = calls_made(reference, [files[name] for name in looked_for[:2]], cuts)
+    if not is_script_read(looked_for):
+        return (READ_FAULT, b"") if has_call(failing, few, many) else ending
+    numbers = [number for number in failing if number > 0]
+    if not numbers:
+        return ending
+    # Before the first reply the script is selected at least, and read once.
+    if min(numbers) <= few + 2:
+        return READ_FAULT, b""
+    return cut_script(reference, words, files, looked_for[2], cuts, (min(numbers) - many, min(numbers) - few), ending)
+
+
+def cut_script(reference, words, files, script, cuts, between, ending):
+    """The same where of the calls of a script, its select and then its reads, one with a number between these two fails
+    first. A line is answered once its line feed was read, and before more is."""
+    content = files[script]
+    soon, late = between
+    if soon > len(content) + 3:
+        return ending
+    is_single = all(cut in cuts for cut in range(1, len(content)))
+    if soon != late or not is_single or ending[0] != 0 or not content.endswith(b"\n"):
+        raise Undetermined("how much of a script was read by then isn't told by the formats")
+    seen = soon - 2
+    if seen > len(content):
+        return ending
+    answered = content[:content.rfind(b"\n", 0, seen) + 1]
+    return READ_FAULT, so_far.run(reference, words, {**files, script: answered})[1]
+
+
 def calls_made(reference, contents, cuts):
-    """The least and the greatest number of calls in which these files are selected and read, one after the other; the
-    first is the metrics file, the second the tree file, the third the script."""
+    """The least and the greatest number of calls in which these files are selected and read whole, one after the other; the
+    first is the metrics file, the second the tree file."""
     program = reference.program
-    limits = (program.METRICS_LIMIT, program.TREE_LIMIT, program.OLD_SCRIPT_LIMIT)
+    limits = (program.METRICS_LIMIT, program.TREE_LIMIT)
     least = most = 0
     for content, limit in zip(contents, limits):
         few, many = reads_made(len(content), limit, cuts)

@@ -41,9 +41,20 @@ ROWS = [
     (["layout", "m", "none"], 5, b""),
     # a folder
     (["layout", "m", "."], 5, b""),
+    (["edit", "m", "t", "."], 5, b""),
+    (["edit", "m", "t", "none"], 5, b""),
     (["layout", "m", "w"], 8, b"range\n"),
     (["edit", "m", "t", "l"], 9, b"shown\nbox 1 math 0 0 0 0 0 0 0\n"),
 ]
+# What an editor says, one line after another, and what it is answered.
+TALK = [
+    (b'{"op":"attr","node":1,"name":"class","value":"a"}\n', b"ok\n"),
+    (b'{"op":"show"}\n', b"shown\nbox 1 math 0 0 0 0 0 0 0\n"),
+    (b'{"op":"remove","node":1}\n', b"refused root\n"),
+    (b"Hello?\n", b"refused line\n"),
+]
+# How much more memory may be had by chance, in KiB: 1 MiB.
+SLACK = 1024
 
 
 @unittest.skipUnless(PROGRAM.is_file(), f"{PROGRAM.relative_to(TOP)} isn't there: `rt ci` builds it")
@@ -80,3 +91,35 @@ class Program(InFolder):
         with open(self.folder / "written", "wb") as short:
             self.assertEqual(self.ended(["layout", "m", "t"], short, **limited), (6, None))
         self.assertEqual((self.folder / "written").read_bytes(), b"box")
+
+    def test_a_conversation(self):
+        os.mkfifo(self.folder / "talk")
+        words = [PROGRAM, "edit", "m", "t", "talk"]
+        with subprocess.Popen(words, cwd=self.folder, stdout=subprocess.PIPE) as program:
+            # Each line is written only once the reply to the one before was read.
+            with open(self.folder / "talk", "wb", buffering=0) as script:
+                for number in range(10_000):
+                    line, reply = TALK[number % len(TALK)]
+                    script.write(line)
+                    self.assertEqual(program.stdout.read(len(reply)), reply, number)
+                # A last line without a line feed is answered once the pipe is closed.
+                script.write(b'{"op":"show"}')
+            self.assertEqual(program.stdout.read(), TALK[1][1])
+        self.assertEqual(program.returncode, 0)
+
+    def peak(self, name):
+        """The most memory in KiB that the program has while it answers a script."""
+        words = [PROGRAM, "edit", "m", "t", name]
+        program = subprocess.Popen(words, cwd=self.folder, stdout=subprocess.DEVNULL)
+        _, status, used = os.wait4(program.pid, 0)
+        program.returncode = os.waitstatus_to_exitcode(status)
+        self.assertEqual(program.returncode, 0)
+        return used.ru_maxrss
+
+    def test_memory_for_one_line(self):
+        # 64 MiB of lines: more than this test itself has, whose memory counts as the program's until that begins.
+        line = " " * 1010 + '{"op":"show"}\n'
+        self.file("one", line)
+        with open(self.folder / "many", "w", encoding="utf-8") as many:
+            many.writelines([line] * 65_536)
+        self.assertLess(self.peak("many"), self.peak("one") + SLACK)

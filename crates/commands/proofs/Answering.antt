@@ -1,8 +1,10 @@
 -- How the answers of two parts, one after the other, make the answer of both; and the two files.
 use Rattle.std.proofs.Common.{◌≡◌, ◌⊎◌, inl, inr, ℕ, List, refl, ap, sym, ◌∙◌, subst, arith, Option, Some, None, IfSome, ◌≤◌}
-use Rattle.std.specs.Prelude.{Result, Ok, Err, IsErrOf, IsSomeAnd, IsNone, IsOk}
+use Rattle.std.specs.Prelude.{[], unwrap_or, Result, Ok, Err, IsErrOf, IsSome, IsSomeAnd, IsNone, IsOk}
 use Rattle.std.specs.Option.{option_map}
-use Rattle.doc_io.specs.Causes.{Files, InputsTold}
+use Rattle.std.specs.Io.KnownBytes.{prepend_known}
+use Rattle.doc_io.specs.Causes.{Files, InputsTold, SinkTold}
+use Rattle.doc_io.specs.LineReader.{ReaderValue}
 use Rattle.fixed_units.specs.declared.refusal.LayRefusal.{LayRefusal}
 use Rattle.fixed_units.specs.declared.refusal.LayRefusal.TheVariants as layout
 use Rattle.font_metrics.specs.Metrics.{MetricsValue}
@@ -15,10 +17,11 @@ use Rattle.generator.specs.Start.{start_tree}
 use Rattle.generator.specs.Summary.{lines_of as lines_of_summary}
 use Rattle.generator.specs.declared.summary.Summary.{Summary}
 use Rattle.commands.specs.Command.{Asked, Job, OverTree, Generates, Work, LaysOut, Edits, Checks}
-use Rattle.commands.specs.Answer.{Text, whole_text, content, metrics_in, tree_in, script_in, answers_to, ◌>>=◌, started, lines_of_page, checked, laid_out, scripted, done, generates, told_of_edits, answer_over, answer_with, answer}
+use Rattle.commands.specs.Answer.{Text, whole_text, content, metrics_in, tree_in, answers_to, ◌>>=◌, started, lines_of_page, checked, laid_out, scripted, done, generates, told_of_edits, answer_over, answer_with, answer}
 use Rattle.commands.specs.Refusals.{of_layout}
 use Rattle.commands.specs.Ends.{LacksFile, HasReadCause, IsCut, GivesOr, Answers, IsReachedNext, IsScript, start_of}
-use Rattle.commands.specs.Parts.{LacksNext, LacksScript, LacksTree}
+use Rattle.commands.specs.Parts.{AnswersLines, LacksNext, LacksScript, LacksTree, OpensScript, replies_left}
+use Rattle.commands.specs.declared.status.Status.{Status}
 use Rattle.commands.specs.declared.refusal.Refusal.{Refusal}
 use Rattle.commands.specs.declared.refusal.Refusal.TheVariants.{ReadFault, Range, Memory}
 
@@ -184,26 +187,60 @@ module _ (metrics : MetricsValue) (tree : TreeValue) (seen : InputsTold) (result
 
 -- ---- the script, over a session
 
-abbrev ScriptAnswer : List ℕ → InputsTold → InputsTold → Result (List ℕ) Refusal → Type 0
-ScriptAnswer name before after result =
-    Answers (option_map (λ f. script_in (content f name)) before.files) (λ f. f name ≡ None) before after result
-
 abbrev ScriptedAnswer : List ℕ → SessionValue → InputsTold → InputsTold → Result Text Refusal → Type 0
 ScriptedAnswer name session before after result =
     Answers (option_map (scripted name session) before.files) (λ f. f name ≡ None) before after result
 
-module _ (name : List ℕ) (session : SessionValue) (before after : InputsTold) where
-  pub without_script : (r : Refusal) → ScriptAnswer name before after (Err r) → ScriptedAnswer name session before after (Err r)
-  without_script r a =
-      refused (λ f. script_in (content f name)) (λ script f. Ok (answers_to session script)) (λ f. f name ≡ None) (λ script f. ⊥) (λ f. f name ≡ None)
-      (λ f lack. inl lack) before after r (λ f lack. lack) a
+module _ (name : List ℕ) (session : SessionValue) (before : InputsTold) where
+  -- a file that isn't there wasn't selected
+  there : (files : Option Files) (rest : Option (List ℕ)) → IfSome files (λ f. IsSome (f name) × (rest ≡ f name))
+      → IsSomeAnd files (λ f. f name ≡ None) → ⊥
+  there None rest found away = away
+  there (Some f) rest found away = let e = subst IsSome away found.0 in cc
 
-  pub with_script : (script : List ℕ) → ScriptAnswer name before after (Ok script)
-      → ScriptedAnswer name session before after (Ok (answers_to session script))
-  with_script script a =
-      continued (λ f. script_in (content f name)) (λ script f. Ok (answers_to session script)) (λ f. f name ≡ None) (λ script f. ⊥) (λ f. f name ≡ None)
-      (λ f lack. inl lack) before after after script (Ok (answers_to session script)) (λ f is lack. absurd lack) a
-      (without_files (Ok (answers_to session script)) (Ok (answers_to session script)) after (λ e. cc) (inr refl))
+  pub without_script : (after : InputsTold) (r : Refusal) → OpensScript before after name (Err r)
+      → ScriptedAnswer name session before after (Err r)
+  without_script after r o = record {
+    answer = by before.files;
+    fault = λ is. o.selects.fault (err_again r ReadFault is);
+    lacking = λ away. cut;
+    files = o.selects.files;
+    faults = o.selects.faults;
+    missing = o.selects.missing;
+  }
+    where
+      cut : IsCut {V = Text} (Err r)
+      cut = cut_again r o.selects.cut
+
+      by : (files : Option Files) → IfSome (option_map (scripted name session) files) (λ w. IsCut {V = Text} (Err r) ⊎ (Err r ≡ w))
+      by None = tt
+      by (Some f) = inl cut
+
+  pub with_script : (mid after : InputsTold) (old new : SinkTold) (status : Status) (reader : ReaderValue) → OpensScript before mid name (Ok reader)
+      → (a : AnswersLines session reader mid after old new status) → ScriptedAnswer name session before after (Ok a.text)
+  with_script mid after old new status reader o a = record {
+    answer = by before.files o.selects.found;
+    fault = λ is. absurd (let e = is in cc);
+    lacking = λ away. absurd (there before.files mid.rest o.selects.found away);
+    files = a.files ∙ o.selects.files;
+    faults = omega (arith, o.selects.faults, a.faults);
+    missing = omega (arith, o.selects.missing, a.missing);
+  }
+    where
+      wanted : IfSome (replies_left session (record { held = []; line = []; given = 0 }) mid) (λ replies. a.text ≡ replies)
+      wanted = subst (λ r. IfSome (replies_left session r mid) (λ replies. a.text ≡ replies)) o.fresh a.wanted
+
+      of_file : (file rest : Option (List ℕ)) → IsSome file → rest ≡ file
+          → IfSome (option_map (λ bytes. answers_to session bytes) (prepend_known [] rest)) (λ replies. a.text ≡ replies)
+          → a.text ≡ answers_to session (unwrap_or file [])
+      of_file None rest some is h = absurd (let e = some in cc)
+      of_file (Some bytes) None some is h = absurd cc
+      of_file (Some bytes) (Some left) some is h = let same : left ≡ bytes = cc in h ∙ ap (answers_to session) same
+
+      by : (files : Option Files) → IfSome files (λ f. IsSome (f name) × (mid.rest ≡ f name))
+          → IfSome (option_map (scripted name session) files) (λ w. IsCut {V = Text} (Ok a.text) ⊎ (Ok a.text ≡ w))
+      by None found = tt
+      by (Some f) found = inr (ap Ok (of_file (f name) mid.rest found.0 found.1 wanted))
 
 -- ---- the session of a tree, and then a script
 

@@ -8,11 +8,11 @@ use Rattle.doc_io.proofs.Known.{appends_kept, kept_of_nothing}
 use Rattle.commands.specs.Command.{Asked, usage_line}
 use Rattle.commands.specs.Refusals.{status_of}
 use Rattle.commands.specs.Answer.{answer, Output, Text, output_of, output, status_of_end}
-use Rattle.commands.specs.Ends.{LacksFile, HasReadCause, IsCut, IsCutShort, IsDelivered, IsJobInParts, Answers, Delivers, RunsOut, AnsweredJob, Ends}
+use Rattle.commands.specs.Ends.{LacksFile, HasReadCause, IsCut, IsCutShort, IsDelivered, IsJobInParts, Answers, Delivers, Breaks, AnsweredJob, Ends}
 use Rattle.commands.specs.declared.status.Status.{Status}
 use Rattle.commands.specs.declared.status.Status.TheVariants as status
 use Rattle.commands.specs.declared.refusal.Refusal.{Refusal}
-use Rattle.commands.specs.declared.refusal.Refusal.TheVariants.{MetricsLong, Metrics, TreeLong, TreeJson, Tree, Range, ScriptLong, ReadFault, Memory}
+use Rattle.commands.specs.declared.refusal.Refusal.TheVariants.{MetricsLong, Metrics, TreeLong, TreeJson, Tree, Range, ReadFault, Memory}
 
 -- the status tells a failed read and want of memory
 is_read_fault : (refusal : Refusal) → status_of refusal ≡ status.ReadFault → refusal ≡ ReadFault
@@ -22,7 +22,6 @@ is_read_fault TreeLong e = cc
 is_read_fault TreeJson e = cc
 is_read_fault (Tree fault) e = cc
 is_read_fault Range e = cc
-is_read_fault ScriptLong e = cc
 is_read_fault ReadFault e = refl
 is_read_fault Memory e = cc
 
@@ -33,7 +32,6 @@ is_memory TreeLong e = cc
 is_memory TreeJson e = cc
 is_memory (Tree fault) e = cc
 is_memory Range e = cc
-is_memory ScriptLong e = cc
 is_memory ReadFault e = cc
 is_memory Memory e = refl
 
@@ -45,7 +43,6 @@ not_usage TreeLong e = cc
 not_usage TreeJson e = cc
 not_usage (Tree fault) e = cc
 not_usage Range e = cc
-not_usage ScriptLong e = cc
 not_usage ReadFault e = cc
 not_usage Memory e = cc
 
@@ -57,7 +54,6 @@ not_write_fault TreeLong e = cc
 not_write_fault TreeJson e = cc
 not_write_fault (Tree fault) e = cc
 not_write_fault Range e = cc
-not_write_fault ScriptLong e = cc
 not_write_fault ReadFault e = cc
 not_write_fault Memory e = cc
 
@@ -74,7 +70,6 @@ not_done TreeLong e = cc
 not_done TreeJson e = cc
 not_done (Tree fault) e = cc
 not_done Range e = cc
-not_done ScriptLong e = cc
 not_done ReadFault e = cc
 not_done Memory e = cc
 
@@ -87,8 +82,22 @@ told_not_done refusal text old new s d is = elim d.whole [ inl w ↦ absurd cc |
 abbrev DeliversAnswer : Result Text Refusal → SinkTold → SinkTold → Status → Type 0
 DeliversAnswer result old new s = Delivers (output_of result).bytes (output_of result).status old new s
 
-abbrev RunsOutOf : Result Text Refusal → SinkTold → SinkTold → Status → Type 0
-RunsOutOf result old new s = RunsOut (output_of result).bytes old new s
+abbrev BreaksOff : Result Text Refusal → InputsTold → InputsTold → SinkTold → SinkTold → Status → Type 0
+BreaksOff result before after old new s = Breaks (output_of result).bytes before after old new s
+
+-- the status of what was cut short on the way
+cut_status : (text : List ℕ) (before after : InputsTold) (old new : SinkTold) (s : Status) → Breaks text before after old new s
+    → (s ≡ status.ReadFault) ⊎ (s ≡ status.Memory)
+cut_status text before after old new s b = elim b.cause [ inl memory ↦ inr memory | inr read ↦ inl read.0 ]
+
+cut_not : (wanted s : Status) → ¬ (status.ReadFault ≡ wanted) → ¬ (status.Memory ≡ wanted) → (s ≡ status.ReadFault) ⊎ (s ≡ status.Memory)
+    → s ≡ wanted → ⊥
+cut_not wanted s read memory (inl is) e = read (sym is ∙ e)
+cut_not wanted s read memory (inr is) e = memory (sym is ∙ e)
+
+cut_short : (s : Status) → (s ≡ status.ReadFault) ⊎ (s ≡ status.Memory) → IsCutShort s
+cut_short s (inl read) = inl read
+cut_short s (inr memory) = inr (inr memory)
 
 -- a run that was cut short wrote nothing, and its status says why
 cut_ends : (result : Result Text Refusal) (old new : SinkTold) (s : Status) → IsCut result → DeliversAnswer result old new s
@@ -104,14 +113,15 @@ no_front (suc n) [] none = refl
 no_front (suc n) (b ∷ bs) none = absurd cc
 
 -- of no text nothing was written
-nothing_of : (text : List ℕ) (old new : SinkTold) (s : Status) → text ≡ [] → RunsOut text old new s → Keeps old.written new.written
-nothing_of text old new s none out =
+nothing_of : (text : List ℕ) (before after : InputsTold) (old new : SinkTold) (s : Status) → text ≡ [] → Breaks text before after old new s
+    → Keeps old.written new.written
+nothing_of text before after old new s none out =
     kept_of_nothing old.written new.written (subst (Appends old.written new.written) (no_front out.front.0 text none) out.front.1)
 
-cut_runs_out : (result : Result Text Refusal) (old new : SinkTold) (s : Status) → IsCut result → RunsOutOf result old new s
-    → Keeps old.written new.written
-cut_runs_out result old new s (inl fault) out = nothing_of _ old new s (ap (λ r. (output_of r).bytes) fault) out
-cut_runs_out result old new s (inr memory) out = nothing_of _ old new s (ap (λ r. (output_of r).bytes) memory) out
+cut_breaks : (result : Result Text Refusal) (before after : InputsTold) (old new : SinkTold) (s : Status) → IsCut result
+    → BreaksOff result before after old new s → Keeps old.written new.written
+cut_breaks result before after old new s (inl fault) out = nothing_of _ before after old new s (ap (λ r. (output_of r).bytes) fault) out
+cut_breaks result before after old new s (inr memory) out = nothing_of _ before after old new s (ap (λ r. (output_of r).bytes) memory) out
 
 told_fault : (result : Result Text Refusal) (old new : SinkTold) (s : Status) → DeliversAnswer result old new s
     → s ≡ status.ReadFault → IsErrOf result ReadFault
@@ -144,19 +154,19 @@ IsOutput o old new s = IsCutShort s ⊎ ((s ≡ o.status) × Appends old.written
 abbrev HasFront : Output → SinkTold → SinkTold → Type 0
 HasFront o old new = (n : ℕ) × Appends old.written new.written (take n o.bytes)
 
-told_output : (parts : Type 0) (result wanted : Result Text Refusal) (old new : SinkTold) (s : Status) → IsDelivered parts (output_of result) old new s
-    → IsCut result ⊎ (result ≡ wanted) → IsOutput (output_of wanted) old new s × HasFront (output_of wanted) old new
-told_output parts result wanted old new s (inl d) (inl cut) =
+told_output : (parts : Type 0) (result wanted : Result Text Refusal) (before after : InputsTold) (old new : SinkTold) (s : Status)
+    → IsDelivered parts (output_of result) before after old new s → IsCut result ⊎ (result ≡ wanted) → IsOutput (output_of wanted) old new s × HasFront (output_of wanted) old new
+told_output parts result wanted before after old new s (inl d) (inl cut) =
     let end = cut_ends result old new s cut d in
     (inl (elim end.0 [ inl r ↦ inl r | inr m ↦ inr (inr m) ]), (0, appends_kept old.written new.written end.1))
-told_output parts result wanted old new s (inl d) (inr same) =
+told_output parts result wanted before after old new s (inl d) (inr same) =
     let whole = subst (λ r. DeliversAnswer r old new s) same d in
     (elim whole.whole [ inl w ↦ inl (inr (inl w)) | inr e ↦ inr e ], whole.front)
-told_output parts result wanted old new s (inr p) (inl cut) =
-    (inl (inr (inr p.1.memory)), (0, appends_kept old.written new.written (cut_runs_out result old new s cut p.1)))
-told_output parts result wanted old new s (inr p) (inr same) =
-    let out = subst (λ r. RunsOutOf r old new s) same p.1 in
-    (inl (inr (inr out.memory)), out.front)
+told_output parts result wanted before after old new s (inr p) (inl cut) =
+    (inl (cut_short s (cut_status _ before after old new s p.1)), (0, appends_kept old.written new.written (cut_breaks result before after old new s cut p.1)))
+told_output parts result wanted before after old new s (inr p) (inr same) =
+    let out = subst (λ r. BreaksOff r before after old new s) same p.1 in
+    (inl (cut_short s (cut_status _ before after old new s out)), out.front)
 
 IfSome-first : {X : Type 0} (o : Option X) (P Q : X → Type 0) → IfSome o (λ x. P x × Q x) → IfSome o P
 IfSome-first None P Q h = tt
@@ -176,18 +186,18 @@ no_cause lacks before after files is none still (inr (inr untold)) = let e = sub
 -- the whole ending of a command
 module _ (asked : Asked) (before after : InputsTold) (old new : SinkTold) (s : Status) (result : Result Text Refusal)
     (a : Answers (option_map (answer asked) before.files) (LacksFile (Some asked)) before after result) where
-  whole : IsDelivered (IsJobInParts asked.job) (output_of result) old new s
+  whole : IsDelivered (IsJobInParts asked.job) (output_of result) before after old new s
       → (files : Option Files) → IfSome (option_map (answer asked) files) (λ wanted. IsCut result ⊎ (result ≡ wanted))
       → IfSome files (λ f. IsOutput (output (Some asked) f) old new s × HasFront (output (Some asked) f) old new)
   whole d None h = tt
-  whole d (Some f) h = told_output (IsJobInParts asked.job) result (answer asked f) old new s d h
+  whole d (Some f) h = told_output (IsJobInParts asked.job) result (answer asked f) before after old new s d h
 
-  complete : IsDelivered (IsJobInParts asked.job) (output_of result) old new s → (files : Option Files) → before.files ≡ files
+  complete : IsDelivered (IsJobInParts asked.job) (output_of result) before after old new s → (files : Option Files) → before.files ≡ files
       → IfSome (option_map (answer asked) files) (λ wanted. IsCut result ⊎ (result ≡ wanted))
       → IfSome files (λ f. ¬ LacksFile (Some asked) f → ¬ Rose before.faults after.faults → ¬ Rose old.faults new.faults
       → (s ≡ (output (Some asked) f).status) ⊎ (s ≡ status.Memory))
   complete d None is h = tt
-  complete (inr p) (Some f) is h = λ there reads writes. inr p.1.memory
+  complete (inr p) (Some f) is h = λ there reads writes. elim p.1.cause [ inl memory ↦ inr memory | inr read ↦ absurd (reads read.1) ]
   complete (inl d) (Some f) is h = λ there reads writes. elim d.whole [
     | inl w ↦ absurd (writes (d.fault w))
     | inr e ↦ elim h [
@@ -199,41 +209,43 @@ module _ (asked : Asked) (before after : InputsTold) (old new : SinkTold) (s : S
     ]
   ]
 
-  read_fault : IsDelivered (IsJobInParts asked.job) (output_of result) old new s → s ≡ status.ReadFault → IsErrOf result ReadFault
-  read_fault (inl d) is = told_fault result old new s d is
-  read_fault (inr p) is = let memory = p.1.memory in absurd cc
+  read_fault : IsDelivered (IsJobInParts asked.job) (output_of result) before after old new s → s ≡ status.ReadFault
+      → HasReadCause (LacksFile (Some asked)) before after
+  read_fault (inl d) is = a.fault (told_fault result old new s d is)
+  read_fault (inr p) is = elim p.1.cause [ inl memory ↦ absurd cc | inr read ↦ inl read.1 ]
 
-  unread_cut : IsDelivered (IsJobInParts asked.job) (output_of result) old new s → s ≡ status.ReadFault → Keeps old.written new.written
-  unread_cut (inl d) is = (cut_ends result old new s (inl (told_fault result old new s d is)) d).1
-  unread_cut (inr p) is = let memory = p.1.memory in absurd cc
+  unread_cut : IsDelivered (IsJobInParts asked.job) (output_of result) before after old new s → s ≡ status.ReadFault → ¬ IsJobInParts asked.job
+      → Keeps old.written new.written
+  unread_cut (inl d) is not = (cut_ends result old new s (inl (told_fault result old new s d is)) d).1
+  unread_cut (inr p) is not = absurd (not p.0)
 
-  memory_cut : IsDelivered (IsJobInParts asked.job) (output_of result) old new s → s ≡ status.Memory → ¬ IsJobInParts asked.job → Keeps old.written new.written
+  memory_cut : IsDelivered (IsJobInParts asked.job) (output_of result) before after old new s → s ≡ status.Memory → ¬ IsJobInParts asked.job → Keeps old.written new.written
   memory_cut (inl d) is not = (cut_ends result old new s (inr (told_memory result old new s d is)) d).1
   memory_cut (inr p) is not = absurd (not p.0)
 
-  lacking : IsDelivered (IsJobInParts asked.job) (output_of result) old new s → IsSomeAnd before.files (LacksFile (Some asked))
+  lacking : IsDelivered (IsJobInParts asked.job) (output_of result) before after old new s → IsSomeAnd before.files (LacksFile (Some asked))
       → ((s ≡ status.ReadFault) ⊎ (s ≡ status.Memory)) × Keeps old.written new.written
   lacking (inl d) lack = cut_ends result old new s (a.lacking lack) d
-  lacking (inr p) lack = (inr p.1.memory, cut_runs_out result old new s (a.lacking lack) p.1)
+  lacking (inr p) lack = (cut_status _ before after old new s p.1, cut_breaks result before after old new s (a.lacking lack) p.1)
 
-  write_fault : IsDelivered (IsJobInParts asked.job) (output_of result) old new s → s ≡ status.WriteFault → Rose old.faults new.faults
+  write_fault : IsDelivered (IsJobInParts asked.job) (output_of result) before after old new s → s ≡ status.WriteFault → Rose old.faults new.faults
   write_fault (inl d) is = d.fault is
-  write_fault (inr p) is = let memory = p.1.memory in absurd cc
+  write_fault (inr p) is = absurd (cut_not status.WriteFault s (λ e. cc) (λ e. cc) (cut_status _ before after old new s p.1) is)
 
-  usage : IsDelivered (IsJobInParts asked.job) (output_of result) old new s → s ≡ status.Usage → ⊥
+  usage : IsDelivered (IsJobInParts asked.job) (output_of result) before after old new s → s ≡ status.Usage → ⊥
   usage (inl d) is = never_usage result old new s d is
-  usage (inr p) is = let memory = p.1.memory in absurd cc
+  usage (inr p) is = cut_not status.Usage s (λ e. cc) (λ e. cc) (cut_status _ before after old new s p.1) is
 
-  later : IsDelivered (IsJobInParts asked.job) (output_of result) old new s → old.faults ≤ new.faults
+  later : IsDelivered (IsJobInParts asked.job) (output_of result) before after old new s → old.faults ≤ new.faults
   later (inl d) = d.later
   later (inr p) = p.1.later
 
-  pub ends : IsDelivered (IsJobInParts asked.job) (output_of result) old new s
+  pub ends : IsDelivered (IsJobInParts asked.job) (output_of result) before after old new s
       → (s ≡ status.Done → IsJobInParts asked.job → IsAtEnd after.rest) → Ends (Some asked) before after old new s
   ends d at_end = record {
     outcome = IfSome-first _ _ _ (whole d before.files a.answer);
     front = IfSome-second _ _ _ (whole d before.files a.answer);
-    read_fault = λ is. a.fault (read_fault d is);
+    read_fault = read_fault d;
     write_fault = write_fault d;
     lacking = lacking d;
     unread_cut = unread_cut d;
@@ -278,7 +290,7 @@ told_usage seen old new s d = record {
   read_fault = λ is. absurd (usage_or_fault old new s d (inl is));
   write_fault = d.fault;
   lacking = λ lack. absurd (lacks_none seen.files lack);
-  unread_cut = λ is. absurd (usage_or_fault old new s d (inl is));
+  unread_cut = λ is not. absurd (usage_or_fault old new s d (inl is));
   memory_cut = λ is not. absurd (usage_or_fault old new s d (inr is));
   complete = IfSome-each seen.files _ (λ f there reads writes. elim d.whole [ inl w ↦ absurd (writes (d.fault w)) | inr e ↦ inl e.0 ]);
   usage = λ is. refl;

@@ -2,8 +2,8 @@ pub mod Ending
 pub mod Loading
 pub mod Answering
 pub mod Steps
-mod Lines
 mod Continuing
+mod Reading
 mod Parts
 mod Replying
 mod RepliesLaws

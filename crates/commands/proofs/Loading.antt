@@ -18,11 +18,10 @@ use Rattle.std.specs.Str.{IsUtf8, is_utf8}
 use Rattle.std.proofs.lemmas.Str.{IsUtf8-from_is_utf8, is_utf8-from_IsUtf8}
 use Rattle.commands.specs.Refusals.{of_reading}
 use Rattle.tree_edits.specs.Commands.{json_in}
-use Rattle.commands.specs.Script.{script_limit}
-use Rattle.commands.specs.Answer.{tree_limit, content, of_metrics_file, metrics_in, of_tree_file, tree_of_json, tree_in, script_in}
+use Rattle.commands.specs.Answer.{tree_limit, content, of_metrics_file, metrics_in, of_tree_file, tree_of_json, tree_in}
 use Rattle.commands.specs.Ends.{IsCut, GivesOr, Answers}
 use Rattle.commands.specs.declared.refusal.Refusal.{Refusal}
-use Rattle.commands.specs.declared.refusal.Refusal.TheVariants.{MetricsLong, TreeLong, TreeJson, ScriptLong, ReadFault, Memory}
+use Rattle.commands.specs.declared.refusal.Refusal.TheVariants.{MetricsLong, TreeLong, TreeJson, ReadFault, Memory}
 
 -- ---- a file's bytes
 
@@ -185,22 +184,3 @@ no_json bytes none = by (is_utf8 bytes) refl
     by : (text : Bool) → is_utf8 bytes ≡ text → json_in bytes ≡ None
     by true text = rw text (none (IsUtf8-from_is_utf8 bytes text))
     by false text = rw text refl
-
--- ---- scripts
-
-script_short : (bytes : List ℕ) → length bytes ≤ script_limit → script_in bytes ≡ Ok bytes
-unfolding script_in
-script_short bytes short = let no : nat_lt script_limit (length bytes) ≡ false = le-ltb script_limit (length bytes) short in rw no refl
-
-pub script_long : (bytes : List ℕ) → script_limit < length bytes → script_in bytes ≡ Err ScriptLong
-unfolding script_in
-script_long bytes long = let yes : nat_lt script_limit (length bytes) ≡ true = lt-ltb script_limit (length bytes) long in rw yes refl
-
-pub script_read : (name bytes : List ℕ) (before after : InputsTold)
-    → ReadsAll before after name script_limit (Ok bytes)
-    → Answers (option_map (λ f. script_in (content f name)) before.files) (λ f. f name ≡ None) before after (Ok bytes)
-script_read name bytes before after reads =
-    let whole : script_in bytes ≡ Ok bytes = script_short bytes reads.short in
-    read_whole script_in script_limit name before after bytes (Ok bytes) reads
-    (inr (sym whole))
-    (λ fault. let e : Ok bytes ≡ Err ReadFault = sym whole ∙ fault in cc)

@@ -1,5 +1,5 @@
 -- How a reply is made and written.
-use Rattle.std.proofs.Common.{◌≡◌, ◌∙◌, sym, refl, subst, ℕ, ◌+◌, ◌≤◌, Bool, true, false, List, [], ◌∷◌, ◌++◌, length, take, arith, append-nil, length-append, Option, Some, None}
+use Rattle.std.proofs.Common.{◌≡◌, ◌∙◌, inl, sym, refl, subst, ℕ, ◌+◌, ◌≤◌, Bool, true, false, List, [], ◌∷◌, ◌++◌, length, take, arith, append-nil, length-append, Option, Some, None}
 use Rattle.std.specs.Prelude.{Result, Ok, Err, IsOk, if◌then◌else◌}
 use Rattle.std.proofs.Math.Seq.{take-append-add}
 use Rattle.std.specs.Io.KnownBytes.{Appends}
@@ -72,6 +72,7 @@ told {E} a b text u w = record {
   fault = λ e. absurd cc;
   later = w.faults;
   silent = λ none e. absurd cc;
+  causes = tt;
 }
 
 pub not_told : {E : Type 0} (a b : SinkTold) (text : List ℕ) (e : E) → WritesAll a b text (Err e) → Tells text a b (Err stop.WriteFault)
@@ -81,6 +82,7 @@ not_told {E} a b text e w = record {
   fault = λ is. w.failed;
   later = w.faults;
   silent = λ none is. absurd (let ok = (w.empty none).0 in cc);
+  causes = inl refl;
 }
 
 -- ---- the session after a line

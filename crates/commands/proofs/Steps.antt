@@ -1,14 +1,15 @@
 -- Which statuses come before there is a tree, or before it is laid out.
-use Rattle.std.proofs.Common.{inl, inr, subst, ℕ, List, Bool, true, false}
-use Rattle.doc_io.specs.Causes.{SinkTold}
-use Rattle.doc_io.specs.declared.whole.ReadRefusal.{ReadRefusal}
-use Rattle.doc_io.specs.declared.whole.ReadRefusal.TheVariants as reading
+use Rattle.std.proofs.Common.{◌≡◌, ◌⊎◌, inl, inr, subst, ℕ, List, Bool, true, false}
+use Rattle.std.specs.Prelude.{Err}
+use Rattle.doc_io.specs.Causes.{InputsTold, SinkTold}
+use Rattle.doc_io.specs.LineReader.{ReaderValue}
 use Rattle.fixed_units.specs.declared.refusal.LayRefusal.{LayRefusal}
 use Rattle.fixed_units.specs.declared.refusal.LayRefusal.TheVariants as layout
-use Rattle.commands.specs.Answer.{Text, output_of_text, status_of_end}
-use Rattle.commands.specs.Ends.{Delivers, DeliversParts, EndsBeforeTree, EndsUnlaid}
-use Rattle.commands.specs.Refusals.{of_layout, of_reading, status_of}
-use Rattle.commands.specs.declared.refusal.Refusal.TheVariants.{ScriptLong}
+use Rattle.commands.specs.Answer.{Text, status_of_end}
+use Rattle.commands.specs.Ends.{Breaks, Delivers, EndsBeforeTree, EndsUnlaid, IsCut}
+use Rattle.commands.specs.Refusals.{of_layout, status_of}
+use Rattle.commands.specs.declared.refusal.Refusal.{Refusal}
+use Rattle.commands.specs.declared.refusal.Refusal.TheVariants as refusal
 use Rattle.commands.specs.declared.status.Status.{Status}
 use Rattle.commands.specs.declared.status.Status.TheVariants.{Done, Usage, Metrics, Tree, ReadFault, WriteFault, Memory, Range, ScriptLimit}
 
@@ -31,9 +32,18 @@ not_before true e = e
 not_before false e = e
 
 -- replies to a script
-pub replied_later : (text : Text) (old new : SinkTold) (s : Status) → DeliversParts (output_of_text text) old new s → ¬ EndsBeforeTree s
-replied_later text old new s (inl d) = later text.bytes (status_of_end text.whole) s old new (not_before text.whole) d
-replied_later text old new s (inr out) = λ unread. subst EndsBeforeTree out.memory unread
+pub replied_later : (text : Text) (before after : InputsTold) (old new : SinkTold) (s : Status)
+    → Delivers text.bytes (status_of_end text.whole) old new s ⊎ Breaks text.bytes before after old new s → ¬ EndsBeforeTree s
+replied_later text before after old new s (inl d) = later text.bytes (status_of_end text.whole) s old new (not_before text.whole) d
+replied_later text before after old new s (inr out) = λ unread. elim out.cause [
+  | inl memory ↦ subst EndsBeforeTree memory unread
+  | inr read ↦ subst EndsBeforeTree read.0 unread
+]
+
+-- a script that wasn't opened
+pub script_late : (r : Refusal) → IsCut {V = ReaderValue} (Err r) → ¬ EndsBeforeTree (status_of r)
+script_late r (inl fault) unread = let e : r ≡ refusal.ReadFault = (let f = fault in cc) in subst (λ r. EndsBeforeTree (status_of r)) e unread
+script_late r (inr memory) unread = let e : r ≡ refusal.Memory = (let f = memory in cc) in subst (λ r. EndsBeforeTree (status_of r)) e unread
 
 -- what comes before there is a tree comes before it is laid out
 pub before_unlaid : (s : Status) → EndsBeforeTree s → EndsUnlaid s
@@ -50,8 +60,3 @@ before_unlaid ScriptLimit e = e
 pub layout_late : (refused : LayRefusal) → ¬ EndsUnlaid (status_of (of_layout refused))
 layout_late layout.Range e = e
 layout_late layout.Memory e = e
-
-pub script_late : (refused : ReadRefusal) → ¬ EndsBeforeTree (status_of (of_reading refused ScriptLong))
-script_late reading.ReadFault e = e
-script_late reading.TooLong e = e
-script_late reading.Memory e = e

@@ -30,7 +30,8 @@ use Rattle.tree_edits.specs.declared.edit.Edit.TheVariants.{Remove}
 use Rattle.tree_edits.specs.declared.edit.EditRefusal.TheVariants.{RootFixed}
 use Rattle.tree_edits.proofs.Frames.{listed_out}
 use Rattle.edit_session.specs.Session.{SessionValue}
-use Rattle.commands.specs.Script.{lines_of, is_short, within, is_within}
+use Rattle.doc_io.specs.LineReader.{is_short}
+use Rattle.commands.specs.Script.{within, is_within}
 use Rattle.commands.specs.Replies.{after_line, is_edited_in_range, replies, reply_by, reply_to, reply_to_command, reply_to_edit, text_of_reply, told_of}
 use Rattle.commands.specs.declared.reply.Cause.TheVariants.{NoCommand, Unmade}
 use Rattle.commands.specs.declared.reply.Reply.TheVariants.{Nothing, Refused}
@@ -207,20 +208,7 @@ signed_seed = refl
 gen_without_count : asked_by (codes "gen" ∷ codes "m" ∷ codes "1" ∷ []) ≡ None
 gen_without_count = refl
 
--- ---- the lines of a script
-
-three_lines : lines_of (codes "a\n\nb") ≡ codes "a" ∷ [] ∷ codes "b" ∷ []
-unfolding lines_of
-three_lines = refl
-
--- behind the last line feed there is no line
-ended_line : lines_of (codes "a\n") ≡ codes "a" ∷ []
-unfolding lines_of
-ended_line = refl
-
-no_line : lines_of [] ≡ []
-unfolding lines_of
-no_line = refl
+-- ---- the lines of a script that are answered
 
 -- where two are answered, the third is too many
 two_of_three : within 2 (codes "a" ∷ [] ∷ codes "b" ∷ []) ≡ codes "a" ∷ [] ∷ []

@@ -2,6 +2,7 @@
 use Rattle.std.specs.Prelude.{ℕ, Bool, true, false, List, [], ◌∷◌, ◌++◌, length, nat_lt, if◌then◌else◌, Option, Some, None, Result, Ok, Err, unwrap_or}
 use Rattle.serde_json.specs.Data.{Data}
 use Rattle.doc_io.specs.Causes.{Files}
+use Rattle.doc_io.specs.LineReader.{most_lines, lines_of}
 use Rattle.font_metrics.specs.Metrics.{MetricsValue}
 use Rattle.font_metrics.specs.Print.{print_of as metrics_print}
 use Rattle.font_metrics.specs.Reading.{Fault, metrics_of, most_file_bytes}
@@ -18,13 +19,13 @@ use Rattle.generator.specs.Generated.{generated}
 use Rattle.generator.specs.Start.{start_tree}
 use Rattle.generator.specs.Summary.{lines_of as lines_of_summary}
 use Rattle.commands.specs.Command.{Asked, Job, OverTree, Generates, Work, LaysOut, Edits, Checks, usage_line}
-use Rattle.commands.specs.Script.{script_limit, most_lines, lines_of, within, is_within}
+use Rattle.commands.specs.Script.{within, is_within}
 use Rattle.commands.specs.Replies.{replies}
 use Rattle.commands.specs.Refusals.{line_of, status_of}
 use Rattle.commands.specs.declared.status.Status.{Status}
 use Rattle.commands.specs.declared.status.Status.TheVariants.{Done, Usage, ScriptLimit}
 use Rattle.commands.specs.declared.refusal.Refusal.{Refusal}
-use Rattle.commands.specs.declared.refusal.Refusal.TheVariants.{MetricsLong, Metrics, TreeLong, TreeJson, Tree, Range, ScriptLong}
+use Rattle.commands.specs.declared.refusal.Refusal.TheVariants.{MetricsLong, Metrics, TreeLong, TreeJson, Tree, Range}
 
 -- ---- the two files
 
@@ -61,14 +62,6 @@ unfoldable pub tree_in : List ℕ → Result TreeValue Refusal
 tree_in bytes =
     if nat_lt tree_limit (length bytes) then Err TreeLong
     else tree_of_json (json_in bytes)
-
--- ---- the script
-
--- the bytes of a script, unless they are too many
-unfoldable pub script_in : List ℕ → Result (List ℕ) Refusal
-script_in bytes =
-    if nat_lt script_limit (length bytes) then Err ScriptLong
-    else Ok bytes
 
 -- ---- the text of an answer
 
@@ -119,9 +112,7 @@ laid_out metrics tree = do
 
 -- the replies of a session to a script of that name
 abbrev pub scripted : List ℕ → SessionValue → Files → Result Text Refusal
-scripted name session files = do
-  script ← script_in (content files name)
-  Ok (answers_to session script)
+scripted name session files = Ok (answers_to session (content files name))
 
 -- what is made of metrics and a tree
 unfoldable pub done : Work → MetricsValue → TreeValue → Files → Result Text Refusal

@@ -81,16 +81,12 @@ pub record Delivers (text : List ℕ) (wanted : Status) (old new : SinkTold)
   pub later : old.faults ≤ new.faults
   pub silent : text ≡ [] → (status ≡ wanted) × Keeps old.written new.written
 
--- memory was refused on the way, and a front of the text was written
-pub record RunsOut (text : List ℕ) (old new : SinkTold) (status : Status) : Type 0 where
-  pub memory : status ≡ Memory
+-- a read failed or memory was refused on the way, and a front of the text was written
+pub record Breaks (text : List ℕ) (before after : InputsTold) (old new : SinkTold)
+    (status : Status) : Type 0 where
+  pub cause : (status ≡ Memory) ⊎ ((status ≡ ReadFault) × Rose before.faults after.faults)
   pub front : (n : ℕ) × Appends old.written new.written (take n text)
   pub later : old.faults ≤ new.faults
-
--- the output was delivered, or memory was refused on the way
-abbrev pub DeliversParts : Output → SinkTold → SinkTold → Status → Type 0
-DeliversParts output old new status =
-    Delivers output.bytes output.status old new status ⊎ RunsOut output.bytes old new status
 
 -- only the replies to a script are written while there is more to do
 abbrev pub IsInParts : Work → Type 0
@@ -102,11 +98,12 @@ abbrev pub IsJobInParts : Job → Type 0
 IsJobInParts (OverTree work tree) = IsInParts work
 IsJobInParts (Generates seed count) = ⊥
 
--- the output was delivered, or memory was refused while it was written in parts, where it may be
-abbrev pub IsDelivered : Type 0 → Output → SinkTold → SinkTold → Status → Type 0
-IsDelivered parts output old new status =
+-- the output was delivered, or what is written in parts was cut short on the way
+abbrev pub IsDelivered : Type 0 → Output → InputsTold → InputsTold → SinkTold → SinkTold →
+    Status → Type 0
+IsDelivered parts output before after old new status =
     Delivers output.bytes output.status old new status
-    ⊎ (parts × RunsOut output.bytes old new status)
+    ⊎ (parts × Breaks output.bytes before after old new status)
 
 -- the wanted answer, or want of memory, was delivered
 pub record Written (wanted : Result Text Refusal) (old new : SinkTold)
@@ -121,7 +118,7 @@ pub record AnsweredJob (parts : Type 0) (wanted : Option (Result Text Refusal))
     (status : Status) : Type 0 where
   pub result : Result Text Refusal
   pub answers : Answers wanted lacks before after result
-  pub delivers : IsDelivered parts (output_of result) old new status
+  pub delivers : IsDelivered parts (output_of result) before after old new status
   -- what was answered line by line was read to its end
   pub read_to_end : status ≡ Done → parts → IsAtEnd after.rest
 
@@ -157,8 +154,8 @@ pub record Ends (asked : Option Asked) (before after : InputsTold) (old new : Si
   -- where a reached file isn't there nothing is written
   pub lacking : IsSomeAnd before.files (LacksFile asked) →
       ((status ≡ ReadFault) ⊎ (status ≡ Memory)) × Keeps old.written new.written
-  -- a failed read writes nothing, and nor does want of memory but for the replies before it
-  pub unread_cut : status ≡ ReadFault → Keeps old.written new.written
+  -- a failed read writes nothing, and nor does want of memory, but for the replies before it
+  pub unread_cut : status ≡ ReadFault → ¬ AsksParts asked → Keeps old.written new.written
   pub memory_cut : status ≡ Memory → ¬ AsksParts asked → Keeps old.written new.written
   -- where every reached file is there and no count rose, only want of memory stands between
   pub complete : IfSome before.files (λ files.

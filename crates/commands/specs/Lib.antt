@@ -5,6 +5,6 @@ pub mod Command
 pub mod Script
 pub mod Replies
 pub mod Answer
-pub mod Parts
 pub mod Ends
+pub mod Parts
 pub mod Laws

@@ -13,7 +13,7 @@ use Rattle.math_tree.specs.declared.refusal.TreeRefusal.TheVariants as tree
 use Rattle.commands.specs.declared.status.Status.{Status}
 use Rattle.commands.specs.declared.status.Status.TheVariants as status
 use Rattle.commands.specs.declared.refusal.Refusal.{Refusal}
-use Rattle.commands.specs.declared.refusal.Refusal.TheVariants.{MetricsLong, Metrics, TreeLong, TreeJson, Tree, Range, ScriptLong, ReadFault, Memory}
+use Rattle.commands.specs.declared.refusal.Refusal.TheVariants.{MetricsLong, Metrics, TreeLong, TreeJson, Tree, Range, ReadFault, Memory}
 
 -- the line of a fault: where it is, and the number of its kind
 abbrev pub fault_line : List ℕ → ℕ → ℕ → List ℕ
@@ -27,7 +27,6 @@ line_of TreeLong = codes "tree long\n"
 line_of TreeJson = codes "tree json\n"
 line_of (Tree fault) = fault_line (codes "tree") fault.element fault.kind
 line_of Range = codes "range\n"
-line_of ScriptLong = []
 line_of ReadFault = []
 line_of Memory = []
 
@@ -39,7 +38,6 @@ status_of TreeLong = status.Tree
 status_of TreeJson = status.Tree
 status_of (Tree fault) = status.Tree
 status_of Range = status.Range
-status_of ScriptLong = status.ScriptLimit
 status_of ReadFault = status.ReadFault
 status_of Memory = status.Memory
 

@@ -23,7 +23,7 @@ mod program; // the top call
 mod refusal; // why the answer is another
 mod replies; // the lines of a script, one after another
 mod reply; // to one line
-mod script; // lines and limits
+mod script; // white space
 mod status; // how a run ends
 
 pub use program::run;

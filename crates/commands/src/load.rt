@@ -1,18 +1,15 @@
-ghost use Rattle.std.specs.Prelude.{◌≡◌, ◌≤◌, None, IfErr, OnOk, length};
-ghost use Rattle.std.specs.Io.KnownBytes.{IsAtEnd};
+ghost use Rattle.std.specs.Prelude.{◌≡◌, ◌≤◌, None, length};
 ghost use Rattle.std.specs.Option.{option_map};
 ghost use Rattle.tree_edits.specs.Commands.{json_in};
-ghost use Rattle.commands.specs.Answer.{content, metrics_in, script_in, tree_in, tree_of_json, of_metrics_file, of_tree_file};
-ghost use Rattle.commands.specs.Ends.{Answers, EndsBeforeTree, GivesOr};
-ghost use Rattle.commands.specs.Refusals.{status_of};
+ghost use Rattle.commands.specs.Answer.{content, metrics_in, tree_in, tree_of_json, of_metrics_file, of_tree_file};
+ghost use Rattle.commands.specs.Ends.{Answers, GivesOr};
+ghost use Rattle.commands.specs.Parts.{OpensScript, SelectsScript};
 ghost use Rattle.font_metrics.specs.Reading.{metrics_of, most_file_bytes};
 ghost use Rattle.math_tree.specs.Reading.{tree_of};
 ghost use Rattle.serde_json.specs.View.{view};
 
 use crate::refusal::Refusal;
-use crate::script::SCRIPT_LIMIT;
-use doc_io::{Inputs, read_all};
-use fixed_units::List;
+use doc_io::{Inputs, LineReader, read_all};
 use font_metrics::{MOST_FILE_BYTES, Metrics, read_metrics};
 use math_tree::{Tree, read_tree};
 use serde_json::Value;
@@ -82,21 +79,24 @@ fn tree_of_value(alloc: Global, value: &Value) -> Result<Tree, Refusal>
     Ok(read_tree(alloc, value)?)
 }
 
-/// Reads the bytes of a script.
-pub fn load_script<I: Inputs>(
+/// Selects a script, and makes the reader of its lines.
+pub fn open_script<I: Inputs>(
     alloc: Global,
     name: &str,
     inputs: &mut I,
-) -> Result<List<u8>, Refusal>
-    ensures answers { Answers
-        (option_map (λ files. script_in (content files name.now)) (I.told inputs.old).files)
-        (λ files. files name.now ≡ None)
-        (I.told inputs.old) (I.told inputs.new) result }
-    ensures late { IfErr result (λ refusal. ¬ EndsBeforeTree (status_of refusal)) }
-    ensures end { OnOk result (IsAtEnd (I.told inputs.new).rest) }
+) -> Result<LineReader, Refusal>
+    ensures { OpensScript (I.told inputs.old) (I.told inputs.new) name.now result }
 {
-    match read_all(alloc, inputs, name, SCRIPT_LIMIT) {
-        Ok(bytes) => Ok(bytes),
-        Err(refusal) => Err(Refusal::of_reading(refusal, Refusal::ScriptLong)),
+    select_script(name, inputs)?;
+    Ok(LineReader::make(alloc)?)
+}
+
+/// Selects a script.
+fn select_script<I: Inputs>(name: &str, inputs: &mut I) -> Result<(), Refusal>
+    ensures { SelectsScript (I.told inputs.old) (I.told inputs.new) name.now result }
+{
+    match inputs.select(name) {
+        Ok(()) => Ok(()),
+        Err(_) => Err(Refusal::ReadFault),
     }
 }

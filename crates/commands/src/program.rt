@@ -10,7 +10,7 @@ ghost use Rattle.commands.specs.Parts.{LacksNext, LacksScript, LacksTree};
 ghost use Rattle.commands.specs.Refusals.{line_of, status_of};
 
 use crate::command::{Job, NoCommand, Request, Task, USAGE};
-use crate::load::{load_metrics, load_script, load_tree};
+use crate::load::{load_metrics, load_tree, open_script};
 use crate::refusal::Refusal;
 use crate::replies::answer_lines;
 use crate::status::Status;
@@ -268,8 +268,12 @@ fn answer_script<I: Inputs, O: Sink, L: Ledger>(
         (O.told out.old) (O.told out.new) result }
     ensures late { ¬ EndsBeforeTree result }
 {
-    match load_script(alloc, name, inputs) {
-        Ok(script) => answer_lines(alloc, session, script.as_slice(), out, steps),
+    match open_script(alloc, name, inputs) {
+        Ok(mut reader) => {
+            let status = answer_lines(alloc, session, &mut reader, inputs, out, steps);
+            drop(reader);
+            status
+        }
         Err(refusal) => tell(out, refusal),
     }
 }

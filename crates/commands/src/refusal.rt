@@ -29,9 +29,6 @@ pub enum Refusal {
     /// A number of the tree's layout can't be stored.
     #[error("a size is out of range")]
     Range,
-    /// The script has more bytes than its limit.
-    #[error("the script is too long")]
-    ScriptLong,
     /// A read failed, or a file isn't there.
     #[error("a read failed")]
     ReadFault,
@@ -41,8 +38,8 @@ pub enum Refusal {
 }
 
 impl Refusal {
-    /// The one line that tells the user, with its line feed. A script that is too long, a failed
-    /// read and want of memory are told by the status alone. No memory is needed to tell it.
+    /// The one line that tells the user, with its line feed. A failed read and want of memory are
+    /// told by the status alone. No memory is needed to tell it.
     pub fn line(self) -> ShortText
         ensures { result ≡ line_of self }
     {
@@ -53,7 +50,7 @@ impl Refusal {
             Refusal::TreeJson => ShortText::of("tree json\n"),
             Refusal::Tree(fault) => fault_line("tree", fault.element, fault.kind),
             Refusal::Range => ShortText::of("range\n"),
-            Refusal::ScriptLong | Refusal::ReadFault | Refusal::Memory => ShortText::of(""),
+            Refusal::ReadFault | Refusal::Memory => ShortText::of(""),
         }
     }
 
@@ -65,7 +62,6 @@ impl Refusal {
             Refusal::MetricsLong | Refusal::Metrics(_) => Status::Metrics,
             Refusal::TreeLong | Refusal::TreeJson | Refusal::Tree(_) => Status::Tree,
             Refusal::Range => Status::Range,
-            Refusal::ScriptLong => Status::ScriptLimit,
             Refusal::ReadFault => Status::ReadFault,
             Refusal::Memory => Status::Memory,
         }

@@ -1,13 +1,10 @@
 ghost use Rattle.std.specs.Prelude.{◌≡◌, OnOk};
-ghost use Rattle.commands.specs.Answer.{answers_to, output_of_text};
-ghost use Rattle.commands.specs.Ends.{DeliversParts};
-ghost use Rattle.commands.specs.Parts.{Tells, status_of_stop};
+ghost use Rattle.commands.specs.Parts.{AnswersEach, AnswersLines, AnswersNext, ComesToLine, Tells, status_of_stop, stop_of};
 ghost use Rattle.commands.specs.Replies.{after_line, told_of};
 
 use crate::reply::reply_to;
-use crate::script::{MOST_LINES, first_line, is_short};
 use crate::status::Status;
-use doc_io::{Sink, WriteFault};
+use doc_io::{Inputs, Line, LineReader, LineRefusal, Sink, WriteFault};
 use edit_session::Session;
 use fixed_units::{Memory, Steps};
 use std::alloc::Global;
@@ -16,38 +13,79 @@ use std::sync::ledger::Ledger;
 /// Why the lines of a script aren't answered to their end.
 #[derive(Clone, Copy, Debug, PartialEq, Eq)]
 pub enum Stop {
+    /// A read failed.
+    ReadFault,
+    /// A line or the number of lines passes its limit.
+    ScriptLimit,
     /// A write failed.
     WriteFault,
     /// Memory was refused.
     Memory,
 }
 
-/// Answers the lines of a script, each before the next: to its end, or to the first line that
-/// passes a limit.
-pub fn answer_lines<O: Sink, L: Ledger>(
+/// Answers the lines of a script, each before the next is read: to its end, or to the first line
+/// that passes a limit.
+pub fn answer_lines<I: Inputs, O: Sink, L: Ledger>(
     alloc: Global,
     session: &mut Session,
-    script: &[u8],
+    reader: &mut LineReader,
+    inputs: &mut I,
     out: &mut O,
     steps: &mut Steps<L>,
 ) -> Status
-    ensures { DeliversParts (output_of_text (answers_to session.old.held script.now))
+    ensures { AnswersLines session.old.held reader.old (I.told inputs.old) (I.told inputs.new)
         (O.told out.old) (O.told out.new) result }
 {
-    let mut rest = script;
-    let mut room = MOST_LINES;
-    while !rest.is_empty() {
-        let (line, more) = first_line(rest);
-        if room == 0 || !is_short(line) {
-            return Status::ScriptLimit;
-        }
-        if let Err(stop) = answer_line(alloc, session, line, out, steps) {
-            return stop.status();
-        }
-        rest = more;
-        room -= 1;
+    match answer_each(alloc, session, reader, inputs, out, steps) {
+        Ok(()) => Status::Done,
+        Err(stop) => stop.status(),
     }
-    Status::Done
+}
+
+/// Answers the lines of a script, each before the next is read.
+fn answer_each<I: Inputs, O: Sink, L: Ledger>(
+    alloc: Global,
+    session: &mut Session,
+    reader: &mut LineReader,
+    inputs: &mut I,
+    out: &mut O,
+    steps: &mut Steps<L>,
+) -> Result<(), Stop>
+    ensures { AnswersEach session.old.held reader.old (I.told inputs.old) (I.told inputs.new)
+        (O.told out.old) (O.told out.new) result }
+{
+    while answer_next(alloc, session, reader, inputs, out, steps)? {}
+    Ok(())
+}
+
+/// Reads the next line of a script and answers it, and says whether there was one. When it returns,
+/// the reply to the line that was read is written.
+fn answer_next<I: Inputs, O: Sink, L: Ledger>(
+    alloc: Global,
+    session: &mut Session,
+    reader: &mut LineReader,
+    inputs: &mut I,
+    out: &mut O,
+    steps: &mut Steps<L>,
+) -> Result<bool, Stop>
+    ensures { AnswersNext session.old.held session.new.held reader.old reader.new
+        (I.told inputs.old) (I.told inputs.new) (O.told out.old) (O.told out.new) result }
+{
+    if !next_line(reader, inputs)? {
+        return Ok(false);
+    }
+    answer_line(alloc, session, reader.line(), out, steps)?;
+    Ok(true)
+}
+
+/// Goes on to the next line of a script, and says whether there is one.
+fn next_line<I: Inputs>(reader: &mut LineReader, inputs: &mut I) -> Result<bool, Stop>
+    ensures { ComesToLine reader.old reader.new (I.told inputs.old) (I.told inputs.new) result }
+{
+    match reader.next_line(inputs) {
+        Ok(line) => Ok(line == Line::Whole),
+        Err(refusal) => Err(Stop::of_reading(refusal)),
+    }
 }
 
 /// Does what a line asks for, and writes the reply.
@@ -67,11 +105,23 @@ fn answer_line<O: Sink, L: Ledger>(
 }
 
 impl Stop {
+    /// Why no line was read.
+    fn of_reading(refusal: LineRefusal) -> Stop
+        ensures { result ≡ stop_of refusal }
+    {
+        match refusal {
+            LineRefusal::ReadFault => Stop::ReadFault,
+            LineRefusal::LineLong | LineRefusal::LinesSpent => Stop::ScriptLimit,
+        }
+    }
+
     /// The status with which the run ends.
     fn status(self) -> Status
         ensures { result ≡ status_of_stop self }
     {
         match self {
+            Stop::ReadFault => Status::ReadFault,
+            Stop::ScriptLimit => Status::ScriptLimit,
             Stop::WriteFault => Status::WriteFault,
             Stop::Memory => Status::Memory,
         }

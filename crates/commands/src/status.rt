@@ -23,7 +23,7 @@ pub enum Status {
     Memory,
     /// A number of the tree's layout can't be stored.
     Range,
-    /// The script, a line of it or the number of its lines passes its limit.
+    /// A line of the script or the number of its lines passes its limit.
     ScriptLimit,
 }
 

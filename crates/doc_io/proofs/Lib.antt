@@ -1,4 +1,8 @@
 pub mod Known
+mod Windows
+mod FirstLines
+mod NextLines
+pub mod LineLaws
 pub mod Within
 pub mod Cuts
 pub mod MemoryFiles

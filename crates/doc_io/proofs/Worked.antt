@@ -1,9 +1,12 @@
 -- Worked cases: the definitions compute them, and a wrong one is refused at its line.
-use Rattle.std.proofs.Common.{◌≡◌, ◌-◌, ◌^◌, [], ◌∷◌, true, false, Some, codes, refl, lit≤, arith}
+use Rattle.std.proofs.Common.{◌≡◌, ◌-◌, ◌^◌, [], ◌∷◌, true, false, Some, Ok, Err, codes, refl, lit≤, arith}
 use Rattle.std.specs.FinMap.{empty, get}
 use Rattle.doc_io.specs.Causes.{Rose, raised}
 use Rattle.doc_io.specs.FailingCalls.{fails_next}
 use Rattle.doc_io.specs.MemoryInputs.{IsUncut, put_in}
+use Rattle.doc_io.specs.LineReader.{answer_of, behind_line, first_line, is_short, lines_of}
+use Rattle.doc_io.specs.declared.line_reader.Line.TheVariants.{Whole, End}
+use Rattle.doc_io.specs.declared.line_reader.LineRefusal.TheVariants.{LinesSpent}
 use Rattle.doc_io.specs.MemorySink.{fitting, write_fails}
 use Rattle.doc_io.specs.declared.memory_inputs.Named.{Named}
 use Rattle.doc_io.proofs.MemoryFiles.{get-put_in-push}
@@ -56,3 +59,45 @@ fitting-three = refl
 
 pub write_fails-full : write_fails (record { bytes = codes "hel"; room = 3; failing = []; calls = 1; faults = 0 }) ≡ true
 write_fails-full = refl
+
+-- ---- lines
+
+three_lines : lines_of (codes "a\n\nb") ≡ codes "a" ∷ [] ∷ codes "b" ∷ []
+unfolding lines_of
+three_lines = refl
+
+-- behind the last line feed there is no line
+ended_line : lines_of (codes "a\n") ≡ codes "a" ∷ []
+unfolding lines_of
+ended_line = refl
+
+no_line : lines_of [] ≡ []
+unfolding lines_of
+no_line = refl
+
+-- a line feed alone is a line
+empty_line : lines_of (codes "\n") ≡ [] ∷ []
+unfolding lines_of
+empty_line = refl
+
+first_of_two : first_line (codes "ab\nc\n") ≡ codes "ab"
+first_of_two = refl
+
+behind_first : behind_line (codes "ab\nc\n") ≡ codes "c\n"
+behind_first = refl
+
+behind_last : behind_line (codes "ab") ≡ []
+behind_last = refl
+
+-- the answers to what is left
+answer_at_end : answer_of 65536 [] ≡ Ok End
+unfolding answer_of
+answer_at_end = refl
+
+answer_to_line : answer_of 65535 (codes "a\nb") ≡ Ok Whole
+unfolding answer_of is_short
+answer_to_line = refl
+
+answer_to_one_more : answer_of 65536 (codes "\n") ≡ Err LinesSpent
+unfolding answer_of
+answer_to_one_more = refl

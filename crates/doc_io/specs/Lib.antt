@@ -6,3 +6,7 @@ pub mod MemorySink
 pub mod Edge
 pub mod Lines
 pub mod Pieces
+pub mod Held
+pub mod LineReader
+pub mod LineEnds
+pub mod LineRuns

@@ -14,6 +14,9 @@
 #![tactic(auto)]
 
 mod edge; // the system's files and standard output
+mod held; // bytes that were read and not given yet
+pub mod laws; // of all runs
+mod line_reader; // the lines of a file, one after another
 mod memory_inputs; // files in memory
 mod memory_sink; // a sink in memory
 mod piece; // what is held back of a text
@@ -22,6 +25,7 @@ mod traits; // Inputs, Sink
 mod whole; // read_all, write_all
 
 pub use edge::{FileInputs, StdSink};
+pub use line_reader::{Line, LineReader, LineRefusal};
 pub use memory_inputs::MemoryInputs;
 pub use memory_sink::MemorySink;
 pub use piece::Piece;

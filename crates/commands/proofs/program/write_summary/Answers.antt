@@ -13,7 +13,7 @@ returns-in-Ok-clause-written g c =
       result = Ok (whole_text (lines_of c.args.told.now));
       gives = inr refl;
       delivers = subst (λ text. Delivers text Done (told c.args.out.now) (told c.deliver.new.out) c.deliver.result)
-          (c.as_bytes.ensures.value ∙ c.in-Ok.ensures) c.deliver.ensures;
+          (c.as_bytes.ensures.value ∙ c.in-Ok.ensures.ok) c.deliver.ensures;
     }
 
 pub returns-in-Err-clause-written : goal.returns-in-Err-clause-written

@@ -1,0 +1,336 @@
+-- How the lines that a reader gives are answered, where what is left is told and where it isn't.
+use Rattle.std.proofs.Common.{◌≡◌, ◌⊎◌, inl, inr, ◌∙◌, ap, sym, refl, subst, ℕ, ◌+◌, ◌-◌, zero, suc, ◌<◌, ◌≤◌, Bool, true, false, List, [], ◌∷◌, ◌++◌, length, take, append_assoc, append-nil, add-one, arith, Option, Some, None, IfSome}
+use Rattle.std.specs.Prelude.{Result, Ok, Err, IsErrOf, IsSomeAnd}
+use Rattle.std.specs.Option.{option_map}
+use Rattle.std.specs.Io.KnownBytes.{Appends, IsAtEnd}
+use Rattle.doc_io.specs.Causes.{InputsTold, Rose, SinkTold}
+use Rattle.doc_io.specs.LineReader.{GivesLine, ReaderValue, answer_of, behind_line, first_line, is_short, left_of, lines_of, most_lines}
+use Rattle.doc_io.specs.declared.line_reader.Line.{Line}
+use Rattle.doc_io.specs.declared.line_reader.Line.TheVariants.{Whole, End}
+use Rattle.doc_io.specs.declared.line_reader.LineRefusal.{LineRefusal}
+use Rattle.doc_io.specs.declared.line_reader.LineRefusal.TheVariants as reading
+use Rattle.doc_io.proofs.Known.{appends_both}
+use Rattle.doc_io.proofs.LineLaws.{given_end, given_line, no_lines, refused_line, short_line}
+use Rattle.edit_session.specs.Session.{SessionValue}
+use Rattle.commands.specs.Replies.{after_line, told_of}
+use Rattle.commands.specs.Answer.{Text, replies_within, status_of_end}
+use Rattle.commands.specs.Parts.{AnswersEach, AnswersLines, AnswersNext, ComesToLine, Tells, replies_left, status_of_stop, told_line}
+use Rattle.commands.specs.declared.replies.Stop.{Stop}
+use Rattle.commands.specs.declared.replies.Stop.TheVariants as stop
+use Rattle.commands.specs.declared.status.Status.{Status}
+use Rattle.commands.specs.declared.status.Status.TheVariants as status
+use Rattle.commands.proofs.Continuing.{Continues, appends_nothing, breaks_at_read, closes, more_replies, no_replies, stopped_replies, stops}
+
+-- what was written and the replies to what is left are those that are wanted, where both are told
+pub record Sends (wanted left : Option Text) (first now : SinkTold) : Type 0 where
+  pub sent : List ℕ
+  pub appended : Appends first.written now.written sent
+  pub later : first.faults ≤ now.faults
+  pub together : IfSome wanted (λ w. IsSomeAnd left (λ l. (sent ++ l.bytes ≡ w.bytes) × (l.whole ≡ w.whole)))
+
+pub nothing_sent : (wanted : Option Text) (now : SinkTold) → Sends wanted wanted now now
+nothing_sent wanted now = record {
+  sent = [];
+  appended = appends_nothing now.written;
+  later = omega arith;
+  together = by wanted;
+}
+  where
+    by : (o : Option Text) → IfSome o (λ w. IsSomeAnd o (λ l. ([] ++ l.bytes ≡ w.bytes) × (l.whole ≡ w.whole)))
+    by None = tt
+    by (Some w) = (refl, refl)
+
+-- the whole text, where what is left is this one or isn't told
+pub whole_of : (wanted left : Option Text) (l : Text) (first now : SinkTold) → IfSome left (λ o. o ≡ l) → Sends wanted left first now
+    → (w : Text) × IfSome wanted (λ o. w ≡ o) × Continues w l first now
+whole_of None left l first now is s = (
+  record { bytes = s.sent ++ l.bytes; whole = l.whole },
+  tt,
+  record { sent = s.sent; together = refl; whole = refl; appended = s.appended; later = s.later },
+)
+whole_of (Some w) None l first now is s = absurd s.together
+whole_of (Some w) (Some o) l first now is s = (
+  w,
+  refl,
+  record {
+    sent = s.sent;
+    together = ap (λ (o : Text). s.sent ++ o.bytes) (sym is) ∙ s.together.0;
+    whole = ap (λ (o : Text). o.whole) (sym is) ∙ s.together.1;
+    appended = s.appended;
+    later = s.later;
+  },
+)
+
+-- what is left, or no text where it isn't told
+pub some_text : (left : Option Text) → (l : Text) × IfSome left (λ o. o ≡ l)
+some_text None = (record { bytes = []; whole = true }, tt)
+some_text (Some l) = (l, refl)
+
+-- a reply comes before the replies to what is left behind it
+abbrev ComesBefore : List ℕ → Option Text → Option Text → Type 0
+ComesBefore reply left left' = IfSome left (λ l. IsSomeAnd left' (λ l'. (l.bytes ≡ reply ++ l'.bytes) × (l.whole ≡ l'.whole)))
+
+sends_more : (wanted left left' : Option Text) (first now later : SinkTold) (reply : List ℕ) → ComesBefore reply left left'
+    → Tells reply now later (Ok tt) → Sends wanted left first now → Sends wanted left' first later
+sends_more wanted left left' first now later reply before told s = record {
+  sent = s.sent ++ reply;
+  appended = appends_both first.written now.written later.written s.sent reply s.appended told.whole;
+  later = omega (arith, s.later, told.later);
+  together = by wanted left left' s.together before;
+}
+  where
+    by : (wanted left left' : Option Text)
+        → IfSome wanted (λ w. IsSomeAnd left (λ l. (s.sent ++ l.bytes ≡ w.bytes) × (l.whole ≡ w.whole)))
+        → ComesBefore reply left left'
+        → IfSome wanted (λ w. IsSomeAnd left' (λ l. ((s.sent ++ reply) ++ l.bytes ≡ w.bytes) × (l.whole ≡ w.whole)))
+    by None left left' t b = tt
+    by (Some w) None left' t b = absurd t
+    by (Some w) (Some l) None t b = absurd b
+    by (Some w) (Some l) (Some m) t b =
+        (append_assoc s.sent reply m.bytes ∙ ap (λ bs. s.sent ++ bs) (sym b.0) ∙ t.0, sym b.1 ∙ t.1)
+
+-- what is left, where a reply comes first
+reply_left : (left left' : Option Text) (reply : List ℕ) → ComesBefore reply left left'
+    → (l : Text) × IfSome left (λ o. o ≡ l) × (others : List ℕ) × (l.bytes ≡ reply ++ others)
+reply_left None left' reply b = (record { bytes = reply; whole = true }, tt, [], sym (append-nil reply))
+reply_left (Some l) None reply b = absurd b
+reply_left (Some l) (Some m) reply b = (l, refl, m.bytes, b.0)
+
+-- ---- what a call of the reader makes of what is left
+
+module _ (session : SessionValue) (reader next : ReaderValue) (now after : InputsTold) where
+  -- a line
+  pub line_left : (session' : SessionValue) → session' ≡ after_line session next.line → GivesLine reader next now after (Ok Whole)
+      → ComesBefore (told_of session next.line) (replies_left session reader now) (replies_left session' next after)
+  line_left session' is g = by (left_of reader now) refl
+    where
+      room : most_lines - reader.given ≡ suc (most_lines - (reader.given + 1))
+      room = omega (arith, g.few refl)
+
+      by : (left : Option (List ℕ)) → left_of reader now ≡ left
+          → ComesBefore (told_of session next.line) (option_map (λ bytes. replies_within (most_lines - reader.given) session (lines_of bytes)) left)
+          (replies_left session' next after)
+      by None e = tt
+      by (Some bytes) e =
+          let given = given_line (record { reader = reader; inputs = now }) (record { reader = next; inputs = after }) bytes e g in
+          let lines = lines_of (behind_line bytes) in
+          let short : is_short next.line ≡ true = short_line next.line (g.short refl) in
+          let same : replies_within (most_lines - (reader.given + 1)) (after_line session next.line) lines ≡ replies_within (most_lines - next.given) session' lines =
+          λ i. replies_within (most_lines - sym g.given i) (sym is i) lines in
+          let more : replies_within (most_lines - reader.given) session (lines_of bytes)
+          ≡ record { bytes = told_of session next.line ++ (replies_within (most_lines - (reader.given + 1)) (after_line session next.line) lines).bytes; whole = (replies_within (most_lines - (reader.given + 1)) (after_line session next.line) lines).whole } =
+          (λ i. replies_within (room i) session (given.0 i)) ∙ more_replies (most_lines - (reader.given + 1)) session next.line lines short in
+          subst (λ (o : Option (List ℕ)). IsSomeAnd (option_map (λ bytes. replies_within (most_lines - next.given) session' (lines_of bytes)) o)
+          (λ l'. ((replies_within (most_lines - reader.given) session (lines_of bytes)).bytes ≡ told_of session next.line ++ l'.bytes)
+          × ((replies_within (most_lines - reader.given) session (lines_of bytes)).whole ≡ l'.whole)))
+          (sym given.1) (
+            ap (λ (o : Text). o.bytes) more ∙ ap (λ (o : Text). told_of session next.line ++ o.bytes) same,
+            ap (λ (o : Text). o.whole) more ∙ ap (λ (o : Text). o.whole) same,
+          )
+
+  -- the end
+  pub end_left : GivesLine reader next now after (Ok End)
+      → IfSome (replies_left session reader now) (λ o. o ≡ record { bytes = []; whole = true })
+  end_left g = by (left_of reader now) refl
+    where
+      by : (left : Option (List ℕ)) → left_of reader now ≡ left
+          → IfSome (option_map (λ bytes. replies_within (most_lines - reader.given) session (lines_of bytes)) left) (λ o. o ≡ record { bytes = []; whole = true })
+      by None e = tt
+      by (Some bytes) e =
+          let none : bytes ≡ [] = given_end (record { reader = reader; inputs = now }) (record { reader = next; inputs = after }) bytes e g in
+          ap (λ b. replies_within (most_lines - reader.given) session (lines_of b)) none
+          ∙ ap (replies_within (most_lines - reader.given) session) no_lines
+          ∙ no_replies (most_lines - reader.given) session
+
+  -- a limit
+  pub limit_left : (e : LineRefusal) → ¬ (e ≡ reading.ReadFault) → GivesLine reader next now after (Err e)
+      → IfSome (replies_left session reader now) (λ o. o ≡ record { bytes = []; whole = false })
+  limit_left refusal own g = by (left_of reader now) refl
+    where
+      by : (left : Option (List ℕ)) → left_of reader now ≡ left
+          → IfSome (option_map (λ bytes. replies_within (most_lines - reader.given) session (lines_of bytes)) left) (λ o. o ≡ record { bytes = []; whole = false })
+      by None e = tt
+      by (Some bytes) e =
+          let why = refused_line (record { reader = reader; inputs = now }) (record { reader = next; inputs = after }) bytes refusal e own g in
+          let limit : (most_lines - reader.given ≡ 0) ⊎ (is_short (first_line bytes) ≡ false) =
+          elim why.1 [ inl most ↦ inl (omega (arith, most)) | inr long ↦ inr long ] in
+          ap (replies_within (most_lines - reader.given) session) why.0
+          ∙ stopped_replies (most_lines - reader.given) session (first_line bytes) (lines_of (behind_line bytes)) limit
+
+-- ---- a run of lines
+
+module _ (session : SessionValue) (reader : ReaderValue) (start : InputsTold) (first : SinkTold) where
+  abbrev Wanted : Option Text
+  Wanted = replies_left session reader start
+
+  -- how it stands after some lines
+  pub record Stands (session' : SessionValue) (reader' : ReaderValue) (now : InputsTold) (out : SinkTold) : Type 0 where
+    pub sends : Sends Wanted (replies_left session' reader' now) first out
+    pub files : now.files ≡ start.files
+    pub faults : start.faults ≤ now.faults
+    pub missing : now.missing ≡ start.missing
+
+  pub stands_first : Stands session reader start first
+  stands_first = record {
+    sends = nothing_sent Wanted first;
+    files = refl;
+    faults = omega arith;
+    missing = refl;
+  }
+
+  module _ (session' : SessionValue) (reader' next : ReaderValue) (now after : InputsTold) (out : SinkTold)
+      (s : Stands session' reader' now out) where
+    -- a line was answered
+    pub stands_next : (session'' : SessionValue) (later : SinkTold) → session'' ≡ after_line session' next.line
+        → GivesLine reader' next now after (Ok Whole) → Tells (told_of session' next.line) out later (Ok tt)
+        → Stands session'' next after later
+    stands_next session'' later is g told = record {
+      sends = sends_more Wanted (replies_left session' reader' now) (replies_left session'' next after) first out later (told_of session' next.line)
+          (line_left session' reader' next now after session'' is g) told s.sends;
+      files = g.files ∙ s.files;
+      faults = omega (arith, g.faults, s.faults);
+      missing = g.missing ∙ s.missing;
+    }
+
+    -- no line is left, or the next one passes a limit
+    closed : (r : Result Line LineRefusal) (whole : Bool) → GivesLine reader' next now after r
+        → IfSome (replies_left session' reader' now) (λ o. o ≡ record { bytes = []; whole = whole })
+        → (status_of_end whole ≡ status.Done → IsAtEnd after.rest)
+        → AnswersLines session reader start after first out (status_of_end whole)
+    closed r whole g left end =
+        let w = whole_of Wanted (replies_left session' reader' now) (record { bytes = []; whole = whole }) first out left s.sends in
+        record {
+          text = w.0;
+          wanted = w.1;
+          delivers = inl (closes w.0 (record { bytes = []; whole = whole }) first out whole refl w.2);
+          read_to_end = end;
+          files = g.files ∙ s.files;
+          faults = omega (arith, g.faults, s.faults);
+          missing = g.missing ∙ s.missing;
+        }
+
+    -- the reply to a line wasn't written
+    pub stops_at_reply : (later : SinkTold) (why : Stop) → GivesLine reader' next now after (Ok Whole)
+        → Tells (told_of session' next.line) out later (Err why) → AnswersLines session reader start after first later (status_of_stop why)
+    stops_at_reply later why g told =
+        let l = reply_left (replies_left session' reader' now) (replies_left (after_line session' next.line) next after) (told_of session' next.line)
+        (line_left session' reader' next now after (after_line session' next.line) refl g) in
+        let w = whole_of Wanted (replies_left session' reader' now) l.0 first out l.1 s.sends in
+        record {
+          text = w.0;
+          wanted = w.1;
+          delivers = stops w.0 l.0 start after first out later (told_of session' next.line) l.2 why l.3 w.2 told;
+          read_to_end = λ done. absurd (not_done why told.causes done);
+          files = g.files ∙ s.files;
+          faults = omega (arith, g.faults, s.faults);
+          missing = g.missing ∙ s.missing;
+        }
+      where
+        not_done : (why : Stop) → (IsErrOf {T = Unit {0}} (Err why) stop.WriteFault) ⊎ (IsErrOf {T = Unit {0}} (Err why) stop.Memory) → ¬ (status_of_stop why ≡ status.Done)
+        not_done stop.ReadFault c e = cc
+        not_done stop.ScriptLimit c e = cc
+        not_done stop.WriteFault c e = cc
+        not_done stop.Memory c e = cc
+
+    by_reading : (why : Stop) (r : Result Line LineRefusal) → GivesLine reader' next now after r → Err why ≡ told_line r
+        → AnswersLines session reader start after first out (status_of_stop why)
+    by_reading why (Ok Whole) g is = absurd cc
+    by_reading why (Ok End) g is = absurd cc
+    by_reading why (Err reading.ReadFault) g is =
+        let l = some_text (replies_left session' reader' now) in
+        let w = whole_of Wanted (replies_left session' reader' now) l.0 first out l.1 s.sends in
+        let same : status.ReadFault ≡ status_of_stop why = let e : why ≡ stop.ReadFault = cc in sym (ap status_of_stop e) in
+        let rose = g.fault refl in
+        subst (λ (end : Status). AnswersLines session reader start after first out end) same
+        (record {
+          text = w.0;
+          wanted = w.1;
+          delivers = inr (breaks_at_read w.0 l.0 start after first out w.2 (omega (arith, rose, s.faults)));
+          read_to_end = λ done. absurd cc;
+          files = g.files ∙ s.files;
+          faults = omega (arith, g.faults, s.faults);
+          missing = g.missing ∙ s.missing;
+        })
+    by_reading why (Err reading.LineLong) g is =
+        let same : status.ScriptLimit ≡ status_of_stop why = let e : why ≡ stop.ScriptLimit = cc in sym (ap status_of_stop e) in
+        subst (λ (end : Status). AnswersLines session reader start after first out end) same
+        (closed (Err reading.LineLong) false g (limit_left session' reader' next now after reading.LineLong (λ e. cc) g) (λ e. absurd cc))
+    by_reading why (Err reading.LinesSpent) g is =
+        let same : status.ScriptLimit ≡ status_of_stop why = let e : why ≡ stop.ScriptLimit = cc in sym (ap status_of_stop e) in
+        subst (λ (end : Status). AnswersLines session reader start after first out end) same
+        (closed (Err reading.LinesSpent) false g (limit_left session' reader' next now after reading.LinesSpent (λ e. cc) g) (λ e. absurd cc))
+
+    -- no line came
+    pub stops_at_reading : (why : Stop) → ComesToLine reader' next now after (Err why)
+        → AnswersLines session reader start after first out (status_of_stop why)
+    stops_at_reading why c = by_reading why c.line c.gives c.told
+
+    pub ends_at_end : GivesLine reader' next now after (Ok End) → AnswersLines session reader start after first out status.Done
+    ends_at_end g = closed (Ok End) true g (end_left session' reader' next now after g) (λ e. g.end refl)
+
+-- a line came
+pub came : (reader next : ReaderValue) (now after : InputsTold) (b : Bool) → b ≡ true → ComesToLine reader next now after (Ok b)
+    → GivesLine reader next now after (Ok Whole)
+came reader next now after b there c = by c.line c.gives (sym (ap Ok there) ∙ c.told)
+  where
+    by : (r : Result Line LineRefusal) → GivesLine reader next now after r → Ok true ≡ told_line r → GivesLine reader next now after (Ok Whole)
+    by (Ok Whole) g is = g
+    by (Ok End) g is = absurd cc
+    by (Err r) g is = absurd cc
+
+-- none did
+pub ended : (reader next : ReaderValue) (now after : InputsTold) (b : Bool) → b ≡ false → ComesToLine reader next now after (Ok b)
+    → GivesLine reader next now after (Ok End)
+ended reader next now after b away c = by c.line c.gives (sym (ap Ok away) ∙ c.told)
+  where
+    by : (r : Result Line LineRefusal) → GivesLine reader next now after r → Ok false ≡ told_line r → GivesLine reader next now after (Ok End)
+    by (Ok Whole) g is = absurd cc
+    by (Ok End) g is = g
+    by (Err r) g is = absurd cc
+
+-- ---- how the run goes on, by what became of the next line
+
+module _ (session : SessionValue) (reader : ReaderValue) (start : InputsTold) (first : SinkTold) (session' session'' : SessionValue)
+    (reader' next : ReaderValue) (now after : InputsTold) (out later : SinkTold) (s : Stands session reader start first session' reader' now out) where
+  pub goes_on : (b : Bool) → b ≡ true → AnswersNext session' session'' reader' next now after out later (Ok b)
+      → Stands session reader start first session'' next after later
+  goes_on b there a =
+      let line = a.line (ap Ok there) in
+      stands_next session reader start first session' reader' next now after out s session'' later line.2 line.0 line.1
+
+  pub fewer : (b : Bool) → b ≡ true → AnswersNext session' session'' reader' next now after out later (Ok b)
+      → most_lines - next.given < most_lines - reader'.given
+  fewer b there a =
+      let g = (a.line (ap Ok there)).0 in
+      let one : next.given ≡ reader'.given + 1 = g.given in
+      omega (arith, g.few refl, one)
+
+  pub goes_no_further : (b : Bool) → b ≡ false → AnswersNext session' session'' reader' next now after out later (Ok b)
+      → AnswersLines session reader start after first later status.Done
+  goes_no_further b away a =
+      let end = a.end (ap Ok away) in
+      subst (λ o. AnswersLines session reader start after first o status.Done) (sym end.1)
+      (ends_at_end session reader start first session' reader' next now after out s end.0)
+
+  pub goes_wrong : (why : Stop) → AnswersNext session' session'' reader' next now after out later (Err why)
+      → AnswersLines session reader start after first later (status_of_stop why)
+  goes_wrong why a = elim a.stop [
+    | inl read ↦
+        subst (λ o. AnswersLines session reader start after first o (status_of_stop why)) (sym read.1)
+        (stops_at_reading session reader start first session' reader' next now after out s why read.0)
+    | inr reply ↦ stops_at_reply session reader start first session' reader' next now after out s later why reply.0 reply.1
+  ]
+
+  pub goes_wrong_as : (why : Stop) (result : Result (Unit {0}) Stop) → result ≡ Err why
+      → AnswersNext session' session'' reader' next now after out later (Err why)
+      → AnswersEach session reader start after first later result
+  goes_wrong_as why result is a = subst (AnswersEach session reader start after first later) (sym is) (goes_wrong why a)
+
+-- what became of the next line, where none was answered whole
+pub stopped_next : (session session' : SessionValue) (reader next : ReaderValue) (now after : InputsTold) (out later : SinkTold) (why : Stop)
+    (result : Result Bool Stop) → result ≡ Err why
+    → (ComesToLine reader next now after (Err why) × (later ≡ out))
+    ⊎ (GivesLine reader next now after (Ok Whole) × Tells (told_of session next.line) out later (Err why))
+    → AnswersNext session session' reader next now after out later result
+stopped_next session session' reader next now after out later why result is stopped =
+    subst (AnswersNext session session' reader next now after out later) (sym is) (record { line = λ e. absurd cc; end = λ e. absurd cc; stop = stopped })

@@ -1,0 +1,9 @@
+//! What holds of all runs.
+//!
+//! A law is proved where it is a contract, so each function here has one and computes nothing.
+ghost use Rattle.doc_io.specs.LineRuns.{RunLaw};
+
+/// The lines that a reader gives one after another are those of the file, however the reads cut it.
+pub fn a_run_gives_the_lines_of_the_file()
+    ensures { RunLaw }
+{}
