@@ -11,7 +11,9 @@ import unittest
 from tests.common import TOP, InFolder
 
 PROGRAM = TOP / "crates" / "mathlay" / "out" / "mathlay"
-USAGE = b"usage: mathlay layout METRICS TREE | edit METRICS TREE SCRIPT | check METRICS TREE\n"
+USAGE = (
+    b"usage: mathlay layout METRICS TREE | edit METRICS TREE SCRIPT | check METRICS TREE | gen METRICS SEED COUNT\n")
+GENERATED = b"edits 1\nok 1\nwidth 5467264\nascent 19680\ndescent 10592\nboxes 833\n"
 FILES = {
     "m": "mathlay-metrics 1\nupem 1024\nline 900 300\nxheight 512\nglyph missing 512 600 0\n",
     "t": '{"name":"math"}',
@@ -25,6 +27,9 @@ FILES = {
 ROWS = [
     (["layout", "m", "t"], 0, b"box 1 math 0 0 0 0 0 0 0\n"),
     (["edit", "m", "t", "s"], 0, b"refused root\n"),
+    # every character is the glyph `missing`, 512 units of 1024 wide
+    (["gen", "m", "1", "1"], 0, GENERATED),
+    (["gen", "m", "1", "0"], 2, USAGE),
     ([], 2, USAGE),
     (["layout", "m"], 2, USAGE),
     (["layout", "m", "t", "t"], 2, USAGE),

@@ -7,4 +7,5 @@ mod Reading
 mod Parts
 mod Replying
 mod RepliesLaws
+mod DigitWords
 mod Worked

@@ -1,5 +1,6 @@
 pub mod Status
 pub mod Refusals
+pub mod Numerals
 pub mod Command
 pub mod Script
 pub mod Replies

@@ -2,13 +2,14 @@ ghost use Rattle.std.specs.Prelude.{◌≡◌, ◌≢◌, Some, None, All, IfOk,
 ghost use Rattle.std.specs.Option.{option_map};
 ghost use Rattle.box_writer.specs.Items.{IsOfFont};
 ghost use Rattle.box_writer.specs.Lines.{text_of};
-ghost use Rattle.commands.specs.Command.{asked_by, asked_of, work_of, LaysOut, Edits};
-ghost use Rattle.commands.specs.Answer.{answer, answer_over, checked, done, laid_out, lines_of_page, scripted, started, whole_text};
-ghost use Rattle.commands.specs.Ends.{Answered, Delivers, Ends, EndsBeforeTree, EndsUnlaid, GivesOr, LacksFile, StepsStand, TakesNoSteps, Written};
-ghost use Rattle.commands.specs.Parts.{LacksScript, LacksTree};
+ghost use Rattle.generator.specs.Summary.{lines_of};
+ghost use Rattle.commands.specs.Command.{asked_by, asked_of, job_of, work_of, LaysOut, Edits};
+ghost use Rattle.commands.specs.Answer.{answer, answer_over, answer_with, checked, done, generates, laid_out, lines_of_page, scripted, started, whole_text};
+ghost use Rattle.commands.specs.Ends.{Answered, AnsweredJob, Delivers, Ends, EndsBeforeTree, EndsUnlaid, GivesOr, IsJobInParts, JobStepsStand, LacksFile, StepsStand, TakesNoSteps, Written};
+ghost use Rattle.commands.specs.Parts.{LacksNext, LacksScript, LacksTree};
 ghost use Rattle.commands.specs.Refusals.{line_of, status_of};
 
-use crate::command::{NoCommand, Request, Task, USAGE};
+use crate::command::{Job, NoCommand, Request, Task, USAGE};
 use crate::load::{load_metrics, load_tree, open_script};
 use crate::refusal::Refusal;
 use crate::replies::answer_lines;
@@ -18,6 +19,7 @@ use doc_io::{Inputs, Sink, write_all};
 use edit_session::Session;
 use fixed_units::{List, Memory, Steps};
 use font_metrics::Metrics;
+use generator::{Summary, generate};
 use math_tree::Tree;
 use std::alloc::Global;
 use std::sync::ledger::Ledger;
@@ -50,24 +52,38 @@ fn answer<I: Inputs, O: Sink, L: Ledger>(
     out: &mut O,
     steps: &mut Steps<L>,
 ) -> Status
-    ensures answered { Answered (asked_of request.entry).work
+    ensures answered { AnsweredJob (IsJobInParts (asked_of request.entry).job)
         (option_map (answer (asked_of request.entry)) (I.told inputs.old).files)
         (LacksFile (Some (asked_of request.entry)))
         (I.told inputs.old) (I.told inputs.new)
         (O.told out.old) (O.told out.new) result }
-    ensures steps { StepsStand (asked_of request.entry).work result → steps.new ≡ steps.old }
+    ensures steps { JobStepsStand (asked_of request.entry).job result → steps.new ≡ steps.old }
 {
     match load_metrics(alloc, request.metrics, inputs) {
-        Ok(metrics) => answer_over(
-            alloc,
-            request.task,
-            metrics,
-            request.tree,
-            inputs,
-            out,
-            steps,
-        ),
+        Ok(metrics) => answer_with(alloc, request.job, metrics, inputs, out, steps),
         Err(refusal) => tell(out, refusal),
+    }
+}
+
+/// Does a job with these metrics, or tells why it isn't done.
+fn answer_with<I: Inputs, O: Sink, L: Ledger>(
+    alloc: Global,
+    job: Job,
+    metrics: Metrics,
+    inputs: &mut I,
+    out: &mut O,
+    steps: &mut Steps<L>,
+) -> Status
+    ensures answered { AnsweredJob (IsJobInParts (job_of job.entry))
+        (option_map (answer_with (job_of job.entry) metrics) (I.told inputs.old).files)
+        (LacksNext (job_of job.entry) metrics)
+        (I.told inputs.old) (I.told inputs.new)
+        (O.told out.old) (O.told out.new) result }
+    ensures steps { JobStepsStand (job_of job.entry) result → steps.new ≡ steps.old }
+{
+    match job {
+        Job::OverTree(task, tree) => answer_over(alloc, task, metrics, tree, inputs, out, steps),
+        Job::Generate(seed, count) => generate_edits(alloc, metrics, seed, count, out, steps),
     }
 }
 
@@ -125,6 +141,37 @@ fn do_task<I: Inputs, O: Sink, L: Ledger>(
             drop(tree);
             status
         }
+    }
+}
+
+/// Makes edits that are drawn from a seed and writes what came of them, or tells why it doesn't.
+fn generate_edits<O: Sink, L: Ledger>(
+    alloc: Global,
+    metrics: Metrics,
+    seed: u64,
+    count: u32,
+    out: &mut O,
+    steps: &mut Steps<L>,
+) -> Status
+    ensures written { Written (generates metrics seed count)
+        (O.told out.old) (O.told out.new) result }
+    ensures late { ¬ EndsUnlaid result }
+{
+    match generate(alloc, metrics, seed, count, steps) {
+        Ok(told) => write_summary(alloc, &told, out),
+        Err(refusal) => tell(out, Refusal::of_layout(refusal)),
+    }
+}
+
+/// Writes the lines of what came of edits.
+fn write_summary<O: Sink>(alloc: Global, told: &Summary, out: &mut O) -> Status
+    ensures written { Written (Ok (whole_text (lines_of told.now)))
+        (O.told out.old) (O.told out.new) result }
+    ensures late { ¬ EndsUnlaid result }
+{
+    match told.to_string(alloc) {
+        Ok(lines) => deliver(out, lines.as_bytes(), Status::Done),
+        Err(_) => tell(out, Refusal::Memory),
     }
 }
 
