@@ -33,7 +33,7 @@ cut_again r (inr memory) = inr (let e = memory in cc)
 err_again : {A B : Type 0} (r s : Refusal) → IsErrOf {T = A} (Err r) s → IsErrOf {T = B} (Err r) s
 err_again r s e = cc
 
-ok_is_not_cut : {A : Type 0} (a : A) → IsCut (Ok a) → ⊥
+pub ok_is_not_cut : {A : Type 0} (a : A) → IsCut (Ok a) → ⊥
 ok_is_not_cut a (inl fault) = cc
 ok_is_not_cut a (inr memory) = cc
 

@@ -4,6 +4,7 @@ pub mod Answering
 pub mod Steps
 mod Continuing
 mod Reading
+mod StepsTaken
 mod Parts
 mod Replying
 mod RepliesLaws

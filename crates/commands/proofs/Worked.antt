@@ -1,5 +1,5 @@
 -- Worked runs: the definitions of the program, computed from the bytes of the files and the words.
-use Rattle.std.proofs.Common.{◌≡◌, ◌∙◌, ap, ℕ, pos, List, [], ◌∷◌, ◌++◌, codes, Option, Some, None, refl, lit≤, Bool, true, false}
+use Rattle.std.proofs.Common.{◌≡◌, ◌∙◌, ap, ℕ, pos, List, [], ◌∷◌, ◌++◌, codes, Option, Some, None, refl, subst, lit≤, Bool, true, false}
 use Rattle.std.specs.Prelude.{⊤, Ok, Err, if◌then◌else◌}
 use Rattle.std.specs.Fmt.{digits}
 use Rattle.std.specs.Str.{bytes_eq}
@@ -35,6 +35,7 @@ use Rattle.commands.specs.Script.{within, is_within}
 use Rattle.commands.specs.Replies.{after_line, is_edited_in_range, replies, reply_by, reply_to, reply_to_command, reply_to_edit, text_of_reply, told_of}
 use Rattle.commands.specs.declared.reply.Cause.TheVariants.{NoCommand, Unmade}
 use Rattle.commands.specs.declared.reply.Reply.TheVariants.{Nothing, Refused}
+use Rattle.commands.specs.Steps.{TakesForEdit, TakesForLine, TakesForLines, accepted_by, accepted_in, unless_refused}
 use Rattle.commands.specs.Numerals.{number_in as numeral_in}
 use Rattle.commands.specs.Command.{asked_by, Asked, OverTree, Generates, Edits, Checks}
 use Rattle.commands.specs.Answer.{metrics_in, tree_of_json, tree_in, output_of, output}
@@ -298,3 +299,43 @@ three_replies =
     ap (λ s. told_of s move ++ (told_of (after_line s move) remove ++ [])) white_stays
     ∙ ap (λ s. told_of session move ++ (told_of s remove ++ [])) move_stays
     ∙ (λ i. move_told i ++ (remove_told i ++ []))
+
+-- ---- steps
+
+-- an edit that is accepted is the one whose steps are counted
+accepted_edit : (edit : EditOfTree) (line : List ℕ) → is_white_space line ≡ false → command_in line ≡ Some (Change edit)
+    → refusal_of tree_value edit ≡ None → accepted_in session line ≡ Some edit
+unfolding accepted_in
+accepted_edit edit line black is free =
+    ap (λ (white : Bool). if white then None else accepted_by session (command_in line)) black
+    ∙ ap (accepted_by session) is
+    ∙ ap (λ reason. unless_refused reason edit) free
+
+white_accepts_none : accepted_in session (9 ∷ []) ≡ None
+unfolding accepted_in math_tree_on_literals
+white_accepts_none = refl
+
+move_accepts_none : accepted_in session move ≡ None
+unfolding accepted_in lines_on_literals lib.Utf8.encode
+move_accepts_none = ap (accepted_by session) (read_line move (move, (refl, refl)))
+
+remove_accepts_none : accepted_in session remove ≡ None
+unfolding accepted_in refusal_of lines_on_literals lib.Utf8.encode
+remove_accepts_none =
+    ap (accepted_by session) (read_line remove (remove, (refl, refl)))
+    ∙ ap (λ reason. unless_refused reason (Remove (record { 0 = 1 })))
+    (root_stays (listed 1 (edited tree_value (Remove (record { 0 = 1 }))).root) (edited tree_value (Remove (record { 0 = 1 }))).next_id)
+
+-- a line that asks for no edit that is accepted takes no step
+takes_none : (line : List ℕ) → accepted_in session line ≡ None → (from to : ℕ) → TakesForLine session line from to → to ≡ from
+takes_none line none from to steps = subst (λ edit. TakesForEdit session edit from to) none steps
+
+-- nor do the three lines above
+three_take_none : (from to : ℕ) → TakesForLines session ((9 ∷ []) ∷ move ∷ remove ∷ []) from to → to ≡ from
+three_take_none from to (white, first, (moved, second, (removed, third, same))) =
+    let at_move : TakesForLine session move white moved = subst (λ s. TakesForLine s move white moved) white_stays second in
+    let after_move : after_line (after_line session (9 ∷ [])) move ≡ session = ap (λ s. after_line s move) white_stays ∙ move_stays in
+    let at_remove : TakesForLine session remove moved removed = subst (λ s. TakesForLine s remove moved removed) after_move third in
+    same ∙ takes_none remove remove_accepts_none moved removed at_remove
+    ∙ takes_none move move_accepts_none white moved at_move
+    ∙ takes_none (9 ∷ []) white_accepts_none from white first

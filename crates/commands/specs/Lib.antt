@@ -7,4 +7,5 @@ pub mod Replies
 pub mod Answer
 pub mod Ends
 pub mod Parts
+pub mod Steps
 pub mod Laws

@@ -1,10 +1,11 @@
-use Rattle.std.proofs.Common.{inl, Err}
+use Rattle.std.proofs.Common.{inl, refl, Err}
 use Rattle.commands.specs.Command.{asked_of}
 use Rattle.commands.proofs.Answering.{without_metrics, with_metrics}
 use Rattle.commands.specs.Answer.{output_of}
 use Rattle.commands.specs.Ends.{IsJobInParts}
 use Rattle.commands.proofs.Parts.{since}
 use Rattle.commands.proofs.Ending.{told_not_done}
+use Rattle.commands.proofs.StepsTaken.{for_metrics}
 use Rattle.commands.proofs.program.answer.Goals as goal
 
 pub returns-in-Ok-clause-answered : goal.returns-in-Ok-clause-answered
@@ -25,3 +26,10 @@ returns-in-Err-clause-answered g c = record {
   delivers = inl c.tell.ensures;
   read_to_end = λ done parts. absurd (told_not_done c.in-Err.refusal _ _ _ _ c.tell.ensures done);
 }
+
+pub returns-in-Ok-clause-taken : goal.returns-in-Ok-clause-taken
+returns-in-Ok-clause-taken g c =
+    for_metrics (asked_of c.args.request) _ _ c.in-Ok.metrics _ _ c.in-Ok.ensures c.answer_with.ensures.taken
+
+pub returns-in-Err-clause-taken : goal.returns-in-Err-clause-taken
+returns-in-Err-clause-taken g c = inl refl

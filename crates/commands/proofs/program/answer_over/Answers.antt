@@ -1,10 +1,11 @@
-use Rattle.std.proofs.Common.{inl, Err}
+use Rattle.std.proofs.Common.{inl, refl, Err}
 use Rattle.commands.specs.Command.{work_of}
 use Rattle.commands.proofs.Answering.{without_tree, with_tree}
 use Rattle.commands.specs.Answer.{output_of}
 use Rattle.commands.specs.Ends.{IsInParts}
 use Rattle.commands.proofs.Parts.{since}
 use Rattle.commands.proofs.Ending.{told_not_done}
+use Rattle.commands.proofs.StepsTaken.{for_tree}
 use Rattle.commands.proofs.program.answer_over.Goals as goal
 
 pub returns-in-Ok-clause-answered : goal.returns-in-Ok-clause-answered
@@ -25,3 +26,10 @@ returns-in-Err-clause-answered g c = record {
   delivers = inl c.tell.ensures;
   read_to_end = λ done parts. absurd (told_not_done c.in-Err.refusal _ _ _ _ c.tell.ensures done);
 }
+
+pub returns-in-Ok-clause-taken : goal.returns-in-Ok-clause-taken
+returns-in-Ok-clause-taken g c =
+    for_tree (work_of c.args.task) c.args.metrics c.args.name.now _ _ c.in-Ok.tree _ _ c.in-Ok.ensures c.do_task.ensures.taken
+
+pub returns-in-Err-clause-taken : goal.returns-in-Err-clause-taken
+returns-in-Err-clause-taken g c = inl refl

@@ -4,6 +4,7 @@ use Rattle.commands.specs.Answer.{answer_with}
 use Rattle.commands.specs.Command.{Job, job_of, work_of}
 use Rattle.commands.specs.Ends.{AnsweredJob, IsJobInParts, JobStepsStand}
 use Rattle.commands.specs.Parts.{LacksNext}
+use Rattle.commands.specs.Steps.{TakesForJob}
 use Rattle.commands.proofs.Answering.{generated_answers, over_tree_answers}
 use Rattle.commands.proofs.program.answer_with.Goals as goal
 
@@ -45,3 +46,13 @@ returns-in-Generate-clause-answered g c =
 pub returns-in-Generate-clause-steps : goal.returns-in-Generate-clause-steps
 returns-in-Generate-clause-steps g c = λ stands.
     absurd (c.generate_edits.ensures.late (subst (λ (job : Job). JobStepsStand job c.generate_edits.result) (ap job_of c.in-Generate.is) stands))
+
+pub returns-in-OverTree-clause-taken : goal.returns-in-OverTree-clause-taken
+returns-in-OverTree-clause-taken g c =
+    subst (λ (job : Job). TakesForJob job c.args.metrics (g.I.Inputs.told c.args.inputs.now).files c.args.steps.now c.answer_over.new.steps)
+    (sym (ap job_of c.in-OverTree.is)) c.answer_over.ensures.taken
+
+pub returns-in-Generate-clause-taken : goal.returns-in-Generate-clause-taken
+returns-in-Generate-clause-taken g c =
+    subst (λ (job : Job). TakesForJob job c.args.metrics (g.I.Inputs.told c.args.inputs.now).files c.args.steps.now c.generate_edits.new.steps)
+    (sym (ap job_of c.in-Generate.is)) c.generate_edits.ensures.taken
