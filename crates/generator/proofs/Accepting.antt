@@ -1,16 +1,14 @@
 -- Which edits are accepted, and what they leave.
-use Rattle.std.proofs.Common.{◌≡◌, ◌≢◌, ◌∙◌, refl, sym, ap, subst, ℕ, true, false, Some, None, Bool, cond, ◌&&◌, Option}
+use Rattle.std.proofs.Common.{◌≡◌, ◌≢◌, refl, ap, subst, true, false, Some, None, Bool, cond, ◌&&◌, Option}
 use Rattle.std.specs.Option.{is_none}
 use Rattle.tree_edits.specs.Edits.{edited, refusal_of}
 use Rattle.tree_edits.specs.declared.edit.Edit.{Edit}
 use Rattle.tree_edits.specs.declared.edit.EditRefusal.{EditRefusal}
 use Rattle.layout_model.specs.Layout.{is_tree_in_range}
-use Rattle.kept_edits.specs.ByIds.{TakesNeeded}
 use Rattle.edit_session.specs.Session.{IsCause, IsInRange, SessionValue, edited_session}
 use Rattle.edit_session.specs.declared.refusal.SessionRefusal.{SessionRefusal}
 use Rattle.edit_session.specs.declared.refusal.SessionRefusal.TheVariants.{Edit as Refused, Range, Memory}
 use Rattle.generator.specs.Folded.{after_edit, is_accepted}
-use Rattle.generator.specs.Steps.{TakesForEdit}
 
 module _ (session : SessionValue) (edit : Edit) where
   both : refusal_of session.tree edit ≡ None → (b : Bool) → is_tree_in_range session.metrics (edited session.tree edit) ≡ b

@@ -1,5 +1,5 @@
 -- The value is read as the starting tree.
-use Rattle.std.proofs.Common.{◌≡◌, ◌∙◌, refl, sym, ap}
+use Rattle.std.proofs.Common.{◌≡◌, ◌∙◌, refl, ap}
 use Rattle.std.specs.Prelude.{Result, Ok, Err}
 use Rattle.fixed_units.specs.Sums.{list_to}
 use Rattle.serde_json.specs.Data.{Data}

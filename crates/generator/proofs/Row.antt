@@ -1,5 +1,5 @@
 -- The text of a row is read as the row.
-use Rattle.std.proofs.Common.{◌≡◌, ◌∙◌, refl, sym, List, codes, Option, Some, ℕ}
+use Rattle.std.proofs.Common.{◌≡◌, refl, codes, Option, Some}
 use Rattle.serde_json.specs.Data.{Data}
 use Rattle.serde_json.specs.Read.{read}
 use Rattle.serde_json.proofs.OnLiterals.{serde_json_on_literals}

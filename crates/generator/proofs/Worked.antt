@@ -1,7 +1,7 @@
 -- Draws and edits, computed from seeds.
-use Rattle.std.proofs.Common.{◌≡◌, refl, ℕ, [], ◌∷◌, codes}
+use Rattle.std.proofs.Common.{◌≡◌, refl, [], ◌∷◌, codes}
 use Rattle.std.specs.Fmt.{digits}
-use Rattle.tree_edits.specs.declared.edit.Edit.TheVariants.{Text, Attr}
+use Rattle.tree_edits.specs.declared.edit.Edit.TheVariants.{Text}
 use Rattle.generator.specs.Draws.{drawn, next_state, number_in}
 use Rattle.generator.specs.Edits.{after_draws, attribute_set, drawn_edit, drawn_edits, edit_of_kind, id}
 use Rattle.generator.specs.Start.{row_count, row_id}

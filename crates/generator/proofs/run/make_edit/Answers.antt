@@ -1,6 +1,5 @@
-use Rattle.std.proofs.Common.{◌≡◌, ◌≢◌, ◌∙◌, sym, ap, subst}
+use Rattle.std.proofs.Common.{◌≢◌, ◌∙◌, sym, ap, subst}
 use Rattle.tree_edits.specs.Applying.{IsProperEdit}
-use Rattle.tree_edits.specs.declared.edit.Edit.{Edit}
 use Rattle.edit_session.specs.Session.{KeptSession}
 use Rattle.edit_session.specs.declared.refusal.SessionRefusal.TheVariants.{Memory}
 use Rattle.generator.specs.Folded.{after_edit, is_accepted}
