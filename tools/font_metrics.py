@@ -14,9 +14,9 @@ room or ink.
 
 A character that FONT lacks gets another glyph, where there is one: of a character that looks the same in FONT; of the same
 character in each --fallback font in turn, scaled to FONT's em; or of one that is alike. tools/stand_ins.txt says which. A
-sign that doesn't grow to the sides takes the larger forms of one that looks the same and does, as a macron those of an overline,
-in its own font or else in a fallback font.
-picture.py has to be given the same fonts. A fallback font needs no MATH table.
+sign that doesn't grow takes the larger forms of one that looks the same and does: in its own font, as a macron those of an
+overline, or else in a fallback font, as a surd or a brace those of the other surd or brace. picture.py has to be given the
+same fonts. A fallback font needs no MATH table.
 
 With --formula, FILE's formulas are read, and each character that they need and the metrics lack is told, with its element.
 
@@ -251,29 +251,29 @@ def stretches_of(sources, losses, bases):
 
 
 def lent(sources, table, characters, stretches, losses):
-    """What lets a sign grow to the sides that can't by itself: the growth of one that looks the same, in its own font or else in
-    another one."""
+    """What lets a sign grow that can't by itself, upward or to the sides: the growth of one that looks the same, in its own font
+    or else in another one."""
     found = {}
-    for code in set(characters) & set(table.same):
-        shape = characters[code]
-        if shape.spaced or ("h", shape) in stretches or sources.ink(shape) is None:
+    for code, shape in characters.items():
+        if shape.spaced or sources.ink(shape) is None:
             continue
-        lender = next(lenders(sources, shape, code, table.same[code]), None)
-        if lender:
-            construction = constructions(sources.fonts[lender.place])["h", lender.glyph]
-            found["h", shape] = stretch_of(sources, lender, construction, losses)
+        for axis in "vh":
+            lender = (axis, shape) not in stretches and next(lenders(sources, axis, shape, code, table.same.get(code, ())), None)
+            if lender:
+                construction = constructions(sources.fonts[lender.place])[axis, lender.glyph]
+                found[axis, shape] = stretch_of(sources, lender, construction, losses)
     return found
 
 
-def lenders(sources, shape, code, others):
-    """The shapes that look as a character does and grow to the sides, those of its own font first."""
+def lenders(sources, axis, shape, code, others):
+    """The shapes that look as a character does and grow along an axis, those of its own font first."""
     own = shape.place
     for place in (own, *(place for place in range(len(sources.fonts)) if place != own)):
         font = sources.fonts[place]
         for other in others if place == own else (code, *others):
             glyph = font.characters.get(other)
             lender = glyph and Shape(place, glyph, is_combining(other) and not is_combining(code))
-            if lender and lender != shape and ("h", glyph) in constructions(font) and sources.name(lender):
+            if lender and lender != shape and (axis, glyph) in constructions(font) and sources.name(lender):
                 yield lender
 
 

@@ -5,6 +5,7 @@ fail, or where the sink has little room. How many calls a run makes is the produ
 from the formats, so a case whose outcome hangs on more is refused."""
 
 import json
+from functools import lru_cache
 from io import BytesIO
 
 from second import program
@@ -34,8 +35,14 @@ class Files:
 def outcome(words, files):
     """What a run with these words and files gives where no call fails: its status, the bytes it writes, and the names of
     the files in the order in which they are looked for."""
-    inputs, written = Files(files), []
-    status = program.run(words, inputs, written.append)
+    return outcome_of(tuple(words), tuple(files.items()))
+
+
+@lru_cache(maxsize=8)
+def outcome_of(words, files):
+    """Many cases in a row differ only in where reads stop and which calls fail."""
+    inputs, written = Files(dict(files)), []
+    status = program.run(list(words), inputs, written.append)
     return status, b"".join(written), inputs.looked_for
 
 
@@ -197,6 +204,7 @@ def told(status, text, is_sum):
     return lines + [b"|" + line for line in whole] + ([b"+" + rest] if rest else [])
 
 
+@lru_cache(maxsize=8)
 def fnv1a(data):
     """The 64-bit FNV-1a hash."""
     found = 0xCBF29CE484222325

@@ -230,6 +230,17 @@ class StandIns(InFolder):
         self.assertNotIn("variant", self.made(first)[3])
         self.assertIn("\nhvariant macron fallback1.over.spaced 300\n", self.made(first, "--fallback", font)[3])
 
+    def test_a_sign_that_cannot_grow_takes_the_growth_of_the_same_sign_in_a_fallback_font(self):
+        glyphs = PLAIN | {"surd": (400, (0, -100, 400, 700)), "tall": (500, (0, -700, 500, 1400))}
+        growing = {("v", "surd"): [("surd", 800), ("tall", 2100)]}
+        other = self.font("b.ttf", glyphs, {0x61: "a", 0x221A: "surd"}, variants=growing)
+        lines = "\nvvariant surd fallback1.surd 800\nvvariant surd fallback1.tall 2100\n"
+        self.assertIn(lines, self.made(self.font("a.ttf", glyphs, {0x61: "a", 0x221A: "surd"}), "--fallback", other)[3])
+        # one that grows by itself keeps its own growth
+        own = self.font("c.ttf", glyphs, {0x61: "a", 0x221A: "surd"}, variants={("v", "surd"): [("tall", 2100)]})
+        self.assertIn("\nvvariant surd tall 2100\n", self.made(own, "--fallback", other)[3])
+        self.assertNotIn("vvariant surd fallback1", self.made(own, "--fallback", other)[3])
+
     def test_a_second_font_alone_has_no_table(self):
         lone = self.font("b.ttf", PLAIN, {0x61: "a"}, math=False)
         self.assert_refused(run(font_metrics, lone), "may fill in for another by --fallback")

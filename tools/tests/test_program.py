@@ -5,13 +5,17 @@
 import ctypes
 import os
 import resource
+import select
 import subprocess
+import sys
 import unittest
 
 from tests.common import TOP, InFolder
 
 PROGRAM = TOP / "crates" / "mathlay" / "out" / "mathlay"
-USAGE = b"usage: mathlay layout METRICS TREE | edit METRICS TREE SCRIPT | check METRICS TREE\n"
+USAGE = (
+    b"usage: mathlay layout METRICS TREE | edit METRICS TREE SCRIPT | check METRICS TREE | gen METRICS SEED COUNT\n")
+GENERATED = b"edits 1\nok 1\nwidth 5467264\nascent 19680\ndescent 10592\nboxes 833\n"
 FILES = {
     "m": "mathlay-metrics 1\nupem 1024\nline 900 300\nxheight 512\nglyph missing 512 600 0\n",
     "t": '{"name":"math"}',
@@ -25,6 +29,9 @@ FILES = {
 ROWS = [
     (["layout", "m", "t"], 0, b"box 1 math 0 0 0 0 0 0 0\n"),
     (["edit", "m", "t", "s"], 0, b"refused root\n"),
+    # every character is the glyph `missing`, 512 units of 1024 wide
+    (["gen", "m", "1", "1"], 0, GENERATED),
+    (["gen", "m", "1", "0"], 2, USAGE),
     ([], 2, USAGE),
     (["layout", "m"], 2, USAGE),
     (["layout", "m", "t", "t"], 2, USAGE),
@@ -48,6 +55,14 @@ TALK = [
     (b'{"op":"remove","node":1}\n', b"refused root\n"),
     (b"Hello?\n", b"refused line\n"),
 ]
+# How long the program may be silent before a conversation counts as broken off, in seconds.
+SILENCE = 120
+# Runs the words that it is given, and tells their status and the most memory that they had, in KiB. It is a process of its own,
+# since what the tests themselves have would count too.
+PEAK = """import resource, subprocess, sys
+ended = subprocess.run(sys.argv[1:], stdout=subprocess.DEVNULL)
+print(ended.returncode, resource.getrusage(resource.RUSAGE_CHILDREN).ru_maxrss)
+"""
 # How much more memory may be had by chance, in KiB: 1 MiB.
 SLACK = 1024
 
@@ -87,32 +102,48 @@ class Program(InFolder):
             self.assertEqual(self.ended(["layout", "m", "t"], short, **limited), (6, None))
         self.assertEqual((self.folder / "written").read_bytes(), b"box")
 
-    def test_a_conversation(self):
+    def reply(self, program, length):
+        """The next bytes that the program writes: fewer where it ends, or stays silent for long."""
+        written = b""
+        while len(written) < length and select.select([program.stdout], [], [], SILENCE)[0]:
+            piece = os.read(program.stdout.fileno(), length - len(written))
+            if not piece:
+                break
+            written += piece
+        return written
+
+    def talking(self):
+        """The program with a pipe as its script, and the pipe's other end, whose opening waits for nobody."""
         os.mkfifo(self.folder / "talk")
-        words = [PROGRAM, "edit", "m", "t", "talk"]
-        with subprocess.Popen(words, cwd=self.folder, stdout=subprocess.PIPE) as program:
+        script = os.open(self.folder / "talk", os.O_RDWR)
+        program = subprocess.Popen([PROGRAM, "edit", "m", "t", "talk"], cwd=self.folder, stdout=subprocess.PIPE, bufsize=0)
+        for cleanup in (program.stdout.close, program.wait, program.kill):
+            self.addCleanup(cleanup)
+        return program, script
+
+    def test_a_conversation(self):
+        program, script = self.talking()
+        with open(script, "wb", buffering=0) as talk:
             # Each line is written only once the reply to the one before was read.
-            with open(self.folder / "talk", "wb", buffering=0) as script:
-                for number in range(10_000):
-                    line, reply = TALK[number % len(TALK)]
-                    script.write(line)
-                    self.assertEqual(program.stdout.read(len(reply)), reply, number)
-                # A last line without a line feed is answered once the pipe is closed.
-                script.write(b'{"op":"show"}')
-            self.assertEqual(program.stdout.read(), TALK[1][1])
-        self.assertEqual(program.returncode, 0)
+            for number in range(10_000):
+                line, reply = TALK[number % len(TALK)]
+                talk.write(line)
+                self.assertEqual(self.reply(program, len(reply)), reply, number)
+            # A last line without a line feed is answered once the pipe is closed.
+            talk.write(b'{"op":"show"}')
+        self.assertEqual(self.reply(program, len(TALK[1][1]) + 1), TALK[1][1])
+        self.assertEqual(program.wait(SILENCE), 0)
 
     def peak(self, name):
         """The most memory in KiB that the program has while it answers a script."""
-        words = [PROGRAM, "edit", "m", "t", name]
-        program = subprocess.Popen(words, cwd=self.folder, stdout=subprocess.DEVNULL)
-        _, status, used = os.wait4(program.pid, 0)
-        program.returncode = os.waitstatus_to_exitcode(status)
-        self.assertEqual(program.returncode, 0)
-        return used.ru_maxrss
+        words = [sys.executable, "-c", PEAK, PROGRAM, "edit", "m", "t", name]
+        told = subprocess.run(words, cwd=self.folder, stdout=subprocess.PIPE, check=True).stdout
+        status, most = map(int, told.split())
+        self.assertEqual(status, 0)
+        return most
 
     def test_memory_for_one_line(self):
-        # 64 MiB of lines: more than this test itself has, whose memory counts as the program's until that begins.
+        # 64 MiB of lines: more than the Python that measures has, whose memory counts as the program's until that begins.
         line = " " * 1010 + '{"op":"show"}\n'
         self.file("one", line)
         with open(self.folder / "many", "w", encoding="utf-8") as many:

@@ -12,11 +12,15 @@ use Rattle.math_tree.specs.Trees.{TreeValue}
 use Rattle.std.specs.Prelude.{Bool, true, false, if◌then◌else◌}
 use Rattle.layout_model.specs.Layout.{is_tree_in_range}
 use Rattle.edit_session.specs.Session.{SessionValue}
-use Rattle.commands.specs.Command.{Asked, Work, LaysOut, Edits, Checks}
-use Rattle.commands.specs.Answer.{Text, whole_text, content, metrics_in, tree_in, answers_to, ◌>>=◌, started, lines_of_page, checked, laid_out, scripted, done, answer_over, answer}
+use Rattle.generator.specs.Generated.{generated}
+use Rattle.generator.specs.Start.{start_tree}
+use Rattle.generator.specs.Summary.{lines_of as lines_of_summary}
+use Rattle.generator.specs.declared.summary.Summary.{Summary}
+use Rattle.commands.specs.Command.{Asked, Job, OverTree, Generates, Work, LaysOut, Edits, Checks}
+use Rattle.commands.specs.Answer.{Text, whole_text, content, metrics_in, tree_in, answers_to, ◌>>=◌, started, lines_of_page, checked, laid_out, scripted, done, generates, told_of_edits, answer_over, answer_with, answer}
 use Rattle.commands.specs.Refusals.{of_layout}
-use Rattle.commands.specs.Ends.{LacksFile, HasReadCause, IsCut, GivesOr, Answers, IsScript, start_of}
-use Rattle.commands.specs.Parts.{AnswersLines, LacksScript, LacksTree, OpensScript, replies_left}
+use Rattle.commands.specs.Ends.{LacksFile, HasReadCause, IsCut, GivesOr, Answers, IsReachedNext, IsScript, start_of}
+use Rattle.commands.specs.Parts.{AnswersLines, LacksNext, LacksScript, LacksTree, OpensScript, replies_left}
 use Rattle.commands.specs.declared.status.Status.{Status}
 use Rattle.commands.specs.declared.refusal.Refusal.{Refusal}
 use Rattle.commands.specs.declared.refusal.Refusal.TheVariants.{ReadFault, Range, Memory}
@@ -29,7 +33,7 @@ cut_again r (inr memory) = inr (let e = memory in cc)
 err_again : {A B : Type 0} (r s : Refusal) → IsErrOf {T = A} (Err r) s → IsErrOf {T = B} (Err r) s
 err_again r s e = cc
 
-ok_is_not_cut : {A : Type 0} (a : A) → IsCut (Ok a) → ⊥
+pub ok_is_not_cut : {A : Type 0} (a : A) → IsCut (Ok a) → ⊥
 ok_is_not_cut a (inl fault) = cc
 ok_is_not_cut a (inr memory) = cc
 
@@ -161,10 +165,10 @@ started_no_fault metrics tree h = by (is_tree_in_range metrics tree) h
     by true h = cc
     by false h = cc
 
-laid_out_no_fault : (said : Result SessionValue Refusal) → ¬ (said ≡ Err ReadFault)
-    → (said >>= λ session. Ok (whole_text (lines_of_page session))) ≡ Err ReadFault → ⊥
-laid_out_no_fault (Ok session) own h = cc
-laid_out_no_fault (Err refusal) own h = own (err_again {A = Text} {B = SessionValue} refusal ReadFault h)
+told_no_fault : (said : Result SessionValue Refusal) (text : SessionValue → List ℕ) → ¬ (said ≡ Err ReadFault)
+    → (said >>= λ session. Ok (whole_text (text session))) ≡ Err ReadFault → ⊥
+told_no_fault (Ok session) text own h = cc
+told_no_fault (Err refusal) text own h = own (err_again {A = Text} {B = SessionValue} refusal ReadFault h)
 
 abbrev DoneAnswer : Work → MetricsValue → TreeValue → InputsTold → InputsTold → Result Text Refusal → Type 0
 DoneAnswer work metrics tree before after result =
@@ -175,7 +179,7 @@ module _ (metrics : MetricsValue) (tree : TreeValue) (seen : InputsTold) (result
   unfolding done
   laid_out_answers gives =
       without_files (laid_out metrics tree) result seen
-      (laid_out_no_fault (started metrics tree) (started_no_fault metrics tree)) gives
+      (told_no_fault (started metrics tree) lines_of_page (started_no_fault metrics tree)) gives
 
   pub checked_answers : GivesOr (Ok (whole_text (checked metrics tree))) result → DoneAnswer Checks metrics tree seen seen result
   unfolding done
@@ -294,7 +298,25 @@ module _ (work : Work) (metrics : MetricsValue) (name : List ℕ) (before mid : 
       continued (λ f. tree_in (content f name)) (done work metrics) (λ f. f name ≡ None) (LacksScript work metrics) (LacksTree work metrics name)
       (λ f lack. lack) before mid after tree result (λ f is lack. inr (tree, is, lack)) a b
 
--- ---- the metrics file, then the tree file
+-- ---- a job, over metrics
+
+abbrev NextAnswer : Job → MetricsValue → InputsTold → InputsTold → Result Text Refusal → Type 0
+NextAnswer job metrics before after result =
+    Answers (option_map (answer_with job metrics) before.files) (LacksNext job metrics) before after result
+
+pub over_tree_answers : (work : Work) (name : List ℕ) (metrics : MetricsValue) (before after : InputsTold) (result : Result Text Refusal)
+    → OverAnswer work metrics name before after result → NextAnswer (OverTree work name) metrics before after result
+unfolding answer_with
+over_tree_answers work name metrics before after result answers = answers
+
+pub generated_answers : (metrics : MetricsValue) (seed count : ℕ) (seen : InputsTold) (result : Result Text Refusal)
+    → GivesOr (generates metrics seed count) result → NextAnswer (Generates seed count) metrics seen seen result
+unfolding answer_with
+generated_answers metrics seed count seen result gives =
+    without_files (generates metrics seed count) result seen
+    (told_no_fault (started metrics start_tree) (λ session. told_of_edits session.metrics seed count) (started_no_fault metrics start_tree)) gives
+
+-- ---- the metrics file, then the job
 
 abbrev MetricsAnswer : Asked → InputsTold → InputsTold → Result MetricsValue Refusal → Type 0
 MetricsAnswer asked before after result =
@@ -319,17 +341,23 @@ script_lacks LaysOut name metrics tree f named away is = absurd named
 script_lacks (Edits script) name metrics tree f named away is = (is, subst (λ n. f n ≡ None) named away)
 script_lacks Checks name metrics tree f named away is = absurd named
 
+-- which file isn't there behind the metrics file
+which_next : (job : Job) (file : List ℕ) (f : Files) (name : List ℕ) → IsReachedNext job file f name → f name ≡ None
+    → (metrics : MetricsValue) × (metrics_in (content f file) ≡ Ok metrics) × LacksNext job metrics f
+which_next (OverTree work tree) file f name (inl reached) away =
+    let is = ok_value (metrics_in (content f file)) reached.1 in
+    (is.0, is.1, inl (subst (λ n. f n ≡ None) reached.0 away))
+which_next (OverTree work tree) file f name (inr reached) away =
+    let is = started_by (metrics_in (content f file)) (tree_in (content f tree)) reached.1 in
+    (is.0, is.1, inr (is.2, is.3, script_lacks work name is.0 is.2 f reached.0 away is.4))
+which_next (Generates seed count) file f name reached away = absurd reached
+
 -- which file isn't there
 which_file : (asked : Asked) (f : Files) → LacksFile (Some asked) f
     → (f asked.metrics ≡ None)
-    ⊎ ((metrics : MetricsValue) × (metrics_in (content f asked.metrics) ≡ Ok metrics) × LacksTree asked.work metrics asked.tree f)
+    ⊎ ((metrics : MetricsValue) × (metrics_in (content f asked.metrics) ≡ Ok metrics) × LacksNext asked.job metrics f)
 which_file asked f (name, inl named, away) = inl (subst (λ n. f n ≡ None) named away)
-which_file asked f (name, inr (inl reached), away) =
-    let is = ok_value (metrics_in (content f asked.metrics)) reached.1 in
-    inr (is.0, is.1, inl (subst (λ n. f n ≡ None) reached.0 away))
-which_file asked f (name, inr (inr reached), away) =
-    let is = started_by (metrics_in (content f asked.metrics)) (tree_in (content f asked.tree)) reached.1 in
-    inr (is.0, is.1, inr (is.2, is.3, script_lacks asked.work name is.0 is.2 f reached.0 away is.4))
+which_file asked f (name, inr reached, away) = inr (which_next asked.job asked.metrics f name reached away)
 
 -- the name of a script that isn't there
 lacked_script : (work : Work) (metrics : MetricsValue) (tree : TreeValue) (f : Files) → LacksScript work metrics tree f
@@ -338,43 +366,43 @@ lacked_script LaysOut metrics tree f lack = absurd lack
 lacked_script (Edits script) metrics tree f lack = (script, refl, lack.1, lack.0)
 lacked_script Checks metrics tree f lack = absurd lack
 
-lacked_file : (asked : Asked) (f : Files) (metrics : MetricsValue) → metrics_in (content f asked.metrics) ≡ Ok metrics
-    → LacksTree asked.work metrics asked.tree f → LacksFile (Some asked) f
-lacked_file asked f metrics is (inl away) = (asked.tree, inr (inl (refl, subst IsOk (sym is) refl)), away)
-lacked_file asked f metrics is (inr (tree, read, lack)) =
-    let script = lacked_script asked.work metrics tree f lack in
-    let start : start_of asked f ≡ started metrics tree =
-    ap (λ x. x >>= λ m. tree_in (content f asked.tree) >>= λ t. started m t) is
+lacked_next : (job : Job) (file : List ℕ) (f : Files) (metrics : MetricsValue) → metrics_in (content f file) ≡ Ok metrics
+    → LacksNext job metrics f → (name : List ℕ) × IsReachedNext job file f name × (f name ≡ None)
+lacked_next (OverTree work tree) file f metrics is (inl away) = (tree, inl (refl, subst IsOk (sym is) refl), away)
+lacked_next (OverTree work tree) file f metrics is (inr (value, read, lack)) =
+    let script = lacked_script work metrics value f lack in
+    let start : start_of file tree f ≡ started metrics value =
+    ap (λ x. x >>= λ m. tree_in (content f tree) >>= λ t. started m t) is
     ∙ ap (λ x. x >>= λ t. started metrics t) read in
-    (script.0, inr (inr (script.1, subst IsOk (sym start) script.3)), script.2)
+    (script.0, inr (script.1, subst IsOk (sym start) script.3), script.2)
+lacked_next (Generates seed count) file f metrics is lack = absurd lack
+
+lacked_file : (asked : Asked) (f : Files) (metrics : MetricsValue) → metrics_in (content f asked.metrics) ≡ Ok metrics
+    → LacksNext asked.job metrics f → LacksFile (Some asked) f
+lacked_file asked f metrics is lack =
+    let next = lacked_next asked.job asked.metrics f metrics is lack in (next.0, inr next.1, next.2)
 
 module _ (asked : Asked) (before mid : InputsTold) where
   pub without_metrics : (r : Refusal) → MetricsAnswer asked before mid (Err r) → WholeAnswer asked before mid (Err r)
   unfolding answer
   without_metrics r a =
-      refused (λ f. metrics_in (content f asked.metrics)) (λ metrics f. answer_over asked.work metrics asked.tree f)
-      (λ f. f asked.metrics ≡ None) (λ metrics. LacksTree asked.work metrics asked.tree) (LacksFile (Some asked)) (which_file asked) before mid r
+      refused (λ f. metrics_in (content f asked.metrics)) (λ metrics f. answer_with asked.job metrics f)
+      (λ f. f asked.metrics ≡ None) (LacksNext asked.job) (LacksFile (Some asked)) (which_file asked) before mid r
       (λ f lack. (asked.metrics, inl refl, lack)) a
 
   pub with_metrics : (after : InputsTold) (metrics : MetricsValue) (result : Result Text Refusal) → MetricsAnswer asked before mid (Ok metrics)
-      → OverAnswer asked.work metrics asked.tree mid after result → WholeAnswer asked before after result
+      → NextAnswer asked.job metrics mid after result → WholeAnswer asked before after result
   unfolding answer
   with_metrics after metrics result a b =
-      continued (λ f. metrics_in (content f asked.metrics)) (λ metrics f. answer_over asked.work metrics asked.tree f)
-      (λ f. f asked.metrics ≡ None) (λ metrics. LacksTree asked.work metrics asked.tree) (LacksFile (Some asked)) (which_file asked) before mid after metrics result
+      continued (λ f. metrics_in (content f asked.metrics)) (λ metrics f. answer_with asked.job metrics f)
+      (λ f. f asked.metrics ≡ None) (LacksNext asked.job) (LacksFile (Some asked)) (which_file asked) before mid after metrics result
       (λ f is lack. lacked_file asked f metrics is lack) a b
 
--- ---- the definition, by what the two files give
+-- ---- the definition, by what the metrics file gives
 
 pub refused_by_metrics : (asked : Asked) (f : Files) (r : Refusal) → metrics_in (content f asked.metrics) ≡ Err r → answer asked f ≡ Err r
 unfolding answer
-refused_by_metrics asked f r h = ap (λ x. x >>= λ metrics. answer_over asked.work metrics asked.tree f) h
-
-pub answered : (asked : Asked) (f : Files) (metrics : MetricsValue) (tree : TreeValue) → metrics_in (content f asked.metrics) ≡ Ok metrics
-    → tree_in (content f asked.tree) ≡ Ok tree → answer asked f ≡ done asked.work metrics tree f
-unfolding answer answer_over
-answered asked f metrics tree h k =
-    ap (λ x. x >>= λ metrics. answer_over asked.work metrics asked.tree f) h ∙ ap (λ x. x >>= λ tree. done asked.work metrics tree f) k
+refused_by_metrics asked f r h = ap (λ x. x >>= λ metrics. answer_with asked.job metrics f) h
 
 -- ---- the session of a tree
 
@@ -407,3 +435,24 @@ laid_out_of metrics tree session result (inr same) (inr is) = inr (is ∙ ap (λ
 pub not_laid_out : (metrics : MetricsValue) (tree : TreeValue) (r : Refusal) → GivesOr (started metrics tree) (Err r) → GivesOr (laid_out metrics tree) (Err r)
 not_laid_out metrics tree r (inl memory) = inl (err_again r Memory memory)
 not_laid_out metrics tree r (inr same) = inr (ap (λ x. x >>= λ s. Ok (whole_text (lines_of_page s))) same)
+
+-- ---- edits that are drawn
+
+-- what is made of what came of them, where the tree that they begin with can be laid out
+pub generates_told : (metrics : MetricsValue) (seed count : ℕ) (told : Summary) (result : Result Text Refusal)
+    → is_tree_in_range metrics start_tree ≡ true → told ≡ generated metrics seed count
+    → GivesOr (Ok (whole_text (lines_of_summary told))) result → GivesOr (generates metrics seed count) result
+unfolding started
+generates_told metrics seed count told result fit is (inl memory) = inl memory
+generates_told metrics seed count told result fit is (inr same) =
+    inr (same
+    ∙ ap (λ (t : Summary). Ok (whole_text (lines_of_summary t))) is
+    ∙ sym (ap (λ (fits : Bool). (if fits then Ok (session_over metrics start_tree) else Err Range) >>= λ session. Ok (whole_text (told_of_edits session.metrics seed count))) fit))
+
+-- none are made, for this
+pub not_generated : (refused : LayRefusal) (metrics : MetricsValue) (seed count : ℕ) → (refused ≡ layout.Range → is_tree_in_range metrics start_tree ≡ false)
+    → GivesOr (generates metrics seed count) (Err (of_layout refused))
+not_generated refused metrics seed count range = elim (refused_start refused metrics start_tree range) [
+  | inl memory ↦ inl (err_again (of_layout refused) Memory memory)
+  | inr same ↦ inr (ap (λ x. x >>= λ session. Ok (whole_text (told_of_edits session.metrics seed count))) same)
+]

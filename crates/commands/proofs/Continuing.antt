@@ -24,7 +24,7 @@ use Rattle.commands.specs.declared.status.Status.TheVariants.{ReadFault, WriteFa
 -- ---- limits
 
 -- a line within its limit is answered before the others
-within_more : (most : ℕ) (line : List ℕ) (lines : List (List ℕ)) → is_short line ≡ true
+pub within_more : (most : ℕ) (line : List ℕ) (lines : List (List ℕ)) → is_short line ≡ true
     → within (suc most) (line ∷ lines) ≡ line ∷ within most lines
 unfolding within
 within_more most line lines short =

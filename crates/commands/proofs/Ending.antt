@@ -5,10 +5,10 @@ use Rattle.std.specs.Option.{option_map}
 use Rattle.std.specs.Io.KnownBytes.{Appends, IsAtEnd, Keeps}
 use Rattle.doc_io.specs.Causes.{Files, InputsTold, Rose, SinkTold}
 use Rattle.doc_io.proofs.Known.{appends_kept, kept_of_nothing}
-use Rattle.commands.specs.Command.{Asked, Work, usage_line}
+use Rattle.commands.specs.Command.{Asked, usage_line}
 use Rattle.commands.specs.Refusals.{status_of}
 use Rattle.commands.specs.Answer.{answer, Output, Text, output_of, output, status_of_end}
-use Rattle.commands.specs.Ends.{LacksFile, HasReadCause, IsCut, IsCutShort, IsDelivered, IsInParts, Answers, Delivers, Breaks, Answered, Ends}
+use Rattle.commands.specs.Ends.{LacksFile, HasReadCause, IsCut, IsCutShort, IsDelivered, IsJobInParts, Answers, Delivers, Breaks, AnsweredJob, Ends}
 use Rattle.commands.specs.declared.status.Status.{Status}
 use Rattle.commands.specs.declared.status.Status.TheVariants as status
 use Rattle.commands.specs.declared.refusal.Refusal.{Refusal}
@@ -154,17 +154,17 @@ IsOutput o old new s = IsCutShort s ⊎ ((s ≡ o.status) × Appends old.written
 abbrev HasFront : Output → SinkTold → SinkTold → Type 0
 HasFront o old new = (n : ℕ) × Appends old.written new.written (take n o.bytes)
 
-told_output : (work : Work) (result wanted : Result Text Refusal) (before after : InputsTold) (old new : SinkTold) (s : Status)
-    → IsDelivered work (output_of result) before after old new s → IsCut result ⊎ (result ≡ wanted) → IsOutput (output_of wanted) old new s × HasFront (output_of wanted) old new
-told_output work result wanted before after old new s (inl d) (inl cut) =
+told_output : (parts : Type 0) (result wanted : Result Text Refusal) (before after : InputsTold) (old new : SinkTold) (s : Status)
+    → IsDelivered parts (output_of result) before after old new s → IsCut result ⊎ (result ≡ wanted) → IsOutput (output_of wanted) old new s × HasFront (output_of wanted) old new
+told_output parts result wanted before after old new s (inl d) (inl cut) =
     let end = cut_ends result old new s cut d in
     (inl (elim end.0 [ inl r ↦ inl r | inr m ↦ inr (inr m) ]), (0, appends_kept old.written new.written end.1))
-told_output work result wanted before after old new s (inl d) (inr same) =
+told_output parts result wanted before after old new s (inl d) (inr same) =
     let whole = subst (λ r. DeliversAnswer r old new s) same d in
     (elim whole.whole [ inl w ↦ inl (inr (inl w)) | inr e ↦ inr e ], whole.front)
-told_output work result wanted before after old new s (inr p) (inl cut) =
+told_output parts result wanted before after old new s (inr p) (inl cut) =
     (inl (cut_short s (cut_status _ before after old new s p.1)), (0, appends_kept old.written new.written (cut_breaks result before after old new s cut p.1)))
-told_output work result wanted before after old new s (inr p) (inr same) =
+told_output parts result wanted before after old new s (inr p) (inr same) =
     let out = subst (λ r. BreaksOff r before after old new s) same p.1 in
     (inl (cut_short s (cut_status _ before after old new s out)), out.front)
 
@@ -186,13 +186,13 @@ no_cause lacks before after files is none still (inr (inr untold)) = let e = sub
 -- the whole ending of a command
 module _ (asked : Asked) (before after : InputsTold) (old new : SinkTold) (s : Status) (result : Result Text Refusal)
     (a : Answers (option_map (answer asked) before.files) (LacksFile (Some asked)) before after result) where
-  whole : IsDelivered asked.work (output_of result) before after old new s
+  whole : IsDelivered (IsJobInParts asked.job) (output_of result) before after old new s
       → (files : Option Files) → IfSome (option_map (answer asked) files) (λ wanted. IsCut result ⊎ (result ≡ wanted))
       → IfSome files (λ f. IsOutput (output (Some asked) f) old new s × HasFront (output (Some asked) f) old new)
   whole d None h = tt
-  whole d (Some f) h = told_output asked.work result (answer asked f) before after old new s d h
+  whole d (Some f) h = told_output (IsJobInParts asked.job) result (answer asked f) before after old new s d h
 
-  complete : IsDelivered asked.work (output_of result) before after old new s → (files : Option Files) → before.files ≡ files
+  complete : IsDelivered (IsJobInParts asked.job) (output_of result) before after old new s → (files : Option Files) → before.files ≡ files
       → IfSome (option_map (answer asked) files) (λ wanted. IsCut result ⊎ (result ≡ wanted))
       → IfSome files (λ f. ¬ LacksFile (Some asked) f → ¬ Rose before.faults after.faults → ¬ Rose old.faults new.faults
       → (s ≡ (output (Some asked) f).status) ⊎ (s ≡ status.Memory))
@@ -209,39 +209,39 @@ module _ (asked : Asked) (before after : InputsTold) (old new : SinkTold) (s : S
     ]
   ]
 
-  read_fault : IsDelivered asked.work (output_of result) before after old new s → s ≡ status.ReadFault
+  read_fault : IsDelivered (IsJobInParts asked.job) (output_of result) before after old new s → s ≡ status.ReadFault
       → HasReadCause (LacksFile (Some asked)) before after
   read_fault (inl d) is = a.fault (told_fault result old new s d is)
   read_fault (inr p) is = elim p.1.cause [ inl memory ↦ absurd cc | inr read ↦ inl read.1 ]
 
-  unread_cut : IsDelivered asked.work (output_of result) before after old new s → s ≡ status.ReadFault → ¬ IsInParts asked.work
+  unread_cut : IsDelivered (IsJobInParts asked.job) (output_of result) before after old new s → s ≡ status.ReadFault → ¬ IsJobInParts asked.job
       → Keeps old.written new.written
   unread_cut (inl d) is not = (cut_ends result old new s (inl (told_fault result old new s d is)) d).1
   unread_cut (inr p) is not = absurd (not p.0)
 
-  memory_cut : IsDelivered asked.work (output_of result) before after old new s → s ≡ status.Memory → ¬ IsInParts asked.work → Keeps old.written new.written
+  memory_cut : IsDelivered (IsJobInParts asked.job) (output_of result) before after old new s → s ≡ status.Memory → ¬ IsJobInParts asked.job → Keeps old.written new.written
   memory_cut (inl d) is not = (cut_ends result old new s (inr (told_memory result old new s d is)) d).1
   memory_cut (inr p) is not = absurd (not p.0)
 
-  lacking : IsDelivered asked.work (output_of result) before after old new s → IsSomeAnd before.files (LacksFile (Some asked))
+  lacking : IsDelivered (IsJobInParts asked.job) (output_of result) before after old new s → IsSomeAnd before.files (LacksFile (Some asked))
       → ((s ≡ status.ReadFault) ⊎ (s ≡ status.Memory)) × Keeps old.written new.written
   lacking (inl d) lack = cut_ends result old new s (a.lacking lack) d
   lacking (inr p) lack = (cut_status _ before after old new s p.1, cut_breaks result before after old new s (a.lacking lack) p.1)
 
-  write_fault : IsDelivered asked.work (output_of result) before after old new s → s ≡ status.WriteFault → Rose old.faults new.faults
+  write_fault : IsDelivered (IsJobInParts asked.job) (output_of result) before after old new s → s ≡ status.WriteFault → Rose old.faults new.faults
   write_fault (inl d) is = d.fault is
   write_fault (inr p) is = absurd (cut_not status.WriteFault s (λ e. cc) (λ e. cc) (cut_status _ before after old new s p.1) is)
 
-  usage : IsDelivered asked.work (output_of result) before after old new s → s ≡ status.Usage → ⊥
+  usage : IsDelivered (IsJobInParts asked.job) (output_of result) before after old new s → s ≡ status.Usage → ⊥
   usage (inl d) is = never_usage result old new s d is
   usage (inr p) is = cut_not status.Usage s (λ e. cc) (λ e. cc) (cut_status _ before after old new s p.1) is
 
-  later : IsDelivered asked.work (output_of result) before after old new s → old.faults ≤ new.faults
+  later : IsDelivered (IsJobInParts asked.job) (output_of result) before after old new s → old.faults ≤ new.faults
   later (inl d) = d.later
   later (inr p) = p.1.later
 
-  pub ends : IsDelivered asked.work (output_of result) before after old new s
-      → (s ≡ status.Done → IsInParts asked.work → IsAtEnd after.rest) → Ends (Some asked) before after old new s
+  pub ends : IsDelivered (IsJobInParts asked.job) (output_of result) before after old new s
+      → (s ≡ status.Done → IsJobInParts asked.job → IsAtEnd after.rest) → Ends (Some asked) before after old new s
   ends d at_end = record {
     outcome = IfSome-first _ _ _ (whole d before.files a.answer);
     front = IfSome-second _ _ _ (whole d before.files a.answer);
@@ -263,7 +263,7 @@ module _ (asked : Asked) (before after : InputsTold) (old new : SinkTold) (s : S
 
 -- the same, where the request was handed on
 pub answered_ends : (asked : Option Asked) (shown : Asked) (before after : InputsTold) (old new : SinkTold) (s : Status) → asked ≡ Some shown
-    → Answered shown.work (option_map (answer shown) before.files) (LacksFile (Some shown)) before after old new s → Ends asked before after old new s
+    → AnsweredJob (IsJobInParts shown.job) (option_map (answer shown) before.files) (LacksFile (Some shown)) before after old new s → Ends asked before after old new s
 answered_ends asked shown before after old new s is a =
     subst (λ o. Ends o before after old new s) (sym is) (ends shown before after old new s a.result a.answers a.delivers a.read_to_end)
 

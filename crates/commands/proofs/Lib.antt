@@ -4,7 +4,9 @@ pub mod Answering
 pub mod Steps
 mod Continuing
 mod Reading
+mod StepsTaken
 mod Parts
 mod Replying
 mod RepliesLaws
+mod DigitWords
 mod Worked

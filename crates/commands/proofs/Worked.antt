@@ -1,5 +1,5 @@
 -- Worked runs: the definitions of the program, computed from the bytes of the files and the words.
-use Rattle.std.proofs.Common.{◌≡◌, ◌∙◌, ap, ℕ, pos, List, [], ◌∷◌, ◌++◌, codes, Some, None, refl, lit≤, Bool, true, false}
+use Rattle.std.proofs.Common.{◌≡◌, ◌∙◌, ap, ℕ, pos, List, [], ◌∷◌, ◌++◌, codes, Option, Some, None, refl, subst, lit≤, Bool, true, false}
 use Rattle.std.specs.Prelude.{⊤, Ok, Err, if◌then◌else◌}
 use Rattle.std.specs.Fmt.{digits}
 use Rattle.std.specs.Str.{bytes_eq}
@@ -35,7 +35,9 @@ use Rattle.commands.specs.Script.{within, is_within}
 use Rattle.commands.specs.Replies.{after_line, is_edited_in_range, replies, reply_by, reply_to, reply_to_command, reply_to_edit, text_of_reply, told_of}
 use Rattle.commands.specs.declared.reply.Cause.TheVariants.{NoCommand, Unmade}
 use Rattle.commands.specs.declared.reply.Reply.TheVariants.{Nothing, Refused}
-use Rattle.commands.specs.Command.{asked_by, Edits, Checks}
+use Rattle.commands.specs.Steps.{TakesForEdit, TakesForLine, TakesForLines, accepted_by, accepted_in, unless_refused}
+use Rattle.commands.specs.Numerals.{number_in as numeral_in}
+use Rattle.commands.specs.Command.{asked_by, Asked, OverTree, Generates, Edits, Checks}
 use Rattle.commands.specs.Answer.{metrics_in, tree_of_json, tree_in, output_of, output}
 use Rattle.commands.proofs.Loading.{tree_short}
 use Rattle.commands.proofs.Answering.{refused_by_metrics}
@@ -144,7 +146,7 @@ output_of_no_metrics = ap output_of (refused_by_metrics _ (files one) _ tree_is_
 
 output_of_two_words : output (asked_by (codes "layout" ∷ codes "m" ∷ [])) (files one)
     ≡ record {
-      bytes = codes "usage: mathlay layout METRICS TREE | edit METRICS TREE SCRIPT | check METRICS TREE\n";
+      bytes = codes "usage: mathlay layout METRICS TREE | edit METRICS TREE SCRIPT | check METRICS TREE | gen METRICS SEED COUNT\n";
       status = Usage;
     }
 output_of_two_words = refl
@@ -158,11 +160,54 @@ edit_without_script : asked_by (codes "edit" ∷ codes "m" ∷ codes "t" ∷ [])
 edit_without_script = refl
 
 four_words : asked_by (codes "edit" ∷ codes "m" ∷ codes "t" ∷ codes "s" ∷ [])
-    ≡ Some record { work = Edits (codes "s"); metrics = codes "m"; tree = codes "t" }
+    ≡ Some record { job = OverTree (Edits (codes "s")) (codes "t"); metrics = codes "m" }
 four_words = refl
 
-three_words : asked_by (codes "check" ∷ codes "m" ∷ codes "t" ∷ []) ≡ Some record { work = Checks; metrics = codes "m"; tree = codes "t" }
+three_words : asked_by (codes "check" ∷ codes "m" ∷ codes "t" ∷ []) ≡ Some record { job = OverTree Checks (codes "t"); metrics = codes "m" }
 three_words = refl
+
+abbrev generating : List ℕ → List ℕ → Option Asked
+generating seed count = asked_by (codes "gen" ∷ codes "m" ∷ seed ∷ count ∷ [])
+
+abbrev generation : ℕ → ℕ → Option Asked
+generation seed count = Some record { job = Generates seed count; metrics = codes "m" }
+
+seed_and_count : generating (codes "1") (codes "20000") ≡ generation 1 20000
+unfolding numeral_in
+seed_and_count = refl
+
+-- zeros may stand in front
+zeros_in_front : generating (codes "00000000000000000000") (codes "00001") ≡ generation 0 1
+unfolding numeral_in
+zeros_in_front = refl
+
+-- the greatest seed, and what is greater
+greatest_seed : generating (codes "18446744073709551615") (codes "1") ≡ generation 18446744073709551615 1
+unfolding numeral_in
+greatest_seed = refl
+
+past_seed : generating (codes "18446744073709551616") (codes "1") ≡ None
+unfolding numeral_in
+past_seed = refl
+
+no_edit : generating (codes "1") (codes "0") ≡ None
+unfolding numeral_in
+no_edit = refl
+
+past_count : generating (codes "1") (codes "20001") ≡ None
+unfolding numeral_in
+past_count = refl
+
+six_digits : generating (codes "1") (codes "000001") ≡ None
+unfolding numeral_in
+six_digits = refl
+
+signed_seed : generating (codes "+1") (codes "1") ≡ None
+unfolding numeral_in
+signed_seed = refl
+
+gen_without_count : asked_by (codes "gen" ∷ codes "m" ∷ codes "1" ∷ []) ≡ None
+gen_without_count = refl
 
 -- ---- the lines of a script that are answered
 
@@ -254,3 +299,43 @@ three_replies =
     ap (λ s. told_of s move ++ (told_of (after_line s move) remove ++ [])) white_stays
     ∙ ap (λ s. told_of session move ++ (told_of s remove ++ [])) move_stays
     ∙ (λ i. move_told i ++ (remove_told i ++ []))
+
+-- ---- steps
+
+-- an edit that is accepted is the one whose steps are counted
+accepted_edit : (edit : EditOfTree) (line : List ℕ) → is_white_space line ≡ false → command_in line ≡ Some (Change edit)
+    → refusal_of tree_value edit ≡ None → accepted_in session line ≡ Some edit
+unfolding accepted_in
+accepted_edit edit line black is free =
+    ap (λ (white : Bool). if white then None else accepted_by session (command_in line)) black
+    ∙ ap (accepted_by session) is
+    ∙ ap (λ reason. unless_refused reason edit) free
+
+white_accepts_none : accepted_in session (9 ∷ []) ≡ None
+unfolding accepted_in math_tree_on_literals
+white_accepts_none = refl
+
+move_accepts_none : accepted_in session move ≡ None
+unfolding accepted_in lines_on_literals lib.Utf8.encode
+move_accepts_none = ap (accepted_by session) (read_line move (move, (refl, refl)))
+
+remove_accepts_none : accepted_in session remove ≡ None
+unfolding accepted_in refusal_of lines_on_literals lib.Utf8.encode
+remove_accepts_none =
+    ap (accepted_by session) (read_line remove (remove, (refl, refl)))
+    ∙ ap (λ reason. unless_refused reason (Remove (record { 0 = 1 })))
+    (root_stays (listed 1 (edited tree_value (Remove (record { 0 = 1 }))).root) (edited tree_value (Remove (record { 0 = 1 }))).next_id)
+
+-- a line that asks for no edit that is accepted takes no step
+takes_none : (line : List ℕ) → accepted_in session line ≡ None → (from to : ℕ) → TakesForLine session line from to → to ≡ from
+takes_none line none from to steps = subst (λ edit. TakesForEdit session edit from to) none steps
+
+-- nor do the three lines above
+three_take_none : (from to : ℕ) → TakesForLines session ((9 ∷ []) ∷ move ∷ remove ∷ []) from to → to ≡ from
+three_take_none from to (white, first, (moved, second, (removed, third, same))) =
+    let at_move : TakesForLine session move white moved = subst (λ s. TakesForLine s move white moved) white_stays second in
+    let after_move : after_line (after_line session (9 ∷ [])) move ≡ session = ap (λ s. after_line s move) white_stays ∙ move_stays in
+    let at_remove : TakesForLine session remove moved removed = subst (λ s. TakesForLine s remove moved removed) after_move third in
+    same ∙ takes_none remove remove_accepts_none moved removed at_remove
+    ∙ takes_none move move_accepts_none white moved at_move
+    ∙ takes_none (9 ∷ []) white_accepts_none from white first

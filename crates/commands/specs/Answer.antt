@@ -15,7 +15,10 @@ use Rattle.tree_edits.specs.Commands.{json_in}
 use Rattle.layout_model.specs.Layout.{is_tree_in_range}
 use Rattle.box_writer.specs.Lines.{text_of}
 use Rattle.edit_session.specs.Session.{SessionValue, page}
-use Rattle.commands.specs.Command.{Asked, Work, LaysOut, Edits, Checks, usage_line}
+use Rattle.generator.specs.Generated.{generated}
+use Rattle.generator.specs.Start.{start_tree}
+use Rattle.generator.specs.Summary.{lines_of as lines_of_summary}
+use Rattle.commands.specs.Command.{Asked, Job, OverTree, Generates, Work, LaysOut, Edits, Checks, usage_line}
 use Rattle.commands.specs.Script.{within, is_within}
 use Rattle.commands.specs.Replies.{replies}
 use Rattle.commands.specs.Refusals.{line_of, status_of}
@@ -125,11 +128,26 @@ answer_over work metrics name files = do
   tree ← tree_in (content files name)
   done work metrics tree files
 
+-- what is told of so many edits from a seed, in six lines
+abbrev pub told_of_edits : MetricsValue → ℕ → ℕ → List ℕ
+told_of_edits metrics seed count = lines_of_summary (generated metrics seed count)
+
+-- the same, unless a number of the layout of the tree that they begin with can't be stored
+abbrev pub generates : MetricsValue → ℕ → ℕ → Result Text Refusal
+generates metrics seed count = do
+  session ← started metrics start_tree
+  Ok (whole_text (told_of_edits session.metrics seed count))
+
+-- what is made of these metrics, or the first refusal
+unfoldable pub answer_with : Job → MetricsValue → Files → Result Text Refusal
+answer_with (OverTree work tree) metrics files = answer_over work metrics tree files
+answer_with (Generates seed count) metrics files = generates metrics seed count
+
 -- the text that is asked for, or the first refusal
 unfoldable pub answer : Asked → Files → Result Text Refusal
 answer asked files = do
   metrics ← metrics_in (content files asked.metrics)
-  answer_over asked.work metrics asked.tree files
+  answer_with asked.job metrics files
 
 -- ---- what is written, and the status
 

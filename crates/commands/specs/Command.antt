@@ -1,7 +1,10 @@
 -- The words after the program's name.
-use Rattle.std.specs.Prelude.{ℕ, List, [], ◌∷◌, codes, if◌then◌else◌, Option, Some, None}
-use Rattle.std.specs.Option.{option_map}
+use Rattle.std.specs.Prelude.{ℕ, List, [], ◌∷◌, ◌++◌, codes, if◌then◌else◌, Option, Some, None}
+use Rattle.std.specs.Option.{option_and_then, option_map}
 use Rattle.std.specs.Str.{bytes_eq}
+use Rattle.commands.specs.Numerals.{count_in, seed_in}
+use Rattle.commands.specs.declared.command.Job.{Job as JobOfWords}
+use Rattle.commands.specs.declared.command.Job.TheVariants.{OverTree as WithTree, Generate}
 use Rattle.commands.specs.declared.command.Request.{Request}
 use Rattle.commands.specs.declared.command.Task.{Task}
 use Rattle.commands.specs.declared.command.Task.TheVariants.{Layout, Edit, Check}
@@ -13,11 +16,17 @@ pub data Work : Type 0 where
   Edits : List ℕ → Work
   Checks : Work
 
--- a piece of work, and the files that it is done with
+-- what is done with a metrics file
+pub data Job : Type 0 where
+  -- this, with the tree file of that name
+  OverTree : Work → List ℕ → Job
+  -- so many edits that are drawn from a seed are made of a tree of its own: seed, count
+  Generates : ℕ → ℕ → Job
+
+-- a job, and the metrics file that it is done with
 pub record Asked : Type 0 where
-  pub work : Work
+  pub job : Job
   pub metrics : List ℕ
-  pub tree : List ℕ
 
 -- the work that a word names, by the words behind the two files; words are compared exactly
 abbrev pub work_named : List ℕ → List (List ℕ) → Option Work
@@ -29,11 +38,23 @@ work_named word (script ∷ []) =
     if bytes_eq word (codes "edit") then Some (Edits script) else None
 work_named word (script ∷ more ∷ others) = None
 
--- the words are `layout METRICS TREE`, `edit METRICS TREE SCRIPT` or `check METRICS TREE`, and
--- nothing else
+-- the edits of two words, a seed and a count
+abbrev pub generation_of : List ℕ → List (List ℕ) → Option Job
+generation_of seed (count ∷ []) =
+    option_and_then (λ s. option_map (λ n. Generates s n) (count_in count)) (seed_in seed)
+generation_of seed others = None
+
+-- the job that a word names, by the words behind the metrics file
+abbrev pub job_named : List ℕ → List ℕ → List (List ℕ) → Option Job
+job_named word next others =
+    if bytes_eq word (codes "gen") then generation_of next others
+    else option_map (λ work. OverTree work next) (work_named word others)
+
+-- the words are `layout METRICS TREE`, `edit METRICS TREE SCRIPT`, `check METRICS TREE` or
+-- `gen METRICS SEED COUNT`, and nothing else
 abbrev pub asked_by : List (List ℕ) → Option Asked
-asked_by (command ∷ metrics ∷ tree ∷ others) =
-    option_map (λ work. record { work = work; metrics = metrics; tree = tree }) (work_named command others)
+asked_by (command ∷ metrics ∷ next ∷ others) =
+    option_map (λ job. record { job = job; metrics = metrics }) (job_named command next others)
 asked_by words = None
 
 abbrev pub work_of : Task → Work
@@ -41,11 +62,15 @@ work_of Layout = LaysOut
 work_of (Edit script) = Edits script.now
 work_of Check = Checks
 
+abbrev pub job_of : JobOfWords → Job
+job_of (WithTree task tree) = OverTree (work_of task) tree.now
+job_of (Generate seed count) = Generates seed count
+
 abbrev pub asked_of : Request → Asked
-asked_of request =
-    record { work = work_of request.task; metrics = request.metrics.now; tree = request.tree.now }
+asked_of request = record { job = job_of request.job; metrics = request.metrics.now }
 
 -- the line that words get which are no command
 abbrev pub usage_line : List ℕ
 usage_line =
-    codes "usage: mathlay layout METRICS TREE | edit METRICS TREE SCRIPT | check METRICS TREE\n"
+    codes "usage: mathlay layout METRICS TREE | edit METRICS TREE SCRIPT | check METRICS TREE"
+    ++ codes " | gen METRICS SEED COUNT\n"

@@ -3,7 +3,7 @@ use Rattle.std.specs.Prelude.{◌≡◌, ◌⊎◌, ℕ, ◌≤◌, List, [], ta
 use Rattle.std.specs.Io.KnownBytes.{Appends, IsAtEnd, Keeps}
 use Rattle.doc_io.specs.Causes.{Files, InputsTold, Rose, SinkTold}
 use Rattle.edit_session.specs.Session.{SessionValue}
-use Rattle.commands.specs.Command.{Asked, Work, LaysOut, Edits, Checks, usage_line}
+use Rattle.commands.specs.Command.{Asked, Job, OverTree, Generates, Work, LaysOut, Edits, Checks, usage_line}
 use Rattle.commands.specs.Answer.{Output, Text, ◌>>=◌, content, metrics_in, tree_in, started, output, output_of}
 use Rattle.commands.specs.declared.status.Status.{Status}
 use Rattle.commands.specs.declared.status.Status.TheVariants.{Done, Usage, Metrics, Tree, ReadFault, WriteFault, Memory}
@@ -12,11 +12,11 @@ use Rattle.commands.specs.declared.refusal.Refusal.TheVariants as refusal
 
 -- ---- which files are reached
 
--- the session with which the work begins, by the first two files
-abbrev pub start_of : Asked → Files → Result SessionValue Refusal
-start_of asked files = do
-  metrics ← metrics_in (content files asked.metrics)
-  tree ← tree_in (content files asked.tree)
+-- the session with which work on a tree file begins, by the names of the first two files
+abbrev pub start_of : List ℕ → List ℕ → Files → Result SessionValue Refusal
+start_of metrics_file tree_file files = do
+  metrics ← metrics_in (content files metrics_file)
+  tree ← tree_in (content files tree_file)
   started metrics tree
 
 -- the work is done with a script of this name
@@ -25,14 +25,19 @@ IsScript LaysOut name = ⊥
 IsScript (Edits script) name = name ≡ script
 IsScript Checks name = ⊥
 
--- the metrics file always, the tree file where the metrics file gives metrics, and the script where
--- both give a session
+-- behind a metrics file of that name: the tree file where that one gives metrics, and the script
+-- where both give a session; edits from a seed need no file more
+abbrev pub IsReachedNext : Job → List ℕ → Files → List ℕ → Type 0
+IsReachedNext (OverTree work tree) metrics files name =
+    ((name ≡ tree) × IsOk (metrics_in (content files metrics)))
+    ⊎ (IsScript work name × IsOk (start_of metrics tree files))
+IsReachedNext (Generates seed count) metrics files name = ⊥
+
+-- the metrics file always, and what comes behind it
 abbrev pub IsReached : Option Asked → Files → List ℕ → Type 0
 IsReached None files name = ⊥
 IsReached (Some asked) files name =
-    (name ≡ asked.metrics)
-    ⊎ (((name ≡ asked.tree) × IsOk (metrics_in (content files asked.metrics)))
-    ⊎ (IsScript asked.work name × IsOk (start_of asked files)))
+    (name ≡ asked.metrics) ⊎ IsReachedNext asked.job asked.metrics files name
 
 -- a reached file isn't there
 abbrev pub LacksFile : Option Asked → Files → Type 0
@@ -89,12 +94,16 @@ IsInParts LaysOut = ⊥
 IsInParts (Edits script) = Unit {0}
 IsInParts Checks = ⊥
 
+abbrev pub IsJobInParts : Job → Type 0
+IsJobInParts (OverTree work tree) = IsInParts work
+IsJobInParts (Generates seed count) = ⊥
+
 -- the output was delivered, or what is written in parts was cut short on the way
-abbrev pub IsDelivered : Work → Output → InputsTold → InputsTold → SinkTold → SinkTold →
+abbrev pub IsDelivered : Type 0 → Output → InputsTold → InputsTold → SinkTold → SinkTold →
     Status → Type 0
-IsDelivered work output before after old new status =
+IsDelivered parts output before after old new status =
     Delivers output.bytes output.status old new status
-    ⊎ (IsInParts work × Breaks output.bytes before after old new status)
+    ⊎ (parts × Breaks output.bytes before after old new status)
 
 -- the wanted answer, or want of memory, was delivered
 pub record Written (wanted : Result Text Refusal) (old new : SinkTold)
@@ -103,22 +112,28 @@ pub record Written (wanted : Result Text Refusal) (old new : SinkTold)
   pub gives : GivesOr wanted result
   pub delivers : Delivers (output_of result).bytes (output_of result).status old new status
 
--- the wanted answer, or the reason why it was cut short, was delivered
-pub record Answered (work : Work) (wanted : Option (Result Text Refusal))
+-- the wanted answer, or the reason why it was cut short, was delivered, in parts where it may be
+pub record AnsweredJob (parts : Type 0) (wanted : Option (Result Text Refusal))
     (lacks : Files → Type 0) (before after : InputsTold) (old new : SinkTold)
     (status : Status) : Type 0 where
   pub result : Result Text Refusal
   pub answers : Answers wanted lacks before after result
-  pub delivers : IsDelivered work (output_of result) before after old new status
+  pub delivers : IsDelivered parts (output_of result) before after old new status
   -- what was answered line by line was read to its end
-  pub read_to_end : status ≡ Done → IsInParts work → IsAtEnd after.rest
+  pub read_to_end : status ≡ Done → parts → IsAtEnd after.rest
+
+-- the same of work on a tree
+abbrev pub Answered : Work → Option (Result Text Refusal) → (Files → Type 0)
+    → InputsTold → InputsTold → SinkTold → SinkTold → Status → Type 0
+Answered work wanted lacks before after old new status =
+    AnsweredJob (IsInParts work) wanted lacks before after old new status
 
 -- ---- the ending of a run
 
 -- the words ask for what is written in parts
 abbrev pub AsksParts : Option Asked → Type 0
 AsksParts None = ⊥
-AsksParts (Some asked) = IsInParts asked.work
+AsksParts (Some asked) = IsJobInParts asked.job
 
 abbrev pub IsCutShort : Status → Type 0
 IsCutShort status = (status ≡ ReadFault) ⊎ ((status ≡ WriteFault) ⊎ (status ≡ Memory))
@@ -182,7 +197,11 @@ StepsStand LaysOut status = EndsUnlaid status
 StepsStand (Edits script) status = EndsBeforeTree status
 StepsStand Checks status = Unit {0}
 
+abbrev pub JobStepsStand : Job → Status → Type 0
+JobStepsStand (OverTree work tree) status = StepsStand work status
+JobStepsStand (Generates seed count) status = EndsUnlaid status
+
 -- a run that lays out no tree takes no steps
 abbrev pub TakesNoSteps : Option Asked → Status → Type 0
 TakesNoSteps None status = Unit {0}
-TakesNoSteps (Some asked) status = StepsStand asked.work status
+TakesNoSteps (Some asked) status = JobStepsStand asked.job status

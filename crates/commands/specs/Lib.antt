@@ -1,9 +1,11 @@
 pub mod Status
 pub mod Refusals
+pub mod Numerals
 pub mod Command
 pub mod Script
 pub mod Replies
 pub mod Answer
 pub mod Ends
 pub mod Parts
+pub mod Steps
 pub mod Laws

@@ -13,7 +13,7 @@ use Rattle.math_tree.specs.Trees.{TreeValue}
 use Rattle.edit_session.specs.Session.{SessionValue}
 use Rattle.commands.specs.Replies.{after_line, told_of}
 use Rattle.commands.specs.Answer.{Text, content, replies_within, started, status_of_end, tree_in}
-use Rattle.commands.specs.Command.{Work, LaysOut, Edits, Checks}
+use Rattle.commands.specs.Command.{Job, OverTree, Generates, Work, LaysOut, Edits, Checks}
 use Rattle.commands.specs.Ends.{Breaks, Delivers, HasReadCause, IsCut}
 use Rattle.commands.specs.declared.refusal.Refusal.{Refusal}
 use Rattle.commands.specs.declared.refusal.Refusal.TheVariants.{ReadFault}
@@ -37,6 +37,11 @@ LacksTree work metrics name files =
     (files name ≡ None)
     ⊎ ((tree : TreeValue) × (tree_in (content files name) ≡ Ok tree)
     × LacksScript work metrics tree files)
+
+-- a file that is needed behind the metrics isn't there
+abbrev pub LacksNext : Job → MetricsValue → Files → Type 0
+LacksNext (OverTree work tree) metrics files = LacksTree work metrics tree files
+LacksNext (Generates seed count) metrics files = ⊥
 
 -- ---- a script that is opened
 

@@ -1,12 +1,13 @@
 ghost use Rattle.std.specs.Prelude.{◌≡◌, [], ◌∷◌, Some, None, IfOk, OnErr, map, string_bytes};
 ghost use Rattle.std.specs.Option.{option_map};
-ghost use Rattle.commands.specs.Command.{asked_by, asked_of, work_named, work_of};
+ghost use Rattle.commands.specs.Command.{asked_by, asked_of, generation_of, job_named, job_of, work_named, work_of};
 
+use crate::numerals::{count_of, seed_of};
 use thiserror::Error;
 
 /// What the user is told whose words are no command.
-pub const USAGE: &str =
-    "usage: mathlay layout METRICS TREE | edit METRICS TREE SCRIPT | check METRICS TREE\n";
+pub const USAGE: &str = "usage: mathlay layout METRICS TREE | edit METRICS TREE SCRIPT \
+    | check METRICS TREE | gen METRICS SEED COUNT\n";
 
 /// The words are no command.
 #[derive(Clone, Copy, Debug, PartialEq, Eq, Error)]
@@ -24,17 +25,25 @@ pub enum Task<'a> {
     Check,
 }
 
-/// A task, and the files that it is done with.
+/// What is done with a metrics file.
+#[derive(Clone, Copy, Debug)]
+pub enum Job<'a> {
+    /// A task is done with the tree file of that name.
+    OverTree(Task<'a>, &'a str),
+    /// So many edits that are drawn from a seed are made of a tree of its own: seed, count.
+    Generate(u64, u32),
+}
+
+/// A job, and the metrics file that it is done with.
 #[derive(Clone, Copy, Debug)]
 pub struct Request<'a> {
-    pub task: Task<'a>,
+    pub job: Job<'a>,
     pub metrics: &'a str,
-    pub tree: &'a str,
 }
 
 impl<'a> Request<'a> {
-    /// Reads the words after the program's name: `layout METRICS TREE`, `edit METRICS TREE SCRIPT`
-    /// or `check METRICS TREE`, and nothing else.
+    /// Reads the words after the program's name: `layout METRICS TREE`, `edit METRICS TREE SCRIPT`,
+    /// `check METRICS TREE` or `gen METRICS SEED COUNT`, and nothing else.
     pub fn from_words(words: &'a [String]) -> Result<Request<'a>, NoCommand>
         ensures ok { IfOk result (λ request.
             asked_by (map string_bytes words.now) ≡ Some (asked_of request)) }
@@ -43,13 +52,41 @@ impl<'a> Request<'a> {
         if words.len() < 3 {
             return Err(NoCommand);
         }
-        match Task::of_words(words[0].as_str(), &words[3..]) {
-            Some(task) => Ok(Request {
-                task,
+        match Job::of_words(words[0].as_str(), words[2].as_str(), &words[3..]) {
+            Some(job) => Ok(Request {
+                job,
                 metrics: words[1].as_str(),
-                tree: words[2].as_str(),
             }),
             None => Err(NoCommand),
+        }
+    }
+}
+
+impl<'a> Job<'a> {
+    /// The job that a word names, by the words behind the metrics file.
+    fn of_words(word: &str, next: &'a str, others: &'a [String]) -> Option<Job<'a>>
+        ensures { option_map job_of result
+            ≡ job_named word.now next.now (map string_bytes others.now) }
+    {
+        if word == "gen" {
+            Job::of_numbers(next, others)
+        } else {
+            let task = Task::of_words(word, others)?;
+            Some(Job::OverTree(task, next))
+        }
+    }
+
+    /// The edits of a seed and a count.
+    fn of_numbers(seed: &str, others: &'a [String]) -> Option<Job<'a>>
+        ensures { option_map job_of result ≡ generation_of seed.now (map string_bytes others.now) }
+    {
+        match others {
+            [count] => {
+                let seed = seed_of(seed)?;
+                let count = count_of(count.as_str())?;
+                Some(Job::Generate(seed, count))
+            }
+            _ => None,
         }
     }
 }

@@ -18,6 +18,7 @@
 mod command; // the words of the command line
 pub mod laws; // of all scripts
 mod load; // the files
+mod numerals; // numbers among the words
 mod program; // the top call
 mod refusal; // why the answer is another
 mod replies; // the lines of a script, one after another

@@ -1,14 +1,18 @@
 ghost use Rattle.std.specs.Prelude.{◌≡◌, ◌≢◌, Some, None, All, IfOk, IfErr, Ok, Err, map, string_bytes};
 ghost use Rattle.std.specs.Option.{option_map};
+ghost use Rattle.memo_tree.specs.Counted.{TakesVisits};
 ghost use Rattle.box_writer.specs.Items.{IsOfFont};
 ghost use Rattle.box_writer.specs.Lines.{text_of};
-ghost use Rattle.commands.specs.Command.{asked_by, asked_of, work_of, LaysOut, Edits};
-ghost use Rattle.commands.specs.Answer.{answer, answer_over, checked, done, laid_out, lines_of_page, scripted, started, whole_text};
-ghost use Rattle.commands.specs.Ends.{Answered, Delivers, Ends, EndsBeforeTree, EndsUnlaid, GivesOr, LacksFile, StepsStand, TakesNoSteps, Written};
-ghost use Rattle.commands.specs.Parts.{LacksScript, LacksTree};
+ghost use Rattle.generator.specs.Steps.{TakesForRun as TakesForGenerated};
+ghost use Rattle.generator.specs.Summary.{lines_of};
+ghost use Rattle.commands.specs.Command.{asked_by, asked_of, job_of, work_of, LaysOut, Edits};
+ghost use Rattle.commands.specs.Answer.{answer, answer_over, answer_with, checked, done, generates, laid_out, lines_of_page, scripted, started, whole_text};
+ghost use Rattle.commands.specs.Ends.{Answered, AnsweredJob, Delivers, Ends, EndsBeforeTree, EndsUnlaid, GivesOr, IsJobInParts, JobStepsStand, LacksFile, StepsStand, TakesNoSteps, Written};
+ghost use Rattle.commands.specs.Parts.{LacksNext, LacksScript, LacksTree};
+ghost use Rattle.commands.specs.Steps.{TakesForEdits, TakesForJob, TakesForRun, TakesForScript, TakesForWork, TakesOverMetrics, script_lines};
 ghost use Rattle.commands.specs.Refusals.{line_of, status_of};
 
-use crate::command::{NoCommand, Request, Task, USAGE};
+use crate::command::{Job, NoCommand, Request, Task, USAGE};
 use crate::load::{load_metrics, load_tree, open_script};
 use crate::refusal::Refusal;
 use crate::replies::answer_lines;
@@ -18,6 +22,7 @@ use doc_io::{Inputs, Sink, write_all};
 use edit_session::Session;
 use fixed_units::{List, Memory, Steps};
 use font_metrics::Metrics;
+use generator::{Summary, generate};
 use math_tree::Tree;
 use std::alloc::Global;
 use std::sync::ledger::Ledger;
@@ -35,6 +40,8 @@ pub fn run<I: Inputs, O: Sink, L: Ledger>(
         (I.told inputs.old) (I.told inputs.new)
         (O.told out.old) (O.told out.new) result }
     ensures steps { TakesNoSteps (asked_by (map string_bytes words.now)) result → steps.new ≡ steps.old }
+    ensures taken { TakesForRun (asked_by (map string_bytes words.now)) (I.told inputs.old).files
+        steps.old steps.new }
 {
     match Request::from_words(words) {
         Err(NoCommand) => deliver(out, USAGE.as_bytes(), Status::Usage),
@@ -50,24 +57,42 @@ fn answer<I: Inputs, O: Sink, L: Ledger>(
     out: &mut O,
     steps: &mut Steps<L>,
 ) -> Status
-    ensures answered { Answered (asked_of request.entry).work
+    ensures answered { AnsweredJob (IsJobInParts (asked_of request.entry).job)
         (option_map (answer (asked_of request.entry)) (I.told inputs.old).files)
         (LacksFile (Some (asked_of request.entry)))
         (I.told inputs.old) (I.told inputs.new)
         (O.told out.old) (O.told out.new) result }
-    ensures steps { StepsStand (asked_of request.entry).work result → steps.new ≡ steps.old }
+    ensures steps { JobStepsStand (asked_of request.entry).job result → steps.new ≡ steps.old }
+    ensures taken { TakesForRun (Some (asked_of request.entry)) (I.told inputs.old).files
+        steps.old steps.new }
 {
     match load_metrics(alloc, request.metrics, inputs) {
-        Ok(metrics) => answer_over(
-            alloc,
-            request.task,
-            metrics,
-            request.tree,
-            inputs,
-            out,
-            steps,
-        ),
+        Ok(metrics) => answer_with(alloc, request.job, metrics, inputs, out, steps),
         Err(refusal) => tell(out, refusal),
+    }
+}
+
+/// Does a job with these metrics, or tells why it isn't done.
+fn answer_with<I: Inputs, O: Sink, L: Ledger>(
+    alloc: Global,
+    job: Job,
+    metrics: Metrics,
+    inputs: &mut I,
+    out: &mut O,
+    steps: &mut Steps<L>,
+) -> Status
+    ensures answered { AnsweredJob (IsJobInParts (job_of job.entry))
+        (option_map (answer_with (job_of job.entry) metrics) (I.told inputs.old).files)
+        (LacksNext (job_of job.entry) metrics)
+        (I.told inputs.old) (I.told inputs.new)
+        (O.told out.old) (O.told out.new) result }
+    ensures steps { JobStepsStand (job_of job.entry) result → steps.new ≡ steps.old }
+    ensures taken { TakesForJob (job_of job.entry) metrics (I.told inputs.old).files
+        steps.old steps.new }
+{
+    match job {
+        Job::OverTree(task, tree) => answer_over(alloc, task, metrics, tree, inputs, out, steps),
+        Job::Generate(seed, count) => generate_edits(alloc, metrics, seed, count, out, steps),
     }
 }
 
@@ -87,6 +112,8 @@ fn answer_over<I: Inputs, O: Sink, L: Ledger>(
         (I.told inputs.old) (I.told inputs.new)
         (O.told out.old) (O.told out.new) result }
     ensures steps { StepsStand (work_of task.entry) result → steps.new ≡ steps.old }
+    ensures taken { TakesOverMetrics (work_of task.entry) metrics name.now (I.told inputs.old).files
+        steps.old steps.new }
 {
     match load_tree(alloc, name, inputs) {
         Ok(tree) => do_task(alloc, task, metrics, tree, inputs, out, steps),
@@ -115,6 +142,8 @@ fn do_task<I: Inputs, O: Sink, L: Ledger>(
         (I.told inputs.old) (I.told inputs.new)
         (O.told out.old) (O.told out.new) result }
     ensures steps { StepsStand (work_of task.entry) result → steps.new ≡ steps.old }
+    ensures taken { TakesForWork (work_of task.entry) metrics tree (I.told inputs.old).files
+        steps.old steps.new }
 {
     match task {
         Task::Layout => lay_out(alloc, metrics, tree, out, steps),
@@ -128,6 +157,38 @@ fn do_task<I: Inputs, O: Sink, L: Ledger>(
     }
 }
 
+/// Makes edits that are drawn from a seed and writes what came of them, or tells why it doesn't.
+fn generate_edits<O: Sink, L: Ledger>(
+    alloc: Global,
+    metrics: Metrics,
+    seed: u64,
+    count: u32,
+    out: &mut O,
+    steps: &mut Steps<L>,
+) -> Status
+    ensures written { Written (generates metrics seed count)
+        (O.told out.old) (O.told out.new) result }
+    ensures late { ¬ EndsUnlaid result }
+    ensures taken { TakesForGenerated metrics seed count steps.old steps.new }
+{
+    match generate(alloc, metrics, seed, count, steps) {
+        Ok(told) => write_summary(alloc, &told, out),
+        Err(refusal) => tell(out, Refusal::of_layout(refusal)),
+    }
+}
+
+/// Writes the lines of what came of edits.
+fn write_summary<O: Sink>(alloc: Global, told: &Summary, out: &mut O) -> Status
+    ensures written { Written (Ok (whole_text (lines_of told.now)))
+        (O.told out.old) (O.told out.new) result }
+    ensures late { ¬ EndsUnlaid result }
+{
+    match told.to_string(alloc) {
+        Ok(lines) => deliver(out, lines.as_bytes(), Status::Done),
+        Err(_) => tell(out, Refusal::Memory),
+    }
+}
+
 /// Lays out the tree and writes the lines of its boxes and marks, or tells why it isn't laid out.
 fn lay_out<O: Sink, L: Ledger>(
     alloc: Global,
@@ -138,6 +199,7 @@ fn lay_out<O: Sink, L: Ledger>(
 ) -> Status
     ensures written { Written (laid_out metrics tree) (O.told out.old) (O.told out.new) result }
     ensures late { ¬ EndsUnlaid result }
+    ensures taken { TakesVisits metrics tree steps.old steps.new }
 {
     match start(alloc, metrics, tree, steps) {
         Ok(mut session) => {
@@ -165,6 +227,8 @@ fn edit<I: Inputs, O: Sink, L: Ledger>(
         (I.told inputs.old) (I.told inputs.new)
         (O.told out.old) (O.told out.new) result }
     ensures late { ¬ EndsBeforeTree result }
+    ensures taken { TakesForEdits metrics tree (script_lines script.now (I.told inputs.old).files)
+        steps.old steps.new }
 {
     match start(alloc, metrics, tree, steps) {
         Ok(mut session) => {
@@ -186,6 +250,7 @@ fn start<L: Ledger>(
     ensures session { IfOk result (λ session. started metrics tree ≡ Ok session.held) }
     ensures refused { IfErr result (λ refusal. GivesOr (started metrics tree) (Err refusal)) }
     ensures late { IfErr result (λ refusal. ¬ EndsUnlaid (status_of refusal)) }
+    ensures taken { TakesVisits metrics tree steps.old steps.new }
 {
     match Session::start(alloc, tree, metrics, steps) {
         Ok(session) => Ok(session),
@@ -220,6 +285,8 @@ fn answer_script<I: Inputs, O: Sink, L: Ledger>(
         (I.told inputs.old) (I.told inputs.new)
         (O.told out.old) (O.told out.new) result }
     ensures late { ¬ EndsBeforeTree result }
+    ensures taken { TakesForScript session.old.held
+        (script_lines name.now (I.told inputs.old).files) steps.old steps.new }
 {
     match open_script(alloc, name, inputs) {
         Ok(mut reader) => {

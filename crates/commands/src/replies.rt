@@ -1,6 +1,7 @@
 ghost use Rattle.std.specs.Prelude.{◌≡◌, OnOk};
 ghost use Rattle.commands.specs.Parts.{AnswersEach, AnswersLines, AnswersNext, ComesToLine, Tells, status_of_stop, stop_of};
 ghost use Rattle.commands.specs.Replies.{after_line, told_of};
+ghost use Rattle.commands.specs.Steps.{TakesForLine, TakesForNext, TakesForScript, lines_left};
 
 use crate::reply::reply_to;
 use crate::status::Status;
@@ -33,8 +34,10 @@ pub fn answer_lines<I: Inputs, O: Sink, L: Ledger>(
     out: &mut O,
     steps: &mut Steps<L>,
 ) -> Status
-    ensures { AnswersLines session.old.held reader.old (I.told inputs.old) (I.told inputs.new)
-        (O.told out.old) (O.told out.new) result }
+    ensures answers { AnswersLines session.old.held reader.old
+        (I.told inputs.old) (I.told inputs.new) (O.told out.old) (O.told out.new) result }
+    ensures taken { TakesForScript session.old.held (lines_left reader.old (I.told inputs.old))
+        steps.old steps.new }
 {
     match answer_each(alloc, session, reader, inputs, out, steps) {
         Ok(()) => Status::Done,
@@ -51,8 +54,10 @@ fn answer_each<I: Inputs, O: Sink, L: Ledger>(
     out: &mut O,
     steps: &mut Steps<L>,
 ) -> Result<(), Stop>
-    ensures { AnswersEach session.old.held reader.old (I.told inputs.old) (I.told inputs.new)
-        (O.told out.old) (O.told out.new) result }
+    ensures answers { AnswersEach session.old.held reader.old
+        (I.told inputs.old) (I.told inputs.new) (O.told out.old) (O.told out.new) result }
+    ensures taken { TakesForScript session.old.held (lines_left reader.old (I.told inputs.old))
+        steps.old steps.new }
 {
     while answer_next(alloc, session, reader, inputs, out, steps)? {}
     Ok(())
@@ -68,8 +73,10 @@ fn answer_next<I: Inputs, O: Sink, L: Ledger>(
     out: &mut O,
     steps: &mut Steps<L>,
 ) -> Result<bool, Stop>
-    ensures { AnswersNext session.old.held session.new.held reader.old reader.new
+    ensures answers { AnswersNext session.old.held session.new.held reader.old reader.new
         (I.told inputs.old) (I.told inputs.new) (O.told out.old) (O.told out.new) result }
+    ensures taken { TakesForNext session.old.held reader.old reader.new
+        (I.told inputs.old) (I.told inputs.new) steps.old steps.new result }
 {
     if !next_line(reader, inputs)? {
         return Ok(false);
@@ -98,6 +105,7 @@ fn answer_line<O: Sink, L: Ledger>(
 ) -> Result<(), Stop>
     ensures told { Tells (told_of session.old.held line.now) (O.told out.old) (O.told out.new) result }
     ensures session { OnOk result (session.new.held ≡ after_line session.old.held line.now) }
+    ensures taken { TakesForLine session.old.held line.now steps.old steps.new }
 {
     let reply = reply_to(alloc, session, line, steps)?;
     reply.write(out, session.metrics())?;

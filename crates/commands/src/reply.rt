@@ -3,8 +3,10 @@ ghost use Rattle.doc_io.specs.Lines.{line as line_of_words};
 ghost use Rattle.doc_io.specs.Whole.{WritesAll};
 ghost use Rattle.tree_edits.specs.Applying.{IsProperEdit};
 ghost use Rattle.tree_edits.specs.Commands.{IsProperCommand};
+ghost use Rattle.tree_edits.specs.Edits.{refusal_of};
 ghost use Rattle.box_writer.specs.Items.{IsOfFont};
 ghost use Rattle.commands.specs.Replies.{IsReplyOfFont, after_command, after_line, after_reply, reply_to, reply_to_command, reply_to_edit, shown_text, text_of_reply, word_of, word_of_edit};
+ghost use Rattle.commands.specs.Steps.{TakesForEdit, TakesForLine, accepted_by, unless_refused};
 
 use crate::script::is_white_space;
 use box_writer::{Placed, write_placed};
@@ -40,7 +42,7 @@ pub enum Reply {
 }
 
 /// Does what a line of a script asks for, and says what is answered.
-#[tactic(auto, unfolding(crate::specs::Replies::reply_to, crate::specs::Replies::after_line))]
+#[tactic(auto, unfolding(crate::specs::Replies::reply_to, crate::specs::Replies::after_line, crate::specs::Steps::accepted_in))]
 pub fn reply_to<L: Ledger>(
     alloc: Global,
     session: &mut Session,
@@ -50,6 +52,7 @@ pub fn reply_to<L: Ledger>(
     ensures reply { IfOk result (λ reply. reply ≡ reply_to session.old.held line.now) }
     ensures glyphs { IfOk result (IsReplyOfFont session.old.held.metrics) }
     ensures session { OnOk result (session.new.held ≡ after_line session.old.held line.now) }
+    ensures taken { TakesForLine session.old.held line.now steps.old steps.new }
 {
     if is_white_space(line) {
         return Ok(Reply::Nothing);
@@ -72,6 +75,8 @@ fn carry_out<L: Ledger>(
     ensures reply { IfOk result (λ reply. reply ≡ reply_to_command session.old.held (Some command)) }
     ensures glyphs { IfOk result (IsReplyOfFont session.old.held.metrics) }
     ensures session { OnOk result (session.new.held ≡ after_command session.old.held (Some command)) }
+    ensures taken { TakesForEdit session.old.held (accepted_by session.old.held (Some command))
+        steps.old steps.new }
 {
     match command {
         Command::Show => Ok(Reply::Shown(session.show(alloc)?)),
@@ -91,6 +96,8 @@ fn change<L: Ledger>(
     ensures glyphs { IfOk result (IsReplyOfFont session.old.held.metrics) }
     ensures session { OnOk result
         (session.new.held ≡ after_reply (reply_to_edit session.old.held edit) session.old.held edit) }
+    ensures taken { TakesForEdit session.old.held
+        (unless_refused (refusal_of session.old.held.tree edit) edit) steps.old steps.new }
 {
     match session.edit(alloc, edit, steps) {
         Ok(()) => Ok(Reply::Accepted),

@@ -1,8 +1,9 @@
-use Rattle.std.proofs.Common.{inl, Ok, Err}
+use Rattle.std.proofs.Common.{inl, refl, Ok, Err}
 use Rattle.commands.proofs.Answering.{with_script, without_script}
 use Rattle.commands.proofs.Parts.{in_parts}
 use Rattle.commands.proofs.Ending.{told_not_done}
 use Rattle.commands.proofs.Steps.{later, replied_later, script_late}
+use Rattle.commands.proofs.StepsTaken.{for_file, for_no_lines}
 use Rattle.commands.proofs.program.answer_script.Goals as goal
 
 pub returns-in-Ok-clause-answered : goal.returns-in-Ok-clause-answered
@@ -13,7 +14,7 @@ returns-in-Ok-clause-answered g c =
     let after = g.I.Inputs.told c.answer_lines-status.new.inputs in
     let old = g.O.Sink.told c.args.out.now in
     let new = g.O.Sink.told c.answer_lines-status.new.out in
-    let a = c.answer_lines-status.ensures in
+    let a = c.answer_lines-status.ensures.answers in
     record {
       result = Ok a.text;
       answers = with_script name c.args.session.now.held before mid after old new _ _ c.in-Ok.ensures a;
@@ -27,7 +28,7 @@ returns-in-Ok-clause-late g c =
     let after = g.I.Inputs.told c.answer_lines-status.new.inputs in
     let old = g.O.Sink.told c.args.out.now in
     let new = g.O.Sink.told c.answer_lines-status.new.out in
-    let a = c.answer_lines-status.ensures in
+    let a = c.answer_lines-status.ensures.answers in
     replied_later a.text mid after old new _ a.delivers
 
 pub returns-in-Err-clause-answered : goal.returns-in-Err-clause-answered
@@ -40,3 +41,11 @@ returns-in-Err-clause-answered g c = record {
 
 pub returns-in-Err-clause-late : goal.returns-in-Err-clause-late
 returns-in-Err-clause-late g c = later _ _ _ (g.O.Sink.told c.args.out.now) (g.O.Sink.told c.tell.new.out) (script_late c.in-Err.refusal c.in-Err.ensures.selects.cut) c.tell.ensures
+
+pub returns-in-Ok-clause-taken : goal.returns-in-Ok-clause-taken
+returns-in-Ok-clause-taken g c =
+    for_file c.args.session.now.held c.args.name.now (g.I.Inputs.told c.args.inputs.now) (g.I.Inputs.told c.open_script.new.inputs) c.in-Ok.reader _ _
+    c.in-Ok.ensures c.answer_lines-status.ensures.taken
+
+pub returns-in-Err-clause-taken : goal.returns-in-Err-clause-taken
+returns-in-Err-clause-taken g c = for_no_lines _ _ _ _ refl

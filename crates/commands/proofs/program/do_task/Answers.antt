@@ -1,9 +1,10 @@
-use Rattle.std.proofs.Common.{inl, subst, sym, ap}
+use Rattle.std.proofs.Common.{inl, refl, subst, sym, ap}
 use Rattle.std.specs.Option.{option_map}
 use Rattle.commands.specs.Answer.{done}
 use Rattle.commands.specs.Command.{Work, work_of}
 use Rattle.commands.specs.Ends.{Answered}
 use Rattle.commands.specs.Parts.{LacksScript}
+use Rattle.commands.specs.Steps.{TakesForWork}
 use Rattle.commands.proofs.Answering.{checked_answers, laid_out_answers}
 use Rattle.commands.proofs.program.do_task.Goals as goal
 
@@ -28,3 +29,13 @@ returns-in-Check-clause-answered g c =
     (g.O.Sink.told c.args.out.now) (g.O.Sink.told c.check-status.new.out) c.check-status.result)
     (sym (ap work_of c.in-Check.is))
     (record { result = w.result; answers = checked_answers m t told w.result w.gives; delivers = inl w.delivers; read_to_end = λ done parts. absurd parts })
+
+pub returns-in-Layout-clause-taken : goal.returns-in-Layout-clause-taken
+returns-in-Layout-clause-taken g c =
+    subst (λ (work : Work). TakesForWork work c.args.metrics c.args.tree (g.I.Inputs.told c.args.inputs.now).files c.args.steps.now c.lay_out.new.steps)
+    (sym (ap work_of c.in-Layout.is)) c.lay_out.ensures.taken
+
+pub returns-in-Check-clause-taken : goal.returns-in-Check-clause-taken
+returns-in-Check-clause-taken g c =
+    subst (λ (work : Work). TakesForWork work c.args.metrics c.args.tree (g.I.Inputs.told c.args.inputs.now).files c.args.steps.now c.args.steps.now)
+    (sym (ap work_of c.in-Check.is)) refl

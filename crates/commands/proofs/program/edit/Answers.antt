@@ -1,6 +1,7 @@
 use Rattle.std.proofs.Common.{inl, inr, sym, Err}
 use Rattle.commands.proofs.Answering.{with_session, without_session}
 use Rattle.commands.proofs.Ending.{told_not_done}
+use Rattle.commands.proofs.StepsTaken.{for_no_session, for_session}
 use Rattle.commands.proofs.program.edit.Goals as goal
 
 pub returns-in-Ok-clause-answered : goal.returns-in-Ok-clause-answered
@@ -20,3 +21,10 @@ returns-in-Err-clause-answered g c = record {
   delivers = inl c.tell.ensures;
   read_to_end = λ done parts. absurd (told_not_done c.in-Err.refusal _ _ _ _ c.tell.ensures done);
 }
+
+pub returns-in-Ok-clause-taken : goal.returns-in-Ok-clause-taken
+returns-in-Ok-clause-taken g c =
+    for_session c.args.metrics c.args.tree c.in-Ok.session.held _ _ _ _ c.in-Ok.ensures.session c.in-Ok.ensures.taken c.answer_script-status.ensures.taken
+
+pub returns-in-Err-clause-taken : goal.returns-in-Err-clause-taken
+returns-in-Err-clause-taken g c = for_no_session c.args.metrics c.args.tree _ _ _ c.in-Err.ensures.taken

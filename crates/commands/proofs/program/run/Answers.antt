@@ -1,5 +1,6 @@
-use Rattle.std.proofs.Common.{subst}
+use Rattle.std.proofs.Common.{refl, subst, sym}
 use Rattle.commands.specs.Ends.{TakesNoSteps}
+use Rattle.commands.specs.Steps.{TakesForRun}
 use Rattle.commands.proofs.Ending.{answered_ends, usage_ends}
 use Rattle.commands.proofs.program.run.Goals as goal
 
@@ -11,3 +12,11 @@ returns-in-Ok-clause-ends g c = answered_ends _ _ _ _ _ _ _ c.in-Ok.ensures.ok c
 
 pub returns-in-Ok-clause-steps : goal.returns-in-Ok-clause-steps
 returns-in-Ok-clause-steps g c = λ none. c.answer.ensures.steps (subst (λ asked. TakesNoSteps asked c.answer.result) c.in-Ok.ensures.ok none)
+
+pub returns-in-Ok-clause-taken : goal.returns-in-Ok-clause-taken
+returns-in-Ok-clause-taken g c =
+    subst (λ asked. TakesForRun asked (g.I.Inputs.told c.args.inputs.now).files c.args.steps.now c.answer.new.steps) (sym c.in-Ok.ensures.ok) c.answer.ensures.taken
+
+pub returns-in-Err-clause-taken : goal.returns-in-Err-clause-taken
+returns-in-Err-clause-taken g c =
+    subst (λ asked. TakesForRun asked (g.I.Inputs.told c.args.inputs.now).files c.args.steps.now c.args.steps.now) (sym c.in-Err.ensures.err) refl

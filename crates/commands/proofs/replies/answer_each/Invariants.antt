@@ -1,14 +1,17 @@
 use Rattle.std.proofs.Common.{◌-◌}
 use Rattle.doc_io.specs.LineReader.{most_lines}
 use Rattle.commands.proofs.Reading.{Stands}
+use Rattle.commands.proofs.StepsTaken.{Took}
 use Rattle.commands.proofs.replies.answer_each.Given as goal
 
 -- what was written and the replies to what is left are all replies: each line that was given has
--- its reply written
+-- its reply written; and the steps are those of the lines that were given
 abbrev pub invariant-loop : goal.invariant-loop
 invariant-loop g l =
     Stands l.fn.session.held l.fn.reader (g.I.Inputs.told l.fn.inputs) (g.O.Sink.told l.fn.out)
     l.session.held l.reader (g.I.Inputs.told l.inputs) (g.O.Sink.told l.out)
+    × Took l.fn.session.held l.fn.reader (g.I.Inputs.told l.fn.inputs) l.fn.steps
+    l.session.held l.reader (g.I.Inputs.told l.inputs) l.steps
 
 abbrev pub decreases-loop : goal.decreases-loop
 decreases-loop g l = most_lines - l.reader.given

@@ -2,15 +2,21 @@ use Rattle.std.proofs.Common.{◌≡◌, ◌∙◌, ap, inl, inr, true, false, r
 use Rattle.std.specs.Prelude.{Err, Ok}
 use Rattle.commands.specs.Parts.{Tells}
 use Rattle.commands.specs.Replies.{after_line, told_of}
+use Rattle.commands.specs.Steps.{TakesForLine}
 use Rattle.commands.proofs.Reading.{came, ended, stopped_next}
+use Rattle.commands.proofs.StepsTaken.{for_cut_next, for_no_next}
 use Rattle.commands.proofs.replies.answer_next.Goals as goal
 
-pub returns-in_err-next_line : goal.returns-in_err-next_line
-returns-in_err-next_line g c =
+pub returns-in_err-next_line-clause-answers : goal.returns-in_err-next_line-clause-answers
+returns-in_err-next_line-clause-answers g c =
     stopped_next _ _ _ _ _ _ _ _ c.in_err-next_line.field-0.0 _ (search rules) (inl (c.in_err-next_line.ensures, refl))
 
-pub returns-then-not-branch : goal.returns-then-not-branch
-returns-then-not-branch g c =
+pub returns-in_err-next_line-clause-taken : goal.returns-in_err-next_line-clause-taken
+returns-in_err-next_line-clause-taken g c =
+    for_no_next _ _ _ _ _ _ _ c.in_err-next_line.field-0.0 _ (search rules) refl
+
+pub returns-then-not-branch-clause-answers : goal.returns-then-not-branch-clause-answers
+returns-then-not-branch-clause-answers g c =
     let away : c.in_ok-next_line.field-0 ≡ false = search (rules, tests) in
     record {
       line = λ e. absurd cc;
@@ -18,8 +24,11 @@ returns-then-not-branch g c =
       stop = tt;
     }
 
-pub returns-in_err-answer_line : goal.returns-in_err-answer_line
-returns-in_err-answer_line g c =
+pub returns-then-not-branch-clause-taken : goal.returns-then-not-branch-clause-taken
+returns-then-not-branch-clause-taken g c = record { line = λ e. absurd cc; end = λ e. refl; stop = tt }
+
+pub returns-in_err-answer_line-clause-answers : goal.returns-in_err-answer_line-clause-answers
+returns-in_err-answer_line-clause-answers g c =
     let there : c.in_ok-next_line.field-0 ≡ true = search (rules, tests) in
     let told = g.O.Sink.told in
     stopped_next _ _ _ _ _ _ _ _ c.in_err-answer_line.field-0.0 _ (search rules)
@@ -29,8 +38,14 @@ returns-in_err-answer_line g c =
           c.line.ensures c.in_err-answer_line.ensures.told,
     ))
 
-pub returns : goal.returns
-returns g c =
+pub returns-in_err-answer_line-clause-taken : goal.returns-in_err-answer_line-clause-taken
+returns-in_err-answer_line-clause-taken g c =
+    let there : c.in_ok-next_line.field-0 ≡ true = search (rules, tests) in
+    for_cut_next _ _ _ _ _ _ _ c.in_err-answer_line.field-0.0 _ (search rules) (came _ _ _ _ _ there c.in_ok-next_line.ensures)
+    (subst (λ l. TakesForLine c.args.session.now.held l c.args.steps.now c.answer_line.new.steps) c.line.ensures c.in_err-answer_line.ensures.taken)
+
+pub returns-clause-answers : goal.returns-clause-answers
+returns-clause-answers g c =
     let there : c.in_ok-next_line.field-0 ≡ true = search (rules, tests) in
     let told = g.O.Sink.told in
     let reply = c.in_ok-answer_line.ensures in
@@ -43,3 +58,10 @@ returns g c =
       end = λ e. absurd cc;
       stop = tt;
     }
+
+pub returns-clause-taken : goal.returns-clause-taken
+returns-clause-taken g c = record {
+  line = λ e. subst (λ l. TakesForLine c.args.session.now.held l c.args.steps.now c.answer_line.new.steps) c.line.ensures c.in_ok-answer_line.ensures.taken;
+  end = λ e. absurd cc;
+  stop = tt;
+}

@@ -68,7 +68,7 @@ returns-in-Ok-clause-new c =
     let root = c.root.result.now in
     subst (λ (o : MemoTreeValue). NewIsBlank o c.args.edit new) c.self.view_is
     (new_blank old c.args.edit way c.apply_at.new.tree root laid is done.tree c.root.ensures.exact c.follow.new.memo c.in-Ok.back
-    ((c.in-Ok.ensures {u = tt}).followed (before old c.args.edit way c.apply_at.new.tree root laid is done.tree c.root.ensures.exact)) c.self.invariant c.root.ensures.whole)
+    ((c.in-Ok.ensures {u = tt}).followed (before old c.args.edit way c.apply_at.new.tree root laid is done.tree c.root.ensures.exact)) c.self.invariant.whole c.root.ensures.whole)
 
 pub returns-in-Ok-clause-marked : goal.returns-in-Ok-clause-marked
 returns-in-Ok-clause-marked c =
@@ -94,4 +94,4 @@ returns-in-Ok-clause-kept c =
     let root = c.root.result.now in
     subst (λ (o : MemoTreeValue). EachStays o c.args.edit new) c.self.view_is
     (each_stays old c.args.edit way c.apply_at.new.tree root laid is done.tree c.root.ensures.exact c.follow.new.memo c.in-Ok.back
-    ((c.in-Ok.ensures {u = tt}).followed (before old c.args.edit way c.apply_at.new.tree root laid is done.tree c.root.ensures.exact)) c.self.invariant c.root.ensures.whole)
+    ((c.in-Ok.ensures {u = tt}).followed (before old c.args.edit way c.apply_at.new.tree root laid is done.tree c.root.ensures.exact)) c.self.invariant.whole c.root.ensures.whole)

@@ -1,0 +1,20 @@
+use Rattle.std.proofs.Common.{◌∙◌, refl, inl, inr, subst, Ok, Err}
+use Rattle.generator.specs.Summary.{lines_of}
+use Rattle.commands.specs.Answer.{whole_text}
+use Rattle.commands.specs.Ends.{Delivers}
+use Rattle.commands.specs.declared.refusal.Refusal.TheVariants.{Memory}
+use Rattle.commands.specs.declared.status.Status.TheVariants.{Done}
+use Rattle.commands.proofs.program.write_summary.Goals as goal
+
+pub returns-in-Ok-clause-written : goal.returns-in-Ok-clause-written
+returns-in-Ok-clause-written g c =
+    let told = g.O.Sink.told in
+    record {
+      result = Ok (whole_text (lines_of c.args.told.now));
+      gives = inr refl;
+      delivers = subst (λ text. Delivers text Done (told c.args.out.now) (told c.deliver.new.out) c.deliver.result)
+          (c.as_bytes.ensures.value ∙ c.in-Ok.ensures.ok) c.deliver.ensures;
+    }
+
+pub returns-in-Err-clause-written : goal.returns-in-Err-clause-written
+returns-in-Err-clause-written g c = record { result = Err Memory; gives = inl refl; delivers = c.tell.ensures }

@@ -1,0 +1,38 @@
+-- Numbers among the words of the command line.
+use Rattle.std.specs.Prelude.{ℕ, ◌^◌, List, length, Bool, ◌&&◌, nat_le, nat_lt, if◌then◌else◌, Option, Some, None}
+use Rattle.std.specs.Char.{is_ascii_digit}
+use Rattle.std.specs.List.{list_all}
+use Rattle.std.specs.Option.{option_and_then}
+use Rattle.std.specs.Str.Parse.{digits_value}
+
+-- decimal digits alone, and at most so many
+abbrev pub is_short_numeral : ℕ → List ℕ → Bool
+is_short_numeral most word = list_all is_ascii_digit word && nat_le (length word) most
+
+-- 1 to so many decimal digits that write a number below 2^64
+abbrev pub is_numeral : ℕ → List ℕ → Bool
+is_numeral most word =
+    is_short_numeral most word && nat_lt 0 (length word)
+    && nat_lt (digits_value 10 word) (2 ^ 64)
+
+-- the number that they write; zeros may stand in front
+unfoldable pub number_in : ℕ → List ℕ → Option ℕ
+number_in most word = if is_numeral most word then Some (digits_value 10 word) else None
+
+-- a seed has at most 20 digits
+abbrev pub seed_in : List ℕ → Option ℕ
+seed_in word = number_in 20 word
+
+-- the most edits that are drawn
+abbrev pub most_generated : ℕ
+most_generated = 20000
+
+abbrev pub is_count : ℕ → Bool
+is_count count = nat_le 1 count && nat_le count most_generated
+
+abbrev pub if_count : ℕ → Option ℕ
+if_count count = if is_count count then Some count else None
+
+-- a count has at most 5 digits, and is from 1 to 20,000
+abbrev pub count_in : List ℕ → Option ℕ
+count_in word = option_and_then if_count (number_in 5 word)

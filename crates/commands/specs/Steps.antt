@@ -1,0 +1,145 @@
+-- How many steps a run takes: those of the first layout, and those of each line of a script.
+use Rattle.std.specs.Prelude.{◌≡◌, ◌⊎◌, ℕ, ◌-◌, Bool, true, false, List, [], ◌∷◌, take, if◌then◌else◌, Option, Some, None, IfSome, Result, Ok, Err, IfErr}
+use Rattle.std.specs.Option.{option_map}
+use Rattle.doc_io.specs.Causes.{Files, InputsTold}
+use Rattle.doc_io.specs.LineReader.{GivesLine, ReaderValue, left_of, lines_of, most_lines}
+use Rattle.doc_io.specs.declared.line_reader.Line.TheVariants.{Whole}
+use Rattle.font_metrics.specs.Metrics.{MetricsValue}
+use Rattle.math_tree.specs.Forms.{is_white_space}
+use Rattle.math_tree.specs.Trees.{TreeValue}
+use Rattle.tree_edits.specs.Commands.{command_in}
+use Rattle.tree_edits.specs.Edits.{refusal_of}
+use Rattle.tree_edits.specs.declared.command.Command.{Command}
+use Rattle.tree_edits.specs.declared.command.Command.TheVariants.{Show, Change}
+use Rattle.tree_edits.specs.declared.edit.Edit.{Edit}
+use Rattle.tree_edits.specs.declared.edit.EditRefusal.{EditRefusal}
+use Rattle.kept_edits.specs.ByIds.{TakesNeeded}
+use Rattle.memo_tree.specs.Counted.{TakesVisits}
+use Rattle.edit_session.specs.Session.{SessionValue}
+use Rattle.generator.specs.Steps.{TakesForRun as TakesForGenerated}
+use Rattle.commands.specs.Command.{Asked, Job, OverTree, Generates, Work, LaysOut, Edits, Checks}
+use Rattle.commands.specs.Script.{within}
+use Rattle.commands.specs.Replies.{after_line}
+use Rattle.commands.specs.Answer.{content, metrics_in, started, tree_in}
+use Rattle.commands.specs.declared.refusal.Refusal.{Refusal}
+use Rattle.commands.specs.declared.replies.Stop.{Stop}
+
+-- ---- one line
+
+-- an edit, where the tree has no reason to refuse it
+abbrev pub unless_refused : Option EditRefusal → Edit → Option Edit
+unless_refused None edit = Some edit
+unless_refused (Some reason) edit = None
+
+-- the edit that a command asks for, where the tree has no reason to refuse it
+abbrev pub accepted_by : SessionValue → Option Command → Option Edit
+accepted_by session None = None
+accepted_by session (Some Show) = None
+accepted_by session (Some (Change edit)) = unless_refused (refusal_of session.tree edit) edit
+
+-- the edit that a line asks for, where the tree has no reason to refuse it
+unfoldable pub accepted_in : SessionValue → List ℕ → Option Edit
+accepted_in session line =
+    if is_white_space line then None else accepted_by session (command_in line)
+
+-- the steps of an accepted edit: layouts that it needs, none twice, be it then done, out of range
+-- or cut short; where there is none, no step
+abbrev pub TakesForEdit : SessionValue → Option Edit → ℕ → ℕ → Type 0
+TakesForEdit session None from to = to ≡ from
+TakesForEdit session (Some edit) from to =
+    TakesNeeded session.metrics session.tree edit from to
+
+-- the steps of a line
+abbrev pub TakesForLine : SessionValue → List ℕ → ℕ → ℕ → Type 0
+TakesForLine session line from to = TakesForEdit session (accepted_in session line) from to
+
+-- the steps of the next line that a reader gives, if it gives one
+pub record TakesForNext (session : SessionValue) (reader reader' : ReaderValue)
+    (before after : InputsTold) (from to : ℕ) (result : Result Bool Stop) : Type 0 where
+  pub line : result ≡ Ok true → TakesForLine session reader'.line from to
+  pub end : result ≡ Ok false → to ≡ from
+  pub stop : IfErr result (λ why.
+      (to ≡ from)
+      ⊎ (GivesLine reader reader' before after (Ok Whole)
+      × TakesForLine session reader'.line from to))
+
+-- ---- all lines
+
+-- the steps of lines, one line after another, each over the tree as edited by those before it
+abbrev pub TakesForLines : SessionValue → List (List ℕ) → ℕ → ℕ → Type 0
+TakesForLines session [] from to = to ≡ from
+TakesForLines session (line ∷ lines) from to =
+    (between : ℕ) × TakesForLine session line from between
+    × TakesForLines (after_line session line) lines between to
+
+-- the steps of the lines that were answered: where the script is told, a front of its lines
+pub record TakesForScript (session : SessionValue) (script : Option (List (List ℕ)))
+    (from to : ℕ) : Type 0 where
+  pub lines : List (List ℕ)
+  pub front : IfSome script (λ all. (n : ℕ) × (lines ≡ take n all))
+  pub steps : TakesForLines session lines from to
+
+-- the lines within their limits that are left to a reader, where they are told
+abbrev pub lines_left : ReaderValue → InputsTold → Option (List (List ℕ))
+lines_left reader inputs =
+    option_map (λ bytes. within (most_lines - reader.given) (lines_of bytes))
+    (left_of reader inputs)
+
+-- the lines within their limits of a file, where the files are told
+abbrev pub script_lines : List ℕ → Option Files → Option (List (List ℕ))
+script_lines name files =
+    option_map (λ files. within most_lines (lines_of (content files name))) files
+
+-- ---- a run
+
+-- the steps behind the first layout: none, where that is refused
+abbrev pub TakesBehindStart : Result SessionValue Refusal → Option (List (List ℕ)) → ℕ → ℕ → Type 0
+TakesBehindStart (Ok session) script from to = TakesForScript session script from to
+TakesBehindStart (Err refusal) script from to = to ≡ from
+
+-- the steps of a tree and a script: layouts that the tree needs, none twice, and then those of
+-- lines
+pub record TakesForEdits (metrics : MetricsValue) (tree : TreeValue)
+    (script : Option (List (List ℕ))) (from to : ℕ) : Type 0 where
+  pub laid : ℕ
+  pub start : TakesVisits metrics tree from laid
+  pub lines : TakesBehindStart (started metrics tree) script laid to
+
+-- the steps of work on a tree
+abbrev pub TakesForWork : Work → MetricsValue → TreeValue → Option Files → ℕ → ℕ → Type 0
+TakesForWork LaysOut metrics tree files from to = TakesVisits metrics tree from to
+TakesForWork (Edits script) metrics tree files from to =
+    TakesForEdits metrics tree (script_lines script files) from to
+TakesForWork Checks metrics tree files from to = to ≡ from
+
+-- the tree that was read, which is that of its file where the files are told, and the steps of the
+-- work on it
+pub record TakesForTree (work : Work) (metrics : MetricsValue) (name : List ℕ)
+    (files : Option Files) (from to : ℕ) : Type 0 where
+  pub tree : TreeValue
+  pub is : IfSome files (λ files. tree_in (content files name) ≡ Ok tree)
+  pub steps : TakesForWork work metrics tree files from to
+
+-- no step, where no tree was read
+abbrev pub TakesOverMetrics : Work → MetricsValue → List ℕ → Option Files → ℕ → ℕ → Type 0
+TakesOverMetrics work metrics name files from to =
+    (to ≡ from) ⊎ TakesForTree work metrics name files from to
+
+-- the steps of a job over metrics: of the work on a tree file, or of generated edits
+abbrev pub TakesForJob : Job → MetricsValue → Option Files → ℕ → ℕ → Type 0
+TakesForJob (OverTree work tree) metrics files from to =
+    TakesOverMetrics work metrics tree files from to
+TakesForJob (Generates seed count) metrics files from to =
+    TakesForGenerated metrics seed count from to
+
+-- the metrics that were read, which are those of their file where the files are told, and the steps
+-- over them
+pub record TakesForMetrics (asked : Asked) (files : Option Files) (from to : ℕ) : Type 0 where
+  pub metrics : MetricsValue
+  pub is : IfSome files (λ files. metrics_in (content files asked.metrics) ≡ Ok metrics)
+  pub steps : TakesForJob asked.job metrics files from to
+
+-- the steps of a run: none for words that are no command, nor where no metrics were read
+abbrev pub TakesForRun : Option Asked → Option Files → ℕ → ℕ → Type 0
+TakesForRun None files from to = to ≡ from
+TakesForRun (Some asked) files from to = (to ≡ from) ⊎ TakesForMetrics asked files from to

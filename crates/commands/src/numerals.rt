@@ -1,0 +1,56 @@
+//! Numbers among the words of the command line.
+ghost use Rattle.std.specs.Prelude.{◌≡◌};
+ghost use Rattle.std.specs.Char.{is_ascii_digit};
+ghost use Rattle.std.specs.List.{list_all};
+ghost use Rattle.commands.specs.Numerals.{count_in, is_short_numeral, number_in, seed_in};
+
+/// The most digits of a seed, and of a count.
+const SEED_DIGITS: usize = 20;
+
+const COUNT_DIGITS: usize = 5;
+
+/// The most edits that are drawn.
+const MOST_GENERATED: u64 = 20_000;
+
+/// The seed that a word writes: at most 20 decimal digits, and below 2^64.
+pub fn seed_of(word: &str) -> Option<u64>
+    ensures { result ≡ seed_in word.now }
+{
+    number_of(SEED_DIGITS, word)
+}
+
+/// The count that a word writes: at most 5 decimal digits, and from 1 to 20,000.
+pub fn count_of(word: &str) -> Option<u32>
+    ensures { result ≡ count_in word.now }
+{
+    let count = number_of(COUNT_DIGITS, word)?;
+    if (1 <= count) & (count <= MOST_GENERATED) {
+        Some(count as u32)
+    } else {
+        None
+    }
+}
+
+/// The number that a word of 1 to `most` decimal digits writes, where it is below 2^64.
+fn number_of(most: usize, word: &str) -> Option<u64>
+    ensures { result ≡ number_in most word.now }
+{
+    if is_short_numeral(most, word.as_bytes()) {
+        word.parse().ok()
+    } else {
+        None
+    }
+}
+
+/// Whether a word has decimal digits alone, and at most so many.
+fn is_short_numeral(most: usize, word: &[u8]) -> bool
+    ensures { result ≡ is_short_numeral most word.now }
+{
+    has_digits_alone(word) & (word.len() <= most)
+}
+
+fn has_digits_alone(word: &[u8]) -> bool
+    ensures { result ≡ list_all is_ascii_digit word.now }
+{
+    word.iter().all(|byte| byte.is_ascii_digit())
+}
