@@ -2,14 +2,15 @@
 //!
 //! A `Memo` has the shape of a tree. At each element it keeps the outcomes in the contexts in which
 //! that element was laid out, so that a later layout computes only what an edit changed. An edit
-//! marks the elements on the way to it; what a marked element keeps from before doesn't count. But where
-//! layout sees the same of it as then, except for one child, and all its children are asked alike, its
-//! questions and what the other children answered are taken over: such an entry is made anew where it stands.
+//! marks the elements on the way to it; what a marked element keeps from before doesn't count. But
+//! where layout sees the same of it as then, except for one child, and all its children are asked
+//! alike, its questions and what the other children answered are taken over: such an entry is made
+//! anew where it stands.
 //!
 //! - Models: this project's own; MathML Core says nothing of it.
-//! - Proved: a pass gives the layout exactly, computes nothing that is kept, and nothing twice, and can
-//!   be undone; an outcome that is kept, and follows by the equations from others that do, is that of
-//!   the layout (`laws`).
+//! - Proved: a pass gives the layout exactly, computes nothing that is kept, and nothing twice, and
+//!   can be undone; an outcome that is kept, and follows by the equations from others that do, is
+//!   that of the layout (`laws`).
 //! - Knows nothing of: edits, and by which equation an element of a kind is laid out.
 //! - Change what a kept layout is: `specs/Kept.antt`.
 #![tactic(auto)]
