@@ -7,6 +7,19 @@
 //! alike, its questions and what the other children answered are taken over: such an entry is made
 //! anew where it stands.
 //!
+//! What holds of kept layouts beside a tree is one record, `IsMemoOf` of `specs/Kept.antt`, at each
+//! element (`Agrees`):
+//!
+//! - `facts_are`: it is known what the element is among operators.
+//! - `as_many`: there is one memo for each child.
+//! - `sound`: an entry that is no older one keeps the layout of its element as the tree is now, with
+//!   what was asked for it and answered, of which all is kept (`IsSound`).
+//! - `apart`: no two of these entries are in one context.
+//! - `stays`: where layout sees the same as before the edit but for one child, a regular older entry
+//!   has what the element asks now, and but for that child what is answered now (`StaysBut`).
+//!
+//! An entry is read by `Entry::outcome` and `Entry::answer` alone; what it keeps is `Stores`.
+//!
 //! - Models: this project's own; MathML Core says nothing of it.
 //! - Proved: a pass gives the layout exactly, computes nothing that is kept, and nothing twice, and
 //!   can be undone; an outcome that is kept, and follows by the equations from others that do, is
