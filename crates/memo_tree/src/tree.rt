@@ -64,12 +64,8 @@ impl Model for MemoTree {
 
     ghost view = { λ laid. record { tree = laid.tree; metrics = laid.metrics; memo = laid.memo } };
 
-    ghost invariant = { λ laid. IsHeld (record {
-      tree = laid.tree;
-      metrics = laid.metrics;
-      memo =
-          laid.memo;
-    }) laid.swept };
+    ghost invariant = { λ laid.
+        IsHeld (record { tree = laid.tree; metrics = laid.metrics; memo = laid.memo }) laid.swept };
 }
 
 impl MemoTree {
