@@ -40,7 +40,7 @@ height_at heights row = slice_index_or heights row no_height
 unfoldable pub height_over : List RowHeight → ℕ → ℕ → ℤ
 height_over heights first count =
     sum_to count (λ place. let height = height_at heights (first + place) in
-      height.ascent +ℤ height.descent)
+    height.ascent +ℤ height.descent)
 
 -- the row behind the last that a cell covers
 abbrev pub end_row : List RowHeight → ℕ → SpanCell → ℕ
