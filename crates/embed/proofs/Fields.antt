@@ -48,14 +48,14 @@ module _ {M : Type 1} {𝓤 : Ura M} {𝓛 : Logic 𝓤} {K : Type 0} {Γ : List
       fsplit t $ fpick t (λ vss. fsplit t $ feq_l t (λ ev. fsplit t $ feq_l t (λ ep. drop t $ k
       (subst (λ (ps : List Val). vs ≡ vstruct (of_list (ps ++ [])) ∷ []) ep ev))))
 
-  pub handle_in : K → (p : Ptr) (k : Option DeskValueValue)
+  pub handle_in : K → (p : Ptr) (k : Option DeskValue)
       → Step K 𝓛 (‵ (handle.the_row.own_val (record { at = p; kept = k }) (word p ∷ [])) ∷ Γ) G (‵ (handle_owns p k) ∷ Γ) G
   handle_in t p k = step (λ s.
       nothing t $ feq_i t (List Val) (ptr_val p ∷ []) (ptr_val p ∷ []) refl $ fjoin t $ feq_i t (List Val) (word p ∷ []) (word p ∷ []) refl $ fjoin t $
       fpack t (Valss (RawPtr ∷ [])) (within (shape handle.the_type) (p, tt) (word p ∷ [])) (ptr_val p ∷ [], tt) $ fjoin t $ s)
 
   -- a handle is null and keeps nothing, or points to the desk that it keeps and may be compared with null
-  pub opened : K → (a : Global) (p : Ptr) (k : Option DeskValueValue) → (p ≡ null_ptr → k ≡ None → Seq K 𝓛 Γ G)
+  pub opened : K → (a : Global) (p : Ptr) (k : Option DeskValue) → (p ≡ null_ptr → k ≡ None → Seq K 𝓛 Γ G)
       → ((b o : ℕ) (x : DeskValue) → p ≡ block_ptr b o → k ≡ Some x → Testable (block_ptr b o) → Seq K 𝓛 (‵ (box_owns may_free R (block_ptr b o) x) ∷ Γ) G)
       → Seq K 𝓛 (‵ (handle_owns p k) ∷ Γ) G
   opened t a p None none one = feq_l t (λ e. none e refl)

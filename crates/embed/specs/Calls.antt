@@ -32,6 +32,12 @@ pub record Copies (text old new : List ℕ) (told : ℕ) : Type 0 where
   pub rest : drop (length text) new ≡ drop (length text) old
   pub length : told ≡ length text
 
+-- the text is copied where there is room for it, and else its length alone is told
+abbrev pub Puts : List ℕ → List ℕ → List ℕ → ℕ → Answer → Type 0
+Puts text old new told Done = Copies text old new told
+Puts text old new told Short = (length old < length text) × (new ≡ old) × (told ≡ length text)
+Puts text old new told answer = ⊥
+
 -- the room that a caller has for the line of a refusal
 abbrev pub refusal_room : ℕ
 refusal_room = 160

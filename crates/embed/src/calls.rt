@@ -1,10 +1,11 @@
-ghost use Rattle.std.specs.Prelude.{◌≡◌, ◌≢◌, ◌≤◌, length, None, IsTrue, ◌↔◌, IfOk, IfErr, Err, Ok};
+ghost use Rattle.std.specs.Prelude.{◌≡◌, ◌≢◌, ◌↔◌, None, Some, IsTrue, IfOk, IfErr, Err, Ok};
 ghost use Rattle.commands.specs.Answer.{opened as opened_session};
 ghost use Rattle.commands.specs.Ends.{GivesOr};
-ghost use Rattle.embed.specs.Calls.{Copies, Lines, Measures, Opens, Shows, Tells, seen};
+ghost use Rattle.embed.specs.Calls.{Lines, Measures, Opens, Shows, Tells, seen};
 ghost use Rattle.embed.specs.Desks.{fresh};
 
 use crate::answer::Answer;
+use crate::copying::copy_to;
 use crate::desk::Desk;
 use crate::frame::Frame;
 use crate::handle::Handle;
@@ -76,15 +77,6 @@ fn desk_of(alloc: Global, metrics: &[u8], tree: &[u8]) -> Result<Box<Desk>, Refu
     }
 }
 
-/// Copies a text to the front of a buffer, and tells its length.
-fn copy_to(text: &[u8], out: &mut [u8], len: &mut usize)
-    requires { length text.now ≤ length out.old }
-    ensures { Copies text.now out.old out.new len.new }
-{
-    out[..text.len()].copy_from_slice(text);
-    *len = text.len();
-}
-
 /// Does what a line of a script asks for.
 pub fn answered(alloc: Global, handle: &mut Handle, line: &[u8]) -> Answer
     ensures { Lines line.now handle.old.kept handle.new.kept result }
@@ -137,26 +129,9 @@ pub fn told(alloc: Global, handle: &mut Handle, out: &mut [u8], len: &mut usize)
     match handle.take(alloc) {
         None => Answer::Closed,
         Some(mut desk) => {
-            let answer = tell(alloc, desk.as_mut(), out, len);
+            let answer = desk.as_mut().tell(alloc, out, len);
             handle.keep(alloc, desk);
             answer
-        }
-    }
-}
-
-/// Copies the last reply of a desk.
-fn tell(alloc: Global, desk: &mut Desk, out: &mut [u8], len: &mut usize) -> Answer
-    ensures { Tells (seen (Some desk.old) out.old len.old) (seen (Some desk.new) out.new len.new) result }
-{
-    match desk.text(alloc) {
-        Err(Memory) => Answer::Memory,
-        Ok(text) => {
-            if out.len() < text.len() {
-                *len = text.len();
-                return Answer::Short;
-            }
-            copy_to(text, out, len);
-            Answer::Done
         }
     }
 }

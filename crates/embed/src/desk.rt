@@ -1,10 +1,12 @@
-ghost use Rattle.std.specs.Prelude.{◌≡◌, ◌≢◌, ◌<◌, [], length, Ok, Err, IfOk, IfErr, OnOk, OnErr};
-ghost use Rattle.doc_io.specs.LineReader.{longest_line};
+ghost use Rattle.std.specs.Prelude.{◌≡◌, ◌<◌, Some, Ok, Err, IfOk, IfErr, OnOk, OnErr};
 ghost use Rattle.edit_session.specs.Session.{root_box};
 ghost use Rattle.commands.specs.Answer.{opened};
 ghost use Rattle.commands.specs.Ends.{GivesOr};
-ghost use Rattle.embed.specs.Desks.{after, fresh, shown, text};
+ghost use Rattle.embed.specs.Calls.{Tells, seen};
+ghost use Rattle.embed.specs.Desks.{after, fresh, shown};
 
+use crate::answer::Answer;
+use crate::copying::put;
 use crate::growing::text_of_reply;
 use commands::{Refusal, Reply, open, reply_to};
 use edit_session::Session;
@@ -112,17 +114,19 @@ impl Desk {
         Ok(())
     }
 
-    /// The bytes of the reply. They are made once.
-    pub fn text(&mut self, alloc: Global) -> Result<&[u8], Memory>
-        ensures text { IfOk result (λ bytes. bytes.now ≡ text self.old) }
-        ensures unchanged { self.new ≡ self.old }
+    /// Copies the bytes of the reply to the front of a buffer and tells their number. They are made once.
+    pub fn tell(&mut self, alloc: Global, out: &mut [u8], len: &mut usize) -> Answer
+        ensures { Tells (seen (Some self.old) out.old len.old) (seen (Some self.new) out.new len.new) result }
     {
         if self.text.is_none() {
-            self.text = Some(text_of_reply(alloc, &self.reply, self.session.metrics())?);
+            match text_of_reply(alloc, &self.reply, self.session.metrics()) {
+                Ok(text) => self.text = Some(text),
+                Err(Memory) => return Answer::Memory,
+            }
         }
         match &self.text {
-            Some(text) => Ok(text.as_slice()),
-            None => Err(Memory),
+            Some(text) => put(text.as_slice(), out, len),
+            None => Answer::Memory,
         }
     }
 

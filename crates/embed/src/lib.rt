@@ -15,6 +15,7 @@
 
 mod answer; // Answer
 mod calls; // what each export does
+mod copying; // texts into buffers
 mod desk; // Desk
 mod frame; // Frame
 mod growing; // a sink in memory

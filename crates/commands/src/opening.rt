@@ -1,6 +1,5 @@
 ghost use Rattle.std.specs.Prelude.{◌≡◌, Ok, Err, IfOk, IfErr};
-ghost use Rattle.font_metrics.specs.Metrics.{MetricsValue};
-ghost use Rattle.commands.specs.Answer.{metrics_in, opened, started, tree_in, ◌>>=◌};
+ghost use Rattle.commands.specs.Answer.{metrics_in, opened, opened_over, tree_in};
 ghost use Rattle.commands.specs.Ends.{GivesOr};
 
 use crate::load::{TREE_LIMIT, metrics_of, tree_of};
@@ -29,6 +28,7 @@ pub fn open<L: Ledger>(
 }
 
 /// The metrics of a file's bytes, which may be too many.
+#[tactic(auto, unfolding(crate::specs::Answer::metrics_in))]
 fn metrics_in(alloc: Global, bytes: &[u8]) -> Result<Metrics, Refusal>
     ensures { GivesOr (metrics_in bytes.now) result }
 {
@@ -45,8 +45,8 @@ fn open_tree<L: Ledger>(
     tree: &[u8],
     steps: &mut Steps<L>,
 ) -> Result<Session, Refusal>
-    ensures session { IfOk result (λ session. (tree_in tree.now >>= started metrics) ≡ Ok session.held) }
-    ensures refused { IfErr result (λ refusal. GivesOr (tree_in tree.now >>= started metrics) (Err refusal)) }
+    ensures session { IfOk result (λ session. opened_over metrics tree.now ≡ Ok session.held) }
+    ensures refused { IfErr result (λ refusal. GivesOr (opened_over metrics tree.now) (Err refusal)) }
 {
     match tree_in(alloc, tree) {
         Ok(tree) => start(alloc, metrics, tree, steps),
@@ -59,6 +59,7 @@ fn open_tree<L: Ledger>(
 }
 
 /// The tree of a file's bytes, which may be too many.
+#[tactic(auto, unfolding(crate::specs::Answer::tree_in))]
 fn tree_in(alloc: Global, bytes: &[u8]) -> Result<Tree, Refusal>
     ensures { GivesOr (tree_in bytes.now) result }
 {
