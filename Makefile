@@ -11,9 +11,13 @@ MAN = $(DESTDIR)$(PREFIX)/share/man/man1
 PROGRAM = crates/mathlay/out/mathlay
 TOOLS = page formula picture font_metrics mathml_tree explain
 
+KIT = $(dir $(shell rt doc))
+ARCHIVE = crates/embed/out/libembed.a
+
 help:
 	@echo 'make install PREFIX=FOLDER    the program, the tools and the manual page (PREFIX is $(PREFIX))'
 	@echo 'make uninstall PREFIX=FOLDER  removes them'
+	@echo 'make library                  libmathlay.a and libmathlay.so, proved by `rt lib` first'
 	@echo 'make test                     the tests of the tools'
 
 $(PROGRAM):
@@ -38,7 +42,16 @@ uninstall:
 	rm -f $(BIN)/mathlay $(TOOLS:%=$(BIN)/mathlay-%) $(MAN)/mathlay.1
 	rm -rf $(SHARE)
 
+# The archive stands alone: the kit's heap, over malloc, is put in.
+library:
+	cd crates/embed && rt lib
+	cp $(ARCHIVE) libmathlay.a
+	mkdir -p build && cd build && ar x $(KIT)c/liblibc_c.a heap.pic.o
+	ar rs libmathlay.a build/heap.pic.o
+	$(CC) -shared -o libmathlay.so -Wl,--whole-archive libmathlay.a -Wl,--no-whole-archive \
+	    -Wl,--no-undefined -Wl,--version-script=include/mathlay.map
+
 test:
 	cd tools && python3 -B -m tests
 
-.PHONY: help install uninstall test
+.PHONY: help install library uninstall test

@@ -101,6 +101,18 @@ started metrics tree =
     if is_tree_in_range metrics tree then Ok (record { tree = tree; metrics = metrics })
     else Err Range
 
+-- the session with which work begins, by these metrics and the bytes of a tree file
+abbrev pub opened_over : MetricsValue → List ℕ → Result SessionValue Refusal
+opened_over metrics tree_bytes = do
+  tree ← tree_in tree_bytes
+  started metrics tree
+
+-- the same by the bytes of both files
+abbrev pub opened : List ℕ → List ℕ → Result SessionValue Refusal
+opened metrics_bytes tree_bytes = do
+  metrics ← metrics_in metrics_bytes
+  opened_over metrics tree_bytes
+
 -- the lines of the boxes and marks of the tree, whose baseline begins at (0, 0)
 abbrev pub lines_of_page : SessionValue → List ℕ
 lines_of_page session = text_of session.metrics (page session)

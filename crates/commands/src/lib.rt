@@ -19,6 +19,7 @@ mod command; // the words of the command line
 pub mod laws; // of all scripts
 mod load; // the files
 mod numerals; // numbers among the words
+mod opening; // a session of two files' bytes
 mod program; // the top call
 mod refusal; // why the answer is another
 mod replies; // the lines of a script, one after another
@@ -26,5 +27,8 @@ mod reply; // to one line
 mod script; // white space
 mod status; // how a run ends
 
+pub use opening::open;
 pub use program::run;
+pub use refusal::Refusal;
+pub use reply::{Cause, Reply, reply_to};
 pub use status::Status;

@@ -16,7 +16,7 @@ use serde_json::Value;
 use std::alloc::Global;
 
 /// The most bytes that a tree file may have: 4 MiB.
-const TREE_LIMIT: usize = 4_194_304;
+pub(crate) const TREE_LIMIT: usize = 4_194_304;
 
 /// Reads the metrics of a file.
 pub fn load_metrics<I: Inputs>(
@@ -36,7 +36,7 @@ pub fn load_metrics<I: Inputs>(
 }
 
 /// The metrics of a file's bytes.
-fn metrics_of(alloc: Global, bytes: &[u8]) -> Result<Metrics, Refusal>
+pub(crate) fn metrics_of(alloc: Global, bytes: &[u8]) -> Result<Metrics, Refusal>
     requires { length bytes.now ≤ most_file_bytes }
     ensures { GivesOr (of_metrics_file (metrics_of bytes.now)) result }
 {
@@ -57,7 +57,7 @@ pub fn load_tree<I: Inputs>(alloc: Global, name: &str, inputs: &mut I) -> Result
 }
 
 /// The tree of a file's bytes.
-fn tree_of(alloc: Global, bytes: &[u8]) -> Result<Tree, Refusal>
+pub(crate) fn tree_of(alloc: Global, bytes: &[u8]) -> Result<Tree, Refusal>
     ensures { GivesOr (tree_of_json (json_in bytes.now)) result }
 {
     match Value::from_slice(alloc, bytes) {

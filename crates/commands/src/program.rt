@@ -241,7 +241,7 @@ fn edit<I: Inputs, O: Sink, L: Ledger>(
 }
 
 /// The session of a tree that is laid out.
-fn start<L: Ledger>(
+pub(crate) fn start<L: Ledger>(
     alloc: Global,
     metrics: Metrics,
     tree: Tree,

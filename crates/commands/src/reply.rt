@@ -1,4 +1,4 @@
-ghost use Rattle.std.specs.Prelude.{◌≡◌, ◌≤◌, ◌∷◌, [], All, IfOk, OnOk, Some, codes, length};
+ghost use Rattle.std.specs.Prelude.{◌≡◌, ◌≤◌, ◌∷◌, [], All, IfOk, OnErr, OnOk, Some, codes, length};
 ghost use Rattle.doc_io.specs.Lines.{line as line_of_words};
 ghost use Rattle.doc_io.specs.Whole.{WritesAll};
 ghost use Rattle.tree_edits.specs.Applying.{IsProperEdit};
@@ -52,6 +52,7 @@ pub fn reply_to<L: Ledger>(
     ensures reply { IfOk result (λ reply. reply ≡ reply_to session.old.held line.now) }
     ensures glyphs { IfOk result (IsReplyOfFont session.old.held.metrics) }
     ensures session { OnOk result (session.new.held ≡ after_line session.old.held line.now) }
+    ensures unchanged { OnErr result (session.new.held ≡ session.old.held) }
     ensures taken { TakesForLine session.old.held line.now steps.old steps.new }
 {
     if is_white_space(line) {
@@ -75,6 +76,7 @@ fn carry_out<L: Ledger>(
     ensures reply { IfOk result (λ reply. reply ≡ reply_to_command session.old.held (Some command)) }
     ensures glyphs { IfOk result (IsReplyOfFont session.old.held.metrics) }
     ensures session { OnOk result (session.new.held ≡ after_command session.old.held (Some command)) }
+    ensures unchanged { OnErr result (session.new.held ≡ session.old.held) }
     ensures taken { TakesForEdit session.old.held (accepted_by session.old.held (Some command))
         steps.old steps.new }
 {
@@ -96,6 +98,7 @@ fn change<L: Ledger>(
     ensures glyphs { IfOk result (IsReplyOfFont session.old.held.metrics) }
     ensures session { OnOk result
         (session.new.held ≡ after_reply (reply_to_edit session.old.held edit) session.old.held edit) }
+    ensures unchanged { OnErr result (session.new.held ≡ session.old.held) }
     ensures taken { TakesForEdit session.old.held
         (unless_refused (refusal_of session.old.held.tree edit) edit) steps.old steps.new }
 {

@@ -1,0 +1,170 @@
+"""mathlay in Python: formulas that are laid out, edited and laid out again, by the proved library.
+
+    from mathlay import Session
+
+    with Session(metrics_bytes, tree_bytes) as session:
+        session.line(b'{"op":"text","node":14,"text":"44"}')    # b'ok\\n'
+        session.show()                                          # the lines of all boxes and marks
+        session.root().width                                    # in 1/1024 px
+
+The library is a shared object, `libmathlay.so` (`make library` at the top of the repository). It is looked for in the
+variable MATHLAY_LIBRARY, beside this file, at the top of the repository, and where the system keeps libraries.
+"""
+import ctypes
+import ctypes.util
+import os
+import pathlib
+from typing import NamedTuple
+
+__all__ = ["Frame", "MathlayError", "Refusal", "Session", "library"]
+
+DONE, SHORT, REFUSAL_ROOM = 0, 34, 160
+
+NAMES = {
+    3: "the metrics file is too long, or has a fault",
+    4: "the tree file is too long, no JSON, or has a fault",
+    7: "memory was refused",
+    8: "a size of the layout is out of range",
+    9: "the line has more than 1,048,576 bytes",
+    32: "the session is open already",
+    33: "the session is closed",
+    34: "the buffer is too short",
+}
+
+
+class MathlayError(Exception):
+    """A call wasn't done. `status` is its number, and `line` what the program would have written."""
+
+    def __init__(self, status: int, line: bytes = b"") -> None:
+        self.status = status
+        self.line = line
+        told = line.decode().strip()
+        super().__init__(NAMES.get(status, f"status {status}") + (f": {told}" if told else ""))
+
+
+class Refusal(MathlayError):
+    """The files give no session."""
+
+
+class Frame(NamedTuple):
+    """The box of an element, in 1/1024 px: ascents count upward from the baseline, descents downward."""
+
+    width: int
+    ascent: int
+    descent: int
+    ink_ascent: int
+    ink_descent: int
+    italic: int
+    accent: int
+
+
+class _Handle(ctypes.Structure):
+    _fields_ = [("at", ctypes.c_void_p)]
+
+
+class _Frame(ctypes.Structure):
+    _fields_ = [(name, ctypes.c_int64) for name in Frame._fields]
+
+
+_LIBRARY = None
+
+
+def _paths():
+    here = pathlib.Path(__file__).resolve()
+    if "MATHLAY_LIBRARY" in os.environ:
+        yield os.environ["MATHLAY_LIBRARY"]
+    for folder in (here.parent, here.parents[2] if len(here.parents) > 2 else here.parent):
+        path = folder / "libmathlay.so"
+        if path.exists():
+            yield str(path)
+    found = ctypes.util.find_library("mathlay")
+    if found:
+        yield found
+
+
+def library() -> ctypes.CDLL:
+    """The shared object, loaded once. `OSError` where there is none."""
+    global _LIBRARY
+    if _LIBRARY is None:
+        path = next(_paths(), None)
+        if path is None:
+            raise OSError("libmathlay.so isn't there: `make library` at the top of the repository makes it")
+        _LIBRARY = _typed(ctypes.CDLL(path))
+    return _LIBRARY
+
+
+def _typed(loaded: ctypes.CDLL) -> ctypes.CDLL:
+    text, size, handle = ctypes.c_char_p, ctypes.c_size_t, ctypes.POINTER(_Handle)
+    told = ctypes.POINTER(ctypes.c_size_t)
+    for name, types, result in (
+        ("open", [text, size, text, size, handle, text, size, told], ctypes.c_uint32),
+        ("line", [handle, text, size], ctypes.c_uint32),
+        ("show", [handle], ctypes.c_uint32),
+        ("reply", [handle, text, size, told], ctypes.c_uint32),
+        ("root", [handle, ctypes.POINTER(_Frame)], ctypes.c_uint32),
+        ("close", [handle], None),
+    ):
+        call = getattr(loaded, "mathlay_" + name)
+        call.argtypes, call.restype = types, result
+    return loaded
+
+
+class Session:
+    """A formula that is laid out, and stays laid out under edits. One thread at a time."""
+
+    def __init__(self, metrics: bytes, tree: bytes) -> None:
+        """Lays the tree of a JSON text out with a metrics file's bytes, or raises `Refusal`."""
+        self._library = library()
+        self._handle = _Handle()
+        line = ctypes.create_string_buffer(REFUSAL_ROOM)
+        length = ctypes.c_size_t()
+        status = self._library.mathlay_open(
+            metrics, len(metrics), tree, len(tree), self._handle, line, REFUSAL_ROOM, length
+        )
+        if status != DONE:
+            raise Refusal(status, line.raw[: length.value])
+
+    def line(self, line: bytes) -> bytes:
+        """Answers one line of a script, without its line feed. An edit that is refused is a reply too."""
+        self._ask(self._library.mathlay_line(self._handle, line, len(line)))
+        return self.reply()
+
+    def show(self) -> bytes:
+        """The lines of all boxes and marks, behind a line `shown`."""
+        self._ask(self._library.mathlay_show(self._handle))
+        return self.reply()
+
+    def reply(self) -> bytes:
+        """The reply to the last line or show."""
+        length, room = ctypes.c_size_t(), 64
+        while True:
+            out = ctypes.create_string_buffer(room)
+            status = self._library.mathlay_reply(self._handle, out, room, length)
+            if status != SHORT:
+                self._ask(status)
+                return out.raw[: length.value]
+            room = length.value
+
+    def root(self) -> Frame:
+        """The box of the whole formula."""
+        frame = _Frame()
+        self._ask(self._library.mathlay_root(self._handle, frame))
+        return Frame(*(getattr(frame, name) for name in Frame._fields))
+
+    def close(self) -> None:
+        """Ends the session. A closed one may be closed again."""
+        if getattr(self, "_handle", None) is not None:
+            self._library.mathlay_close(self._handle)
+
+    __del__ = close
+
+    def __enter__(self) -> "Session":
+        return self
+
+    def __exit__(self, *_) -> None:
+        self.close()
+
+    @staticmethod
+    def _ask(status: int) -> None:
+        if status != DONE:
+            raise MathlayError(status)

@@ -1,0 +1,98 @@
+//! The engine for other programs: sessions that a C program holds from call to call, in a static
+//! library. `include/mathlay.h` is what a C program reads.
+//!
+//! A handle is closed, or it keeps a desk: a session and the reply to the last call. No call has a
+//! condition: a closed handle, one that is open already, a line that is too long, a buffer that is
+//! too short are told, and lose nothing.
+//!
+//! - Models: the lines of docs/FORMATS.md, and their replies.
+//! - Proved: what each call makes of the session that the handle keeps, and of the caller's buffer,
+//!   and when it gives each of its answers (`specs/Calls.antt`).
+//! - Not proved: what the C program owes, which stands in the header.
+//! - Knows nothing of: files, fonts, how a line is answered.
+//! - Change a call: its definition in `specs/Calls.antt`, then its function here, then the header.
+#![tactic(auto)]
+
+mod answer; // Answer
+mod calls; // what each export does
+mod copying; // texts into buffers
+mod desk; // Desk
+mod frame; // Frame
+mod growing; // a sink in memory
+mod handle; // Handle
+
+ghost use Rattle.std.specs.Prelude.{◌≡◌, None};
+ghost use Rattle.embed.specs.Calls.{Answers, Lines, Measures, Opens, Shows, Tells, seen};
+
+pub use answer::Answer;
+use calls::{answered, measured, opened, shown, told};
+pub use frame::Frame;
+pub use handle::Handle;
+use std::alloc::Global;
+
+/// Opens a session in a closed handle, over the bytes of a metrics file and of a tree file. A refusal
+/// is told by the program's status and by the program's line, for which there must be 160 bytes of
+/// room.
+#[unsafe(no_mangle)]
+pub extern "C" fn mathlay_open(
+    alloc: Global,
+    metrics: &[u8],
+    tree: &[u8],
+    handle: &mut Handle,
+    refusal: &mut [u8],
+    refusal_len: &mut usize,
+) -> u32
+    ensures { Answers (Opens metrics.now tree.now
+        (seen handle.old.kept refusal.old refusal_len.old)
+        (seen handle.new.kept refusal.new refusal_len.new)) result }
+{
+    opened(alloc, metrics, tree, handle, refusal, refusal_len).number()
+}
+
+/// Does what a line of a script asks for. The reply is kept.
+#[unsafe(no_mangle)]
+pub extern "C" fn mathlay_line(alloc: Global, handle: &mut Handle, line: &[u8]) -> u32
+    ensures { Answers (Lines line.now handle.old.kept handle.new.kept) result }
+{
+    answered(alloc, handle, line).number()
+}
+
+/// Keeps the lines of the page's boxes and marks as the reply.
+#[unsafe(no_mangle)]
+pub extern "C" fn mathlay_show(alloc: Global, handle: &mut Handle) -> u32
+    ensures { Answers (Shows handle.old.kept handle.new.kept) result }
+{
+    shown(alloc, handle).number()
+}
+
+/// Copies the last reply to the front of a buffer, and tells how long it is. Where the buffer is too
+/// short nothing is written, and the length is told.
+#[unsafe(no_mangle)]
+pub extern "C" fn mathlay_reply(
+    alloc: Global,
+    handle: &mut Handle,
+    out: &mut [u8],
+    len: &mut usize,
+) -> u32
+    ensures { Answers (Tells (seen handle.old.kept out.old len.old)
+        (seen handle.new.kept out.new len.new)) result }
+{
+    told(alloc, handle, out, len).number()
+}
+
+/// The box of the tree's root.
+#[unsafe(no_mangle)]
+pub extern "C" fn mathlay_root(alloc: Global, handle: &mut Handle, frame: &mut Frame) -> u32
+    ensures kept { handle.new.kept ≡ handle.old.kept }
+    ensures measures { Answers (Measures handle.old.kept frame.old frame.new) result }
+{
+    measured(alloc, handle, frame).number()
+}
+
+/// Ends the session, if there is one. The handle is closed then, and may be used again.
+#[unsafe(no_mangle)]
+pub extern "C" fn mathlay_close(alloc: Global, handle: &mut Handle)
+    ensures { handle.new.kept ≡ None }
+{
+    std::mem::drop(handle.take(alloc));
+}

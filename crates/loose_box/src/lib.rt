@@ -1,0 +1,43 @@
+//! A box taken apart to its raw pointer, and made a box again, over any type. What C holds of a value
+//! between two calls is such a pointer.
+//!
+//! - Models: `Box::into_raw` and `Box::from_raw` of std.
+//! - Proved: a box that is made again has the value that it had. Both proofs are by hand.
+//! - Knows nothing of: C, and what the box keeps.
+//! - Change what is owned: `Loose`'s model, then both proofs.
+#![tactic(auto)]
+
+ghost use Rattle.std.specs.Prelude.{◌≡◌};
+ghost use Rattle.std.specs.Box.Ownership.{box_owns};
+
+use std::alloc::Allocator;
+use std::marker::Model;
+
+/// A box taken apart. The pointer by itself owns nothing: the struct owns the block and its value.
+pub struct Loose<T, A: Allocator> {
+    pub at: *mut T,
+    pub alloc: A,
+    pub ghost value: { T },
+}
+
+impl<T, A: Allocator> Model for Loose<T, A> {
+    ghost also_owns = { λ l. box_owns (A.dealloc_token l.alloc) T.row l.at l.value };
+}
+
+impl<T: Drop, A: Allocator> Loose<T, A> {
+    /// Takes a box apart.
+    pub fn of(value: Box<T, A>) -> Loose<T, A>
+        ensures { result.value ≡ value.value }
+    {
+        let (at, alloc) = Box::into_raw_with_allocator(value);
+        Loose { at, alloc }
+    }
+
+    /// Makes it a box again.
+    pub fn into_box(self) -> Box<T, A>
+        ensures { result.value ≡ self.value }
+    {
+        let Loose { at, alloc } = self;
+        unsafe { Box::from_raw(alloc, at) }
+    }
+}

@@ -1,0 +1,82 @@
+/* mathlay: layout of mathematics with proved boxes, as a library.
+
+   A session lays out one formula and keeps it laid out under edits. Its lines and replies are those of
+   `mathlay edit`: docs/FORMATS.md has them all. docs/EMBEDDING.md shows the calls by example.
+
+   What a caller owes, and nobody checks:
+   1. A session starts as MATHLAY_CLOSED, and then the calls alone write it. It is never copied, except as a move after
+      which the old one isn't used.
+   2. No pointer is null, even with a length of 0; each points to as many bytes as its length says, of which those that
+      are read have a value; what a call writes overlaps no other argument.
+   3. One call at a time on a session. It may go from thread to thread, ordered by a lock, a start or a join. */
+#ifndef MATHLAY_H
+#define MATHLAY_H
+
+#include <stddef.h>
+#include <stdint.h>
+
+#ifdef __cplusplus
+extern "C" {
+#endif
+
+/* A session, open or closed. What `at` points to is the library's own. */
+typedef struct mathlay_session {
+    void *at;
+} mathlay_session;
+
+#define MATHLAY_CLOSED { NULL }
+
+/* What a call answers. Up to 31 it is the status with which the program ends for the same cause. */
+enum mathlay_answer {
+    MATHLAY_DONE = 0,
+    MATHLAY_METRICS = 3,   /* the metrics file is too long, or has a fault */
+    MATHLAY_TREE = 4,      /* the tree file is too long, no JSON, or has a fault */
+    MATHLAY_MEMORY = 7,    /* memory was refused */
+    MATHLAY_RANGE = 8,     /* a size of the layout is out of range */
+    MATHLAY_LINE_LONG = 9, /* the line has more than 1,048,576 bytes */
+    MATHLAY_OPEN = 32,     /* the session is open already */
+    MATHLAY_NOT_OPEN = 33, /* the session is closed */
+    MATHLAY_SHORT = 34     /* the buffer is too short */
+};
+
+/* The least room for the line of a refusal. */
+#define MATHLAY_REFUSAL_ROOM 160
+
+/* The box of an element, in 1/1024 px. Ascents count upward from the baseline, descents downward. */
+typedef struct mathlay_frame {
+    int64_t width;
+    int64_t ascent;
+    int64_t descent;
+    int64_t ink_ascent;
+    int64_t ink_descent;
+    int64_t italic; /* how far the ink leans out at the end */
+    int64_t accent; /* where an accent is centred, from the start of the box */
+} mathlay_frame;
+
+/* Opens a closed session over the bytes of a metrics file and of a tree file, and lays the tree out. A refusal is told by
+   its line, as `metrics 4 13` with a line feed, at the front of `refusal`, which has room for MATHLAY_REFUSAL_ROOM bytes
+   at least; `refusal_len` is told how long it is, and 0 where memory was refused. */
+uint32_t mathlay_open(const uint8_t *metrics, size_t metrics_len, const uint8_t *tree, size_t tree_len,
+                      mathlay_session *session, uint8_t *refusal, size_t refusal_room, size_t *refusal_len);
+
+/* Does what a line of a script asks for, without its line feed. The reply is kept until the next line or show. After
+   MATHLAY_MEMORY the session and its last reply are as before. */
+uint32_t mathlay_line(mathlay_session *session, const uint8_t *line, size_t line_len);
+
+/* Keeps the lines of all boxes and marks as the reply, behind a line `shown`. */
+uint32_t mathlay_show(mathlay_session *session);
+
+/* Copies the kept reply to the front of `out`. Where the room is too short it writes nothing, tells the length in `len`
+   and answers MATHLAY_SHORT; nothing is lost. */
+uint32_t mathlay_reply(mathlay_session *session, uint8_t *out, size_t out_room, size_t *len);
+
+/* The box of the whole formula. */
+uint32_t mathlay_root(mathlay_session *session, mathlay_frame *frame);
+
+/* Ends the session, if it is open. It is closed then, and may be opened again. */
+void mathlay_close(mathlay_session *session);
+
+#ifdef __cplusplus
+}
+#endif
+#endif
