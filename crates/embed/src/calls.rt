@@ -1,4 +1,4 @@
-ghost use Rattle.std.specs.Prelude.{◌≡◌, ◌≢◌, ◌↔◌, None, Some, IsTrue, IfOk, IfErr, Err, Ok};
+ghost use Rattle.std.specs.Prelude.{◌≡◌, ◌≢◌, true, false, None, Some, IfOk, IfErr, Err, Ok};
 ghost use Rattle.commands.specs.Answer.{opened as opened_session};
 ghost use Rattle.commands.specs.Ends.{GivesOr};
 ghost use Rattle.embed.specs.Calls.{Lines, Measures, Opens, Shows, Tells, seen};
@@ -52,7 +52,8 @@ pub fn opened(
 
 /// Whether the handle keeps a session.
 fn is_open(alloc: Global, handle: &mut Handle) -> bool
-    ensures open { IsTrue result ↔ (handle.old.kept ≢ None) }
+    ensures some { result ≡ true → handle.old.kept ≢ None }
+    ensures none { result ≡ false → handle.old.kept ≡ None }
     ensures kept { handle.new.kept ≡ handle.old.kept }
 {
     match handle.take(alloc) {
