@@ -8,6 +8,8 @@ PREFIX = /usr/local
 BIN = $(DESTDIR)$(PREFIX)/bin
 SHARE = $(DESTDIR)$(PREFIX)/share/mathlay
 MAN = $(DESTDIR)$(PREFIX)/share/man/man1
+LIB = $(DESTDIR)$(PREFIX)/lib
+INCLUDE = $(DESTDIR)$(PREFIX)/include
 PROGRAM = crates/mathlay/out/mathlay
 TOOLS = page formula picture font_metrics mathml_tree explain
 
@@ -18,6 +20,7 @@ help:
 	@echo 'make install PREFIX=FOLDER    the program, the tools and the manual page (PREFIX is $(PREFIX))'
 	@echo 'make uninstall PREFIX=FOLDER  removes them'
 	@echo 'make library                  libmathlay.a and libmathlay.so, proved by `rt lib` first'
+	@echo 'make install-library          both, with the header and the Python module'
 	@echo 'make test                     the tests of the tools'
 
 $(PROGRAM):
@@ -40,6 +43,7 @@ install: $(PROGRAM)
 
 uninstall:
 	rm -f $(BIN)/mathlay $(TOOLS:%=$(BIN)/mathlay-%) $(MAN)/mathlay.1
+	rm -f $(LIB)/libmathlay.a $(LIB)/libmathlay.so $(INCLUDE)/mathlay.h
 	rm -rf $(SHARE)
 
 # The archive stands alone: the kit's heap, over malloc, is put in.
@@ -51,7 +55,18 @@ library:
 	$(CC) -shared -o libmathlay.so -Wl,--whole-archive libmathlay.a -Wl,--no-whole-archive \
 	    -Wl,--no-undefined -Wl,--version-script=include/mathlay.map
 
+install-library: libmathlay.a libmathlay.so
+	mkdir -p $(LIB) $(INCLUDE) $(SHARE)/python
+	install -m 644 include/mathlay.h $(INCLUDE)/mathlay.h
+	install -m 644 libmathlay.a $(LIB)/libmathlay.a
+	install -m 755 libmathlay.so $(LIB)/libmathlay.so
+	install -m 644 bindings/python/mathlay.py $(SHARE)/python/mathlay.py
+
+libmathlay.a libmathlay.so:
+	@echo '$@ is not there: `make library` makes it' >&2
+	@exit 1
+
 test:
 	cd tools && python3 -B -m tests
 
-.PHONY: help install library uninstall test
+.PHONY: help install library install-library uninstall test

@@ -36,7 +36,8 @@ enum mathlay_answer {
     MATHLAY_LINE_LONG = 9, /* the line has more than 1,048,576 bytes */
     MATHLAY_OPEN = 32,     /* the session is open already */
     MATHLAY_NOT_OPEN = 33, /* the session is closed */
-    MATHLAY_SHORT = 34     /* the buffer is too short */
+    MATHLAY_SHORT = 34,    /* the buffer is too short */
+    MATHLAY_NOTHING = 35   /* no box holds the point */
 };
 
 /* The least room for the line of a refusal. */
@@ -72,6 +73,11 @@ uint32_t mathlay_reply(mathlay_session *session, uint8_t *out, size_t out_room, 
 
 /* The box of the whole formula. */
 uint32_t mathlay_root(mathlay_session *session, mathlay_frame *frame);
+
+/* The number of the element at a point, as box lines have it: of those whose boxes hold the point, the last of the deepest.
+   A box holds its left and its upper edge, and not the others. The point is given in 1/1024 px, to the right and downward
+   from where the baseline of the whole begins, as in the lines of boxes. */
+uint32_t mathlay_hit(mathlay_session *session, int64_t x, int64_t y, uint32_t *element);
 
 /* Ends the session, if it is open. It is closed then, and may be opened again. */
 void mathlay_close(mathlay_session *session);

@@ -8,17 +8,21 @@
         session.root().width                                    # in 1/1024 px
 
 The library is a shared object, `libmathlay.so` (`make library` at the top of the repository). It is looked for in the
-variable MATHLAY_LIBRARY, beside this file, at the top of the repository, and where the system keeps libraries.
+variable MATHLAY_LIBRARY, beside this file, at the top of the repository, where `make install-library` puts it, and where the
+system keeps libraries.
 """
 import ctypes
 import ctypes.util
 import os
 import pathlib
-from typing import NamedTuple
+import threading
+from typing import NamedTuple, Optional
 
 __all__ = ["Frame", "MathlayError", "Refusal", "Session", "library"]
 
-DONE, SHORT, REFUSAL_ROOM = 0, 34, 160
+DONE, SHORT, NOTHING = 0, 34, 35
+REFUSAL_ROOM = 160
+FARTHEST = 2**62
 
 NAMES = {
     3: "the metrics file is too long, or has a fault",
@@ -29,6 +33,7 @@ NAMES = {
     32: "the session is open already",
     33: "the session is closed",
     34: "the buffer is too short",
+    35: "no box holds the point",
 }
 
 
@@ -73,7 +78,9 @@ def _paths():
     here = pathlib.Path(__file__).resolve()
     if "MATHLAY_LIBRARY" in os.environ:
         yield os.environ["MATHLAY_LIBRARY"]
-    for folder in (here.parent, here.parents[2] if len(here.parents) > 2 else here.parent):
+    above = list(here.parents)
+    # the top of the repository, or where `make install-library` puts it
+    for folder in (here.parent, *above[2:3], *(folder / "lib" for folder in above[3:4])):
         path = folder / "libmathlay.so"
         if path.exists():
             yield str(path)
@@ -102,6 +109,7 @@ def _typed(loaded: ctypes.CDLL) -> ctypes.CDLL:
         ("show", [handle], ctypes.c_uint32),
         ("reply", [handle, text, size, told], ctypes.c_uint32),
         ("root", [handle, ctypes.POINTER(_Frame)], ctypes.c_uint32),
+        ("hit", [handle, ctypes.c_int64, ctypes.c_int64, ctypes.POINTER(ctypes.c_uint32)], ctypes.c_uint32),
         ("close", [handle], None),
     ):
         call = getattr(loaded, "mathlay_" + name)
@@ -110,11 +118,15 @@ def _typed(loaded: ctypes.CDLL) -> ctypes.CDLL:
 
 
 class Session:
-    """A formula that is laid out, and stays laid out under edits. One thread at a time."""
+    """A formula that is laid out, and stays laid out under edits.
+
+    Calls of several threads on one session wait for each other. A session can't be copied or pickled.
+    """
 
     def __init__(self, metrics: bytes, tree: bytes) -> None:
         """Lays the tree of a JSON text out with a metrics file's bytes, or raises `Refusal`."""
         self._library = library()
+        self._lock = threading.RLock()
         self._handle = _Handle()
         line = ctypes.create_string_buffer(REFUSAL_ROOM)
         length = ctypes.c_size_t()
@@ -126,37 +138,59 @@ class Session:
 
     def line(self, line: bytes) -> bytes:
         """Answers one line of a script, without its line feed. An edit that is refused is a reply too."""
-        self._ask(self._library.mathlay_line(self._handle, line, len(line)))
-        return self.reply()
+        with self._lock:
+            self._ask(self._library.mathlay_line(self._handle, line, len(line)))
+            return self.reply()
 
     def show(self) -> bytes:
         """The lines of all boxes and marks, behind a line `shown`."""
-        self._ask(self._library.mathlay_show(self._handle))
-        return self.reply()
+        with self._lock:
+            self._ask(self._library.mathlay_show(self._handle))
+            return self.reply()
 
     def reply(self) -> bytes:
         """The reply to the last line or show."""
-        length, room = ctypes.c_size_t(), 64
-        while True:
-            out = ctypes.create_string_buffer(room)
-            status = self._library.mathlay_reply(self._handle, out, room, length)
-            if status != SHORT:
-                self._ask(status)
-                return out.raw[: length.value]
-            room = length.value
+        with self._lock:
+            length, room = ctypes.c_size_t(), 64
+            while True:
+                out = ctypes.create_string_buffer(room)
+                status = self._library.mathlay_reply(self._handle, out, room, length)
+                if status != SHORT:
+                    self._ask(status)
+                    return out.raw[: length.value]
+                room = length.value
 
     def root(self) -> Frame:
         """The box of the whole formula."""
         frame = _Frame()
-        self._ask(self._library.mathlay_root(self._handle, frame))
+        with self._lock:
+            self._ask(self._library.mathlay_root(self._handle, frame))
         return Frame(*(getattr(frame, name) for name in Frame._fields))
+
+    def hit(self, x: int, y: int) -> Optional[int]:
+        """The number of the element at a point, the last of the deepest whose boxes hold it; None where no box does.
+
+        The point is given as in box lines: in 1/1024 px, to the right and downward from where the formula's baseline begins.
+        """
+        element = ctypes.c_uint32()
+        near = [max(-FARTHEST, min(place, FARTHEST)) for place in (x, y)]  # no box reaches so far
+        with self._lock:
+            status = self._library.mathlay_hit(self._handle, *near, element)
+        if status == NOTHING:
+            return None
+        self._ask(status)
+        return element.value
 
     def close(self) -> None:
         """Ends the session. A closed one may be closed again."""
         if getattr(self, "_handle", None) is not None:
-            self._library.mathlay_close(self._handle)
+            with self._lock:
+                self._library.mathlay_close(self._handle)
 
     __del__ = close
+
+    def __reduce__(self):
+        raise TypeError("a session can't be copied or pickled")
 
     def __enter__(self) -> "Session":
         return self

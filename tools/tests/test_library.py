@@ -1,13 +1,15 @@
-"""The library for other programs: its answers from Python are the program's own bytes, and the example in C runs.
+"""The library for other programs: its answers are the program's own bytes, and programs of C that misuse it lose nothing.
 
 `rt ci` proves it and builds no archive; `make library` does."""
 
+import copy
 import json
-import os
+import pickle
 import random
 import shutil
 import subprocess
 import sys
+import threading
 import unittest
 
 from tests.common import TOP, InFolder
@@ -16,9 +18,16 @@ PROGRAM = TOP / "crates" / "mathlay" / "out" / "mathlay"
 SHARED = TOP / "libmathlay.so"
 ARCHIVE = TOP / "libmathlay.a"
 METRICS = TOP / "samples" / "latin-modern-math.metrics"
-SCRIPTS = int(os.environ.get("MATHLAY_LIBRARY_SCRIPTS", "100"))
+CALLS = "tools/tests/library/calls.c"
+TREES = [TOP / "samples" / name for name in ("quadratic.json", "matrix.json", "tensor.json", "nested_roots.json")]
+SCRIPTS = 1_000
+VALGRIND = shutil.which("valgrind")
+MEMCHECK = [[VALGRIND, "-q", "--leak-check=full", "--error-exitcode=9"]] if VALGRIND else []
+HELGRIND = [[VALGRIND, "-q", "--tool=helgrind", "--error-exitcode=9"]] if VALGRIND else []
 
 needs_library = unittest.skipUnless(SHARED.exists(), f"{SHARED.name} isn't built: make library")
+needs_archive = unittest.skipUnless(
+    shutil.which("cc") and ARCHIVE.exists(), f"cc and {ARCHIVE.name} are needed: make library")
 needs_program = unittest.skipUnless(PROGRAM.exists(), "the program isn't built: rt run in crates/mathlay")
 sys.path.insert(0, str(TOP / "bindings" / "python"))
 
@@ -97,11 +106,87 @@ class Library(InFolder):
         numbers = [int(word) for word in session.show().split(b"\n")[1].split()[5:]]
         self.assertEqual(list(session.root())[:3], numbers[:3])
 
-    @unittest.skipUnless(shutil.which("cc") and ARCHIVE.exists(), "cc and libmathlay.a are needed")
-    def test_the_example_in_c_runs(self):
-        built = str(self.folder / "q")
-        subprocess.run(["cc", "-std=c11", "-Wall", "-Wextra", "-Werror", "examples/c/quadratic.c", "-Iinclude", "libmathlay.a",
-                        "-o", built], cwd=TOP, check=True)
-        said = subprocess.run([built], cwd=TOP, stdout=subprocess.PIPE, check=True).stdout
-        self.assertTrue(said.startswith(b"ok\nrefused root\nshown\nbox 1 math 0 0 "), said[:80])
-        self.assertIn(b"\nroot ", said)
+    def test_a_point_hits_the_last_box_that_holds_it(self):
+        session = self.session((TOP / "samples" / "nested_roots.json").read_bytes())
+        boxes = [line.split() for line in session.show().split(b"\n") if line.startswith(b"box ")]
+        draw = random.Random(1)
+        width, ascent, descent = (int(word) for word in boxes[0][5:8])
+        for _ in range(500):
+            x, y = draw.randint(-2000, width + 2000), draw.randint(-ascent - 2000, descent + 2000)
+            held = None
+            for box in boxes:
+                left, line, wide, high, deep = (int(word) for word in box[3:8])
+                if left <= x < left + wide and line - high <= y < line + deep:
+                    held = int(box[1])
+            self.assertEqual(session.hit(x, y), held, (x, y))
+        self.assertIsNone(session.hit(10**30, -(10**30)))
+
+    def test_a_session_isnt_copied(self):
+        session = self.session(b'{"name":"math"}')
+        for copying in (copy.copy, copy.deepcopy, pickle.dumps):
+            with self.assertRaises(TypeError):
+                copying(session)
+
+    def test_threads_wait_for_each_other(self):
+        session = self.session(b'{"name":"math","children":[{"name":"mn","text":"1"}]}')
+        replies = []
+        work = [threading.Thread(target=lambda: replies.extend(
+            session.line(b'{"op":"text","node":2,"text":"7"}') for _ in range(200))) for _ in range(4)]
+        for each in work:
+            each.start()
+        for each in work:
+            each.join()
+        self.assertEqual(replies, [b"ok\n"] * 800)
+
+
+@needs_archive
+class Archive(InFolder):
+    """The library in programs of C. Valgrind runs them too, where there is one."""
+
+    def built(self, source, *flags):
+        program = str(self.folder / "program")
+        subprocess.run(
+            ["cc", "-std=c11", "-g", "-Wall", "-Wextra", "-Werror", *flags, source, "-Iinclude", "libmathlay.a", "-o", program],
+            cwd=TOP, check=True)
+        return program
+
+    def said(self, *words):
+        run = subprocess.run(words, cwd=TOP, stdout=subprocess.PIPE, stderr=subprocess.PIPE, timeout=600)
+        self.assertEqual((run.returncode, run.stderr), (0, b""), run.stdout[-200:])
+        return run.stdout
+
+    def test_the_example_runs_and_loses_nothing(self):
+        program = self.built("examples/c/quadratic.c")
+        for words in ([], *MEMCHECK):
+            said = self.said(*words, program)
+            self.assertTrue(said.startswith(b"ok\nrefused root\nshown\nbox 1 math 0 0 "), said[:80])
+            self.assertIn(b"\nroot ", said)
+
+    @unittest.skipUnless(shutil.which("make"), "make is needed")
+    def test_it_is_installed_and_linked_there(self):
+        prefix = self.folder / "prefix"
+        subprocess.run(["make", "-s", "install-library", f"PREFIX={prefix}"], cwd=TOP, check=True)
+        built = str(self.folder / "installed")
+        subprocess.run(["cc", "examples/c/quadratic.c", f"-I{prefix}/include", f"-L{prefix}/lib", f"-Wl,-rpath,{prefix}/lib",
+                        "-lmathlay", "-o", built], cwd=TOP, check=True)
+        self.assertTrue(self.said(built).startswith(b"ok\n"))
+        python = "import mathlay; print(mathlay.library()._name)"
+        said = self.said("env", f"PYTHONPATH={prefix}/share/mathlay/python", sys.executable, "-B", "-c", python)
+        self.assertEqual(said.decode().strip(), f"{prefix}/lib/libmathlay.so")
+
+    def test_random_calls_are_answered_as_the_header_says(self):
+        program = self.built(CALLS, "-fsanitize=address,undefined")
+        wide = self.file("wide", '{"name":"math","children":[{"name":"mspace","attributes":{"width":"2000000px"}}]}')
+        for seed in ("1", "2"):
+            answers = self.said(program, seed, "10000", METRICS, wide, *TREES).split()
+            self.assertEqual([int(answer) for answer in answers], [0, 3, 4, 8, 9, 32, 33, 34, 35])
+
+    def test_random_calls_lose_nothing_where_memory_is_refused(self):
+        program = self.built(CALLS, "-DFAIL", "-Wl,--wrap=malloc,--wrap=realloc")
+        for words, count in ([[], "10000"], *([words, "300"] for words in MEMCHECK)):
+            self.assertIn(b"7", self.said(*words, program, "3", count, METRICS, *TREES).split())
+
+    def test_a_session_goes_from_thread_to_thread(self):
+        program = self.built("tools/tests/library/threads.c", "-pthread")
+        for words in ([], *MEMCHECK, *HELGRIND):
+            self.assertEqual(self.said(*words, program, METRICS, TOP / "samples" / "quadratic.json"), b"threads ok\n")

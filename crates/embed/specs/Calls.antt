@@ -1,17 +1,17 @@
 -- How each call ends: what the answer says, and what is changed with it.
-use Rattle.std.specs.Prelude.{◌≡◌, ◌≢◌, ◌<◌, ℕ, List, length, take, drop, Option, Some, None, Ok, Err}
+use Rattle.std.specs.Prelude.{◌≡◌, ◌≢◌, ◌<◌, ℕ, ℤ, List, length, take, drop, Option, Some, None, Ok, Err}
 use Rattle.doc_io.specs.LineReader.{longest_line}
 use Rattle.edit_session.specs.Session.{SessionValue, root_box}
 use Rattle.commands.specs.Answer.{opened}
 use Rattle.commands.specs.Refusals.{line_of}
 use Rattle.commands.specs.declared.refusal.Refusal.TheVariants.{Memory as NoMemory}
-use Rattle.embed.specs.Desks.{DeskValue, after, fresh, shown, text}
+use Rattle.embed.specs.Desks.{DeskValue, after, element_at, fresh, shown, text}
 use Rattle.embed.specs.Frames.{frame_of}
 use Rattle.embed.specs.Kept.{Becomes, Keeps}
 use Rattle.embed.specs.Status.{number_of}
 use Rattle.embed.specs.declared.answer.Answer.{Answer}
 use Rattle.embed.specs.declared.frame.Frame.{Frame}
-use Rattle.embed.specs.declared.answer.Answer.TheVariants.{Done, Refused, LineLong, Memory, Open, Closed, Short}
+use Rattle.embed.specs.declared.answer.Answer.TheVariants.{Done, Refused, LineLong, Memory, Open, Closed, Short, Nothing}
 
 -- the number is that of an answer that the call may give, with what comes with it
 abbrev pub Answers : (Answer → Type 0) → ℕ → Type 0
@@ -55,6 +55,7 @@ Opens metrics tree old new Open = (old.kept ≢ None) × (new ≡ old)
 Opens metrics tree old new Short = (length old.bytes < refusal_room) × (new ≡ old)
 Opens metrics tree old new LineLong = ⊥
 Opens metrics tree old new Closed = ⊥
+Opens metrics tree old new Nothing = ⊥
 
 -- a line is answered, or why not; its reply is kept
 abbrev pub Lines : List ℕ → Option DeskValue → Option DeskValue → Answer → Type 0
@@ -86,3 +87,13 @@ abbrev pub Measures : Option DeskValue → Frame → Frame → Answer → Type 0
 Measures kept old new Done = Keeps kept (λ desk. new ≡ frame_of (root_box desk.session))
 Measures kept old new Closed = (kept ≡ None) × (new ≡ old)
 Measures kept old new answer = ⊥
+
+-- the element at a point of the page is told, or there is none
+abbrev pub Hits : ℤ → ℤ → Option DeskValue → ℕ → ℕ → Answer → Type 0
+Hits x y kept old new Done =
+    Keeps kept (λ desk. element_at x y desk.session ≡ Some (record { 0 = new }))
+Hits x y kept old new Nothing =
+    Keeps kept (λ desk. element_at x y desk.session ≡ None) × (new ≡ old)
+Hits x y kept old new Memory = (kept ≢ None) × (new ≡ old)
+Hits x y kept old new Closed = (kept ≡ None) × (new ≡ old)
+Hits x y kept old new answer = ⊥

@@ -1,9 +1,11 @@
 -- What a handle keeps: a session as callers of the program know it, and the reply to its last call.
-use Rattle.std.specs.Prelude.{ℕ, List}
+use Rattle.std.specs.Prelude.{ℕ, ℤ, List, Option}
+use Rattle.math_tree.specs.declared.node.NodeId.{NodeId}
 use Rattle.commands.specs.Replies.{after_line, reply_to, text_of_reply}
 use Rattle.commands.specs.declared.reply.Reply.{Reply}
 use Rattle.commands.specs.declared.reply.Reply.TheVariants.{Nothing, Shown}
 use Rattle.edit_session.specs.Session.{SessionValue, page}
+use Rattle.hit_test.specs.Hits.{holding, id_of_box, last_of}
 
 pub record DeskValue : Type 0 where
   pub session : SessionValue
@@ -25,3 +27,7 @@ shown desk = record { session = desk.session; reply = Shown (page desk.session) 
 -- the bytes of the last reply
 abbrev pub text : DeskValue → List ℕ
 text desk = text_of_reply desk.session.metrics desk.reply
+
+-- the element whose box is the last one on the page that holds a point
+abbrev pub element_at : ℤ → ℤ → SessionValue → Option NodeId
+element_at x y session = id_of_box (last_of (holding x y (page session)))

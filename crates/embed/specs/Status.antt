@@ -4,7 +4,7 @@ use Rattle.commands.specs.Refusals.{status_of}
 use Rattle.commands.specs.Status.{number_of as number_of_run}
 use Rattle.commands.specs.declared.status.Status.TheVariants.{Done as RunDone, ScriptLimit, Memory as RunMemory}
 use Rattle.embed.specs.declared.answer.Answer.{Answer}
-use Rattle.embed.specs.declared.answer.Answer.TheVariants.{Done, Refused, LineLong, Memory, Open, Closed, Short}
+use Rattle.embed.specs.declared.answer.Answer.TheVariants.{Done, Refused, LineLong, Memory, Open, Closed, Short, Nothing}
 
 -- the status with which the program ends for the same cause, or a number of the library's own
 abbrev pub number_of : Answer → ℕ
@@ -15,3 +15,4 @@ number_of Memory = number_of_run RunMemory
 number_of Open = 32
 number_of Closed = 33
 number_of Short = 34
+number_of Nothing = 35

@@ -20,6 +20,8 @@ pub enum Answer {
     Closed,
     /// The buffer is too short.
     Short,
+    /// No box holds the point.
+    Nothing,
 }
 
 impl Answer {
@@ -35,6 +37,7 @@ impl Answer {
             Answer::Open => 32,
             Answer::Closed => 33,
             Answer::Short => 34,
+            Answer::Nothing => 35,
         }
     }
 }

@@ -1,7 +1,7 @@
 ghost use Rattle.std.specs.Prelude.{◌≡◌, ◌≢◌, true, false, None, Some, IfOk, IfErr, Err, Ok};
 ghost use Rattle.commands.specs.Answer.{opened as opened_session};
 ghost use Rattle.commands.specs.Ends.{GivesOr};
-ghost use Rattle.embed.specs.Calls.{Lines, Measures, Opens, Shows, Tells, seen};
+ghost use Rattle.embed.specs.Calls.{Hits, Lines, Measures, Opens, Shows, Tells, seen};
 ghost use Rattle.embed.specs.Desks.{fresh};
 
 use crate::answer::Answer;
@@ -149,5 +149,35 @@ pub fn measured(alloc: Global, handle: &mut Handle, frame: &mut Frame) -> Answer
             handle.keep(alloc, desk);
             Answer::Done
         }
+    }
+}
+
+/// Tells the element that a point lies in.
+pub fn hit_at(alloc: Global, handle: &mut Handle, x: i64, y: i64, element: &mut u32) -> Answer
+    ensures kept { handle.new.kept ≡ handle.old.kept }
+    ensures hits { Hits x y handle.old.kept element.old element.new result }
+{
+    match handle.take(alloc) {
+        None => Answer::Closed,
+        Some(mut desk) => {
+            let answer = tell_element(alloc, desk.as_mut(), x, y, element);
+            handle.keep(alloc, desk);
+            answer
+        }
+    }
+}
+
+/// Tells the element that a point of a desk's page lies in.
+fn tell_element(alloc: Global, desk: &mut Desk, x: i64, y: i64, element: &mut u32) -> Answer
+    ensures kept { desk.new ≡ desk.old }
+    ensures hits { Hits x y (Some desk.old) element.old element.new result }
+{
+    match desk.element_at(alloc, x, y) {
+        Ok(Some(found)) => {
+            *element = found.0;
+            Answer::Done
+        }
+        Ok(None) => Answer::Nothing,
+        Err(Memory) => Answer::Memory,
     }
 }

@@ -3,7 +3,7 @@ ghost use Rattle.edit_session.specs.Session.{root_box};
 ghost use Rattle.commands.specs.Answer.{opened};
 ghost use Rattle.commands.specs.Ends.{GivesOr};
 ghost use Rattle.embed.specs.Calls.{Tells, seen};
-ghost use Rattle.embed.specs.Desks.{after, fresh, shown};
+ghost use Rattle.embed.specs.Desks.{after, element_at, fresh, shown};
 
 use crate::answer::Answer;
 use crate::copying::put;
@@ -11,6 +11,8 @@ use crate::growing::text_of_reply;
 use commands::{Refusal, Reply, open, reply_to};
 use edit_session::Session;
 use fixed_units::{List, MathBox, Memory, Steps};
+use hit_test::hit;
+use math_tree::NodeId;
 use std::alloc::Global;
 use std::marker::{Brand, Model};
 use std::sync::ledger::{Blank, Ledger};
@@ -128,6 +130,15 @@ impl Desk {
             Some(text) => put(text.as_slice(), out, len),
             None => Answer::Memory,
         }
+    }
+
+    /// The element that a point of the page lies in, if it lies in one.
+    pub fn element_at(&mut self, alloc: Global, x: i64, y: i64) -> Result<Option<NodeId>, Memory>
+        ensures found { IfOk result (λ found. found ≡ element_at x y self.old.session) }
+        ensures unchanged { self.new ≡ self.old }
+    {
+        let placed = self.session.show(alloc)?;
+        Ok(hit(&placed, x, y))
     }
 
     /// The box of the tree's root.

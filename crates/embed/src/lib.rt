@@ -22,10 +22,10 @@ mod growing; // a sink in memory
 mod handle; // Handle
 
 ghost use Rattle.std.specs.Prelude.{◌≡◌, None};
-ghost use Rattle.embed.specs.Calls.{Answers, Lines, Measures, Opens, Shows, Tells, seen};
+ghost use Rattle.embed.specs.Calls.{Answers, Hits, Lines, Measures, Opens, Shows, Tells, seen};
 
 pub use answer::Answer;
-use calls::{answered, measured, opened, shown, told};
+use calls::{answered, hit_at, measured, opened, shown, told};
 pub use frame::Frame;
 pub use handle::Handle;
 use std::alloc::Global;
@@ -87,6 +87,22 @@ pub extern "C" fn mathlay_root(alloc: Global, handle: &mut Handle, frame: &mut F
     ensures measures { Answers (Measures handle.old.kept frame.old frame.new) result }
 {
     measured(alloc, handle, frame).number()
+}
+
+/// The element that a point lies in: of those whose boxes hold it, the last of the deepest. Lengths are
+/// in 1/1024 px, to the right and downward from where the root's baseline begins.
+#[unsafe(no_mangle)]
+pub extern "C" fn mathlay_hit(
+    alloc: Global,
+    handle: &mut Handle,
+    x: i64,
+    y: i64,
+    element: &mut u32,
+) -> u32
+    ensures kept { handle.new.kept ≡ handle.old.kept }
+    ensures hits { Answers (Hits x y handle.old.kept element.old element.new) result }
+{
+    hit_at(alloc, handle, x, y, element).number()
 }
 
 /// Ends the session, if there is one. The handle is closed then, and may be used again.

@@ -20,7 +20,7 @@ pointer : IsSend RawPtr
 pointer = search sendable
 
 desk : IsSend R
-desk = search (crosses, node_knot.crosses, memo_knot.crosses, sendable) depth 60
+desk = search (crosses, node_knot.crosses, memo_knot.crosses, sendable) fits 20000 depth 60
 
 lies : (p : Ptr) (x : DeskValue) → Keyless (lies_at R full_share p x)
 lies (block_ptr b o) x = part_keyless R desk full_share x b o
