@@ -3,8 +3,8 @@
 
     PYTHONPATH=bindings/python python3 examples/python/viewer.py METRICS TREE [PORT]
 
-Characters are drawn by the browser, in a font of the metrics' that is installed; a mark that is built of parts is drawn as its
-base glyph alone.
+Characters are drawn by the browser, in a font of the metrics' that is installed. Larger glyphs and those that are built of parts
+are drawn as their base glyph.
 """
 import html
 import http.server
@@ -29,9 +29,14 @@ document.getElementById("text").onkeyup = event => ask({{node, text: event.targe
 
 
 def characters(metrics):
-    """The character of each glyph's name, of the `char` lines of a metrics file."""
-    lines = (line.split() for line in metrics.decode().splitlines() if line.startswith("char "))
-    return {name: chr(int(code, 16)) for _, code, name in lines}
+    """The character of each glyph's name, by the `char` lines of a metrics file; a larger glyph has that of its base."""
+    names, larger = {}, {}
+    for kind, *words in (line.split() for line in metrics.decode().splitlines() if line.strip()):
+        if kind == "char":
+            names[words[1]] = chr(int(words[0], 16))
+        elif kind in ("vvariant", "hvariant"):
+            larger[words[1]] = words[0]
+    return {**{name: names.get(base, "?") for name, base in larger.items()}, **names}
 
 
 def picture(session, names):

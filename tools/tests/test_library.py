@@ -4,6 +4,7 @@
 
 import copy
 import json
+import os
 import pickle
 import random
 import shutil
@@ -11,6 +12,7 @@ import subprocess
 import sys
 import threading
 import unittest
+import urllib.request
 
 from tests.common import TOP, InFolder
 
@@ -120,6 +122,24 @@ class Library(InFolder):
                     held = int(box[1])
             self.assertEqual(session.hit(x, y), held, (x, y))
         self.assertIsNone(session.hit(10**30, -(10**30)))
+
+    def test_the_viewer_shows_a_formula_and_edits_it(self):
+        words = [sys.executable, "-B", "examples/python/viewer.py", METRICS, TOP / "samples" / "quadratic.json", "0"]
+        viewer = subprocess.Popen(words, cwd=TOP, env={**os.environ, "PYTHONPATH": "bindings/python"},
+                                  stdout=subprocess.PIPE, stderr=subprocess.DEVNULL)
+        self.addCleanup(viewer.stdout.close)
+        self.addCleanup(viewer.wait)
+        self.addCleanup(viewer.kill)
+        page = viewer.stdout.readline().decode().strip()
+
+        def asked(words):
+            with urllib.request.urlopen(page + words, timeout=60) as answer:
+                return answer.read()
+
+        self.assertIn("√".encode(), asked(""))
+        self.assertEqual(json.loads(asked("?x=14000&y=-4000"))["node"], 3)
+        self.assertEqual(json.loads(asked("?node=3&text=7"))["told"], "ok")
+        self.assertNotIn(b">=<", asked(""))
 
     def test_a_session_isnt_copied(self):
         session = self.session(b'{"name":"math"}')
