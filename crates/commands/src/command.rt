@@ -3,11 +3,13 @@ ghost use Rattle.std.specs.Option.{option_map};
 ghost use Rattle.commands.specs.Command.{asked_by, asked_of, generation_of, job_named, job_of, work_named, work_of};
 
 use crate::numerals::{count_of, seed_of};
+use crate::query::Query;
 use thiserror::Error;
 
 /// What the user is told whose words are no command.
 pub const USAGE: &str = "usage: mathlay layout METRICS TREE | edit METRICS TREE SCRIPT \
-    | check METRICS TREE | gen METRICS SEED COUNT\n";
+    | check METRICS TREE | gen METRICS SEED COUNT | paint METRICS TREE | hit METRICS TREE X Y \
+    | select METRICS TREE ID ID\n";
 
 /// The words are no command.
 #[derive(Clone, Copy, Debug, PartialEq, Eq, Error)]
@@ -23,6 +25,8 @@ pub enum Task<'a> {
     Edit(&'a str),
     /// Writes the canonical print of both files.
     Check,
+    /// Answers what is asked of the page.
+    Ask(Query),
 }
 
 /// What is done with a metrics file.
@@ -99,6 +103,7 @@ impl<'a> Task<'a> {
         match others {
             [] => Task::of_word(word),
             [script] => Task::over_script(word, script.as_str()),
+            [first, second] => Task::over_two(word, first.as_str(), second.as_str()),
             _ => None,
         }
     }
@@ -110,6 +115,7 @@ impl<'a> Task<'a> {
         match word {
             "layout" => Some(Task::Layout),
             "check" => Some(Task::Check),
+            "paint" => Some(Task::Ask(Query::Paint)),
             _ => None,
         }
     }
@@ -123,5 +129,10 @@ impl<'a> Task<'a> {
         } else {
             None
         }
+    }
+    /// The task that a word names, where two numbers are.
+    fn over_two(word: &str, first: &str, second: &str) -> Option<Task<'a>> {
+        let query = Query::of_words(word, first, second)?;
+        Some(Task::Ask(query))
     }
 }

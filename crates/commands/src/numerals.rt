@@ -4,6 +4,8 @@ ghost use Rattle.std.specs.Char.{is_ascii_digit};
 ghost use Rattle.std.specs.List.{list_all};
 ghost use Rattle.commands.specs.Numerals.{count_in, is_short_numeral, number_in, seed_in};
 
+use math_tree::NodeId;
+
 /// The most digits of a seed, and of a count.
 const SEED_DIGITS: usize = 20;
 
@@ -53,4 +55,33 @@ fn has_digits_alone(word: &[u8]) -> bool
     ensures { result ≡ list_all is_ascii_digit word.now }
 {
     word.iter().all(|byte| byte.is_ascii_digit())
+}
+
+/// The most digits of a coordinate, and of an id.
+const COORDINATE_DIGITS: usize = 11;
+
+const ID_DIGITS: usize = 10;
+
+/// The coordinate that a word writes: an optional `-` and at most 11 decimal digits.
+pub fn coordinate_of(word: &str) -> Option<i64> {
+    match word.strip_prefix("-") {
+        Some(digits) => {
+            let number = number_of(COORDINATE_DIGITS, digits)?;
+            Some(-(number as i64))
+        }
+        None => {
+            let number = number_of(COORDINATE_DIGITS, word)?;
+            Some(number as i64)
+        }
+    }
+}
+
+/// The id that a word writes: at most 10 decimal digits, and below 2^32.
+pub fn id_of(word: &str) -> Option<NodeId> {
+    let number = number_of(ID_DIGITS, word)?;
+    if number < 1 << 32 {
+        Some(NodeId(number as u32))
+    } else {
+        None
+    }
 }

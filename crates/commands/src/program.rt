@@ -14,6 +14,8 @@ ghost use Rattle.commands.specs.Refusals.{line_of, status_of};
 
 use crate::command::{Job, NoCommand, Request, Task, USAGE};
 use crate::load::{load_metrics, load_tree, open_script};
+use crate::queries::answer_query;
+use crate::query::Query;
 use crate::refusal::Refusal;
 use crate::replies::answer_lines;
 use crate::status::Status;
@@ -148,6 +150,7 @@ fn do_task<I: Inputs, O: Sink, L: Ledger>(
     match task {
         Task::Layout => lay_out(alloc, metrics, tree, out, steps),
         Task::Edit(script) => edit(alloc, metrics, tree, script, inputs, out, steps),
+        Task::Ask(query) => ask(alloc, metrics, tree, query, out, steps),
         Task::Check => {
             let status = check(alloc, &metrics, &tree, out);
             drop(metrics);
@@ -204,6 +207,25 @@ fn lay_out<O: Sink, L: Ledger>(
     match start(alloc, metrics, tree, steps) {
         Ok(mut session) => {
             let status = show(alloc, &mut session, out);
+            drop(session);
+            status
+        }
+        Err(refusal) => tell(out, refusal),
+    }
+}
+
+/// Lays out the tree and answers what is asked of its page, or tells why it doesn't.
+fn ask<O: Sink, L: Ledger>(
+    alloc: Global,
+    metrics: Metrics,
+    tree: Tree,
+    query: Query,
+    out: &mut O,
+    steps: &mut Steps<L>,
+) -> Status {
+    match start(alloc, metrics, tree, steps) {
+        Ok(mut session) => {
+            let status = answer_query(alloc, &mut session, query, out);
             drop(session);
             status
         }
@@ -319,7 +341,7 @@ fn print_both(alloc: Global, metrics: &Metrics, tree: &Tree) -> Result<List<u8>,
 }
 
 /// Writes a text and answers the status, unless a write fails.
-fn deliver<O: Sink>(out: &mut O, text: &[u8], status: Status) -> Status
+pub(crate) fn deliver<O: Sink>(out: &mut O, text: &[u8], status: Status) -> Status
     requires { status ≢ Status.WriteFault }
     ensures { Delivers text.now status
         (O.told out.old) (O.told out.new) result }
@@ -343,7 +365,7 @@ fn deliver_lines<O: Sink>(out: &mut O, placed: &Placed, metrics: &Metrics) -> St
 }
 
 /// Writes the line of a refusal and answers its status, unless a write fails.
-fn tell<O: Sink>(out: &mut O, refusal: Refusal) -> Status
+pub(crate) fn tell<O: Sink>(out: &mut O, refusal: Refusal) -> Status
     ensures { Delivers (line_of refusal) (status_of refusal)
         (O.told out.old) (O.told out.new) result }
 {

@@ -5,7 +5,7 @@ use crate::status::Status;
 use doc_io::{ReadRefusal, ShortText};
 use fixed_units::{LayRefusal, Memory};
 use font_metrics::{MetricsFault, MetricsRefusal};
-use math_tree::{TreeFault, TreeRefusal};
+use math_tree::{NodeId, TreeFault, TreeRefusal};
 use thiserror::Error;
 
 /// Why the files don't give what is asked for.
@@ -29,6 +29,12 @@ pub enum Refusal {
     /// A number of the tree's layout can't be stored.
     #[error("a size is out of range")]
     Range,
+    /// No element in flow has this id.
+    #[error("no element in flow has the id {}", .0.0)]
+    NoNode(NodeId),
+    /// More would be painted than may be.
+    #[error("too much would be painted")]
+    PaintMany,
     /// A read failed, or a file isn't there.
     #[error("a read failed")]
     ReadFault,
@@ -50,6 +56,8 @@ impl Refusal {
             Refusal::TreeJson => ShortText::of("tree json\n"),
             Refusal::Tree(fault) => fault_line("tree", fault.element, fault.kind),
             Refusal::Range => ShortText::of("range\n"),
+            Refusal::NoNode(id) => node_line(id),
+            Refusal::PaintMany => ShortText::of("paint many\n"),
             Refusal::ReadFault | Refusal::Memory => ShortText::of(""),
         }
     }
@@ -62,6 +70,8 @@ impl Refusal {
             Refusal::MetricsLong | Refusal::Metrics(_) => Status::Metrics,
             Refusal::TreeLong | Refusal::TreeJson | Refusal::Tree(_) => Status::Tree,
             Refusal::Range => Status::Range,
+            Refusal::NoNode(_) => Status::Node,
+            Refusal::PaintMany => Status::Paint,
             Refusal::ReadFault => Status::ReadFault,
             Refusal::Memory => Status::Memory,
         }
@@ -95,6 +105,13 @@ fn fault_line(file: &str, place: u32, kind: u8) -> ShortText
     ensures { result ≡ fault_line file.now place kind }
 {
     let mut line = ShortText::numbered(file, &[i64::from(place), i64::from(kind)]);
+    line.add("\n");
+    line
+}
+
+/// The line of an id that no element has.
+fn node_line(id: NodeId) -> ShortText {
+    let mut line = ShortText::numbered("node", &[i64::from(id.0)]);
     line.add("\n");
     line
 }

@@ -1,0 +1,47 @@
+ghost use Rattle.std.specs.Prelude.{◌≡◌, ◌∷◌, [], map, IfOk};
+ghost use Rattle.math_tree.specs.declared.node.Node.{Node};
+ghost use Rattle.hit_test.specs.Elements.{flow_tree, id_of};
+ghost use Rattle.hit_test.specs.Running.{IsFound};
+ghost use Rattle.hit_test.specs.Selecting.{marked_below};
+
+use crate::look::Found;
+use embellished::{NodeView, View};
+use fixed_units::{List, Memory};
+use math_tree::NodeId;
+use std::alloc::Global;
+
+/// The elements to mark where this one is the lowest over two others: itself, where it is one of them,
+/// else its children in flow from the one that leads to one of them to the one that leads to the
+/// other.
+pub fn chosen(
+    alloc: Global,
+    found: &Found,
+    first: NodeId,
+    second: NodeId,
+) -> Result<List<NodeId>, Memory>
+    ghost root: { Node }
+    requires { IsFound first.0 second.0 root found.now }
+    ensures { IfOk result (λ ids. map (λ id. id.0) ids
+        ≡ map id_of (marked_below first.0 second.0 (flow_tree found.now.node.now))) }
+{
+    let id = found.node.head.id;
+    if id == first || id == second {
+        return only(alloc, id);
+    }
+    let known = found.known;
+    let view = NodeView::make(alloc, found.node, known.facts, &known.kids)?;
+    let mut ids = List::make(alloc);
+    for index in found.from..found.to {
+        ids.push(view.kid(index).id)?;
+    }
+    Ok(ids)
+}
+
+/// One id alone.
+fn only(alloc: Global, id: NodeId) -> Result<List<NodeId>, Memory>
+    ensures { IfOk result (λ ids. ids ≡ id ∷ []) }
+{
+    let mut ids = List::make(alloc);
+    ids.push(id)?;
+    Ok(ids)
+}
