@@ -16,7 +16,7 @@ use Rattle.generator.specs.Generated.{generated}
 use Rattle.generator.specs.Start.{start_tree}
 use Rattle.generator.specs.Summary.{lines_of as lines_of_summary}
 use Rattle.generator.specs.declared.summary.Summary.{Summary}
-use Rattle.commands.specs.Command.{Asked, Job, OverTree, Generates, Work, LaysOut, Edits, Checks}
+use Rattle.commands.specs.Command.{Asked, Job, OverTree, Generates, Work, LaysOut, Edits, Checks, Asks}
 use Rattle.commands.specs.Answer.{Text, whole_text, content, metrics_in, tree_in, answers_to, ◌>>=◌, started, lines_of_page, checked, laid_out, scripted, done, generates, told_of_edits, answer_over, answer_with, answer}
 use Rattle.commands.specs.Refusals.{of_layout}
 use Rattle.commands.specs.Ends.{LacksFile, HasReadCause, IsCut, GivesOr, Answers, IsReachedNext, IsScript, start_of}
@@ -340,6 +340,7 @@ script_lacks : (work : Work) (name : List ℕ) (metrics : MetricsValue) (tree : 
 script_lacks LaysOut name metrics tree f named away is = absurd named
 script_lacks (Edits script) name metrics tree f named away is = (is, subst (λ n. f n ≡ None) named away)
 script_lacks Checks name metrics tree f named away is = absurd named
+script_lacks (Asks query) name metrics tree f named away is = absurd named
 
 -- which file isn't there behind the metrics file
 which_next : (job : Job) (file : List ℕ) (f : Files) (name : List ℕ) → IsReachedNext job file f name → f name ≡ None
@@ -365,6 +366,7 @@ lacked_script : (work : Work) (metrics : MetricsValue) (tree : TreeValue) (f : F
 lacked_script LaysOut metrics tree f lack = absurd lack
 lacked_script (Edits script) metrics tree f lack = (script, refl, lack.1, lack.0)
 lacked_script Checks metrics tree f lack = absurd lack
+lacked_script (Asks query) metrics tree f lack = absurd lack
 
 lacked_next : (job : Job) (file : List ℕ) (f : Files) (metrics : MetricsValue) → metrics_in (content f file) ≡ Ok metrics
     → LacksNext job metrics f → (name : List ℕ) × IsReachedNext job file f name × (f name ≡ None)

@@ -18,7 +18,9 @@ use Rattle.edit_session.specs.Session.{SessionValue, page}
 use Rattle.generator.specs.Generated.{generated}
 use Rattle.generator.specs.Start.{start_tree}
 use Rattle.generator.specs.Summary.{lines_of as lines_of_summary}
-use Rattle.commands.specs.Command.{Asked, Job, OverTree, Generates, Work, LaysOut, Edits, Checks, usage_line}
+use Rattle.commands.specs.Command.{Asked, Job, OverTree, Generates, Work, LaysOut, Edits, Checks, Asks, usage_line}
+pub use Rattle.commands.specs.Texts.{Text, whole_text}
+use Rattle.commands.specs.Queries.{answer_to}
 use Rattle.commands.specs.Script.{within, is_within}
 use Rattle.commands.specs.Replies.{replies}
 use Rattle.commands.specs.Refusals.{line_of, status_of}
@@ -64,14 +66,6 @@ tree_in bytes =
     else tree_of_json (json_in bytes)
 
 -- ---- the text of an answer
-
--- a text, and whether it is all that was asked for: not, where a script passes a limit
-pub record Text : Type 0 where
-  pub bytes : List ℕ
-  pub whole : Bool
-
-abbrev pub whole_text : List ℕ → Text
-whole_text bytes = record { bytes = bytes; whole = true }
 
 -- the replies to lines, or to those before the first line that passes a limit, where at most so
 -- many are answered
@@ -121,6 +115,9 @@ done (Edits script) metrics tree files = do
   session ← started metrics tree
   scripted script session files
 done Checks metrics tree files = Ok (whole_text (checked metrics tree))
+done (Asks query) metrics tree files = do
+  session ← started metrics tree
+  answer_to query session
 
 -- what is made of these metrics and a tree file, or the first refusal
 unfoldable pub answer_over : Work → MetricsValue → List ℕ → Files → Result Text Refusal

@@ -13,7 +13,7 @@ use Rattle.math_tree.specs.declared.refusal.TreeRefusal.TheVariants as tree
 use Rattle.commands.specs.declared.status.Status.{Status}
 use Rattle.commands.specs.declared.status.Status.TheVariants as status
 use Rattle.commands.specs.declared.refusal.Refusal.{Refusal}
-use Rattle.commands.specs.declared.refusal.Refusal.TheVariants.{MetricsLong, Metrics, TreeLong, TreeJson, Tree, Range, ReadFault, Memory}
+use Rattle.commands.specs.declared.refusal.Refusal.TheVariants.{MetricsLong, Metrics, TreeLong, TreeJson, Tree, Range, NoNode, PaintMany, ReadFault, Memory}
 
 -- the line of a fault: where it is, and the number of its kind
 abbrev pub fault_line : List ℕ → ℕ → ℕ → List ℕ
@@ -27,6 +27,8 @@ line_of TreeLong = codes "tree long\n"
 line_of TreeJson = codes "tree json\n"
 line_of (Tree fault) = fault_line (codes "tree") fault.element fault.kind
 line_of Range = codes "range\n"
+line_of (NoNode id) = line (codes "node") (decimal id.0 ∷ [])
+line_of PaintMany = codes "paint many\n"
 line_of ReadFault = []
 line_of Memory = []
 
@@ -38,6 +40,8 @@ status_of TreeLong = status.Tree
 status_of TreeJson = status.Tree
 status_of (Tree fault) = status.Tree
 status_of Range = status.Range
+status_of (NoNode id) = status.Node
+status_of PaintMany = status.Paint
 status_of ReadFault = status.ReadFault
 status_of Memory = status.Memory
 

@@ -57,19 +57,20 @@ module _ (inside : Inside) where
       by (last_of (next ∷ boxes)) (last_holds (IsAfter box) (next ∷ boxes) (All-tail (IsAfter box) box (next ∷ boxes) h.0)) (last_bare (next ∷ boxes) h.1)
     where
       by : (last : Option PlacedBox) → IfSome last (IsAfter box) → IfSome last (IsBare (next ∷ boxes)) → IfSome last (IsBare (box ∷ next ∷ boxes))
-          by None e f = tt
+      by None e f = tt
       by (Some last) e f = ap (λ (b : Bool). b || list_any (λ (other : PlacedBox). inside last.id.0 other.id.0) (next ∷ boxes)) e ∙ f
 
   ordered_kept : (test : PlacedBox → Bool) (boxes : List PlacedBox) → ComesFirst inside boxes → ComesFirst inside (filter test boxes)
   ordered_kept test [] h = tt
-  ordered_kept test (box ∷ boxes) h = by (test box) refl
+  ordered_kept test (box ∷ boxes) h = by (ordered_kept test boxes h.1) (test box) refl
     where
-      rest : ComesFirst inside (filter test boxes)
-      rest = ordered_kept test boxes h.1
+      by : ComesFirst inside (filter test boxes) → (b : Bool) → test box ≡ b → ComesFirst inside (cond b (box ∷ filter test boxes) (filter test boxes))
+      by rest true e = (subst (λ l. All (IsAfter box) l) (ap (λ (b : Bool). cond b (box ∷ filter test boxes) (filter test boxes)) e) (All-filter test (IsAfter box) (box ∷ boxes) h.0), rest)
+      by rest false e = rest
 
-      by : (b : Bool) → test box ≡ b → ComesFirst inside (cond b (box ∷ filter test boxes) (filter test boxes))
-      by true e = (subst (λ l. All (IsAfter box) l) (ap (λ (b : Bool). cond b (box ∷ filter test boxes) (filter test boxes)) e) (All-filter test (IsAfter box) (box ∷ boxes) h.0), rest)
-      by false e = rest
+some_last : (box : PlacedBox) (boxes : List PlacedBox) → last_of (box ∷ boxes) ≡ None → ⊥
+some_last box [] e = absurd cc
+some_last box (next ∷ boxes) e = some_last next boxes e
 
 -- a list whose last one passes ends with it when it is filtered
 last_kept : (test : PlacedBox → Bool) (boxes : List PlacedBox) → IfSome (last_of boxes) (λ last. test last ≡ true)
@@ -78,13 +79,9 @@ last_kept test [] h = refl
 last_kept test (box ∷ []) h = ap (λ (b : Bool). last_of (cond b (box ∷ []) [])) h
 last_kept test (box ∷ next ∷ boxes) h = by (test box) (filter test (next ∷ boxes)) (last_kept test (next ∷ boxes) h)
   where
-    some : (box : PlacedBox) (boxes : List PlacedBox) → last_of (box ∷ boxes) ≡ None → ⊥
-    some box [] e = absurd cc
-    some box (next ∷ boxes) e = some next boxes e
-
     by : (b : Bool) (kept : List PlacedBox) → last_of kept ≡ last_of (next ∷ boxes) → last_of (cond b (box ∷ kept) kept) ≡ last_of (next ∷ boxes)
     by false kept e = e
-    by true [] e = absurd (some next boxes (sym e))
+    by true [] e = absurd (some_last next boxes (sym e))
     by true (one ∷ kept) e = e
 
 pub last_is_deepest : (inside : Inside) (px py : ℤ) (items : List PlacedItem) → ComesFirst inside (boxes_of items)
@@ -96,17 +93,17 @@ last_is_deepest inside px py items h =
     ap id_of_box (sym (last_kept (is_deepest inside held) held (by held (last_of held) bare)))
   where
     by : (held : List PlacedBox) (last : Option PlacedBox) → IfSome last (IsBare inside held) → IfSome last (λ (box : PlacedBox). is_deepest inside held box ≡ true)
-      by held None e = tt
+    by held None e = tt
     by held (Some box) e = ap not e
+
+some_hit : (box : PlacedBox) (boxes : List PlacedBox) → IsNone (id_of_box (last_of (box ∷ boxes))) → ⊥
+some_hit box [] h = absurd cc
+some_hit box (next ∷ boxes) h = some_hit next boxes h
+
+none_hit : (boxes : List PlacedBox) → IsNone (id_of_box (last_of boxes)) → boxes ≡ []
+none_hit [] h = refl
+none_hit (box ∷ boxes) h = absurd (some_hit box boxes h)
 
 -- none is hit where none holds the point
 pub none_holds : (boxes : List PlacedBox) → IsNone (id_of_box (last_of boxes)) ↔ (boxes ≡ [])
-none_holds boxes = (to boxes, λ e. ap (λ l. is_some (id_of_box (last_of l))) e)
-  where
-    some : (box : PlacedBox) (boxes : List PlacedBox) → IsNone (id_of_box (last_of (box ∷ boxes))) → ⊥
-    some box [] h = absurd cc
-    some box (next ∷ boxes) h = some next boxes h
-
-    to : (boxes : List PlacedBox) → IsNone (id_of_box (last_of boxes)) → boxes ≡ []
-    to [] h = refl
-    to (box ∷ boxes) h = absurd (some box boxes h)
+none_holds boxes = (none_hit boxes, λ e. ap (λ l. is_some (id_of_box (last_of l))) e)

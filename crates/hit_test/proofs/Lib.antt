@@ -1,2 +1,7 @@
+pub mod Between
+pub mod Children
+pub mod Elements
 pub mod Hitting
+pub mod Looking
+pub mod Lowest
 mod Worked

@@ -17,11 +17,15 @@ box_in (Drawn mark) = []
 unfoldable pub boxes_of : List PlacedItem → List PlacedBox
 boxes_of items = flat_map box_in items
 
+-- a number lies from one on to before another
+abbrev pub lies_between : ℤ → ℤ → ℤ → Bool
+lies_between number from to = int_le from number && int_lt number to
+
 -- a box holds its left and its upper edge, but not the others
 unfoldable pub holds : ℤ → ℤ → PlacedBox → Bool
 holds px py box =
-    int_le box.x px && int_lt px (box.x +ℤ box.frame.width)
-    && int_le (box.y -ℤ box.frame.ascent) py && int_lt py (box.y +ℤ box.frame.descent)
+    lies_between px box.x (box.x +ℤ box.frame.width)
+    && lies_between py (box.y -ℤ box.frame.ascent) (box.y +ℤ box.frame.descent)
 
 unfoldable pub holding : ℤ → ℤ → List PlacedItem → List PlacedBox
 holding px py items = filter (holds px py) (boxes_of items)

@@ -1,6 +1,6 @@
 -- What is marked from one element to another.
-use Rattle.std.specs.Prelude.{◌≡◌, ℕ, nat_eq, ◌^◌, ℤ, ◌+ℤ◌, ◌-ℤ◌, Bool, ◌&&◌, ◌||◌, not, if◌then◌else◌, List, [], ◌∷◌, map, filter, find, drop, reverse, Option, Some, None}
-use Rattle.std.specs.List.{list_any, position_or_len}
+use Rattle.std.specs.Prelude.{◌≡◌, ℕ, nat_eq, ◌^◌, ℤ, ◌+ℤ◌, ◌-ℤ◌, Bool, ◌&&◌, ◌||◌, not, if◌then◌else◌, List, [], ◌∷◌, map, filter, find, reverse, Option, Some, None}
+use Rattle.std.specs.List.{list_any}
 use Rattle.std.specs.Option.{option_map_or}
 use Rattle.fixed_units.specs.Boxes.{IsStored}
 use Rattle.fixed_units.specs.Numbers.{IsWithin}
@@ -34,8 +34,10 @@ lowest first second root = find (is_lowest first second) (elements_of root)
 abbrev pub leads : ℕ → ℕ → Node → Bool
 leads first second child = holds_id first child || holds_id second child
 
+-- from the first that passes on
 abbrev pub from_first : {A : Type 0} → (A → Bool) → List A → List A
-from_first test items = drop (position_or_len test items) items
+from_first test [] = []
+from_first test (item ∷ items) = if test item then item ∷ items else from_first test items
 
 -- from the first that passes to the last
 unfoldable pub between : {A : Type 0} → (A → Bool) → List A → List A

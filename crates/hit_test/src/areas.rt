@@ -1,11 +1,12 @@
-ghost use Rattle.std.specs.Prelude.{◌≡◌, ℕ, ◌^◌, ◌∷◌, [], ◌++◌, Bool, if◌then◌else◌, All, map, nat_eq, IfOk, OnOk};
+ghost use Rattle.std.specs.Prelude.{◌≡◌, ℕ, ◌^◌, ◌++◌, All, map, filter, nat_eq, IfOk, OnOk};
 ghost use Rattle.std.specs.BTreeSet.{contains};
 ghost use Rattle.std.specs.List.{list_any};
 ghost use Rattle.std.specs.Ordering.{nat_cmp};
 ghost use Rattle.fixed_units.specs.Boxes.{IsStored};
 ghost use Rattle.fixed_units.specs.Numbers.{IsWithin};
+ghost use Rattle.box_writer.specs.declared.placed.PlacedBox.{PlacedBox};
 ghost use Rattle.hit_test.specs.Hits.{box_in};
-ghost use Rattle.hit_test.specs.Selecting.{IsInReach, area_of, areas_of, is_marked};
+ghost use Rattle.hit_test.specs.Selecting.{IsInReach, area_of, areas_of};
 
 use box_writer::{PlacedBox, PlacedItem};
 use fixed_units::{List, Memory};

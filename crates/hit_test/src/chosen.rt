@@ -1,7 +1,6 @@
 ghost use Rattle.std.specs.Prelude.{◌≡◌, ◌∷◌, [], map, IfOk};
-ghost use Rattle.math_tree.specs.declared.node.Node.{Node};
 ghost use Rattle.hit_test.specs.Elements.{flow_tree, id_of};
-ghost use Rattle.hit_test.specs.Running.{IsFound};
+ghost use Rattle.hit_test.specs.Running.{IsSpanned};
 ghost use Rattle.hit_test.specs.Selecting.{marked_below};
 
 use crate::look::Found;
@@ -19,8 +18,7 @@ pub fn chosen(
     first: NodeId,
     second: NodeId,
 ) -> Result<List<NodeId>, Memory>
-    ghost root: { Node }
-    requires { IsFound first.0 second.0 root found.now }
+    requires { IsSpanned first.0 second.0 found.now }
     ensures { IfOk result (λ ids. map (λ id. id.0) ids
         ≡ map id_of (marked_below first.0 second.0 (flow_tree found.now.node.now))) }
 {
@@ -31,7 +29,7 @@ pub fn chosen(
     let known = found.known;
     let view = NodeView::make(alloc, found.node, known.facts, &known.kids)?;
     let mut ids = List::make(alloc);
-    for index in found.from..found.to {
+    for index in found.span.from..found.span.to {
         ids.push(view.kid(index).id)?;
     }
     Ok(ids)

@@ -1,5 +1,5 @@
-ghost use Rattle.std.specs.Prelude.{◌≡◌, ℕ, Bool, [], ◌↔◌, IsNone, filter};
-ghost use Rattle.hit_test.specs.Hits.{ComesFirst, box_in, boxes_of, hit_of, holding, holds, id_of_box, last_of};
+ghost use Rattle.std.specs.Prelude.{◌≡◌, ℕ, ◌+ℤ◌, ◌-ℤ◌, Bool, [], ◌↔◌, IsNone, filter};
+ghost use Rattle.hit_test.specs.Hits.{ComesFirst, box_in, boxes_of, hit_of, holding, holds, id_of_box, last_of, lies_between};
 ghost use Rattle.hit_test.specs.Running.{or_last};
 
 use box_writer::{Placed, PlacedBox, PlacedItem};
@@ -40,13 +40,42 @@ fn or_hit(last: Option<NodeId>, item: &PlacedItem, x: i64, y: i64) -> Option<Nod
 }
 
 /// Whether a box holds a point.
-#[tactic(auto, unfolding(crate::specs::Hits::holds))]
 fn holds(placed: &PlacedBox, x: i64, y: i64) -> bool
     ensures { result ≡ holds x y placed.now }
 {
     let frame = &placed.frame;
-    (placed.x <= x)
-        & (i128::from(x) < i128::from(placed.x) + i128::from(frame.width))
-        & (i128::from(placed.y) - i128::from(frame.ascent) <= i128::from(y))
-        & (i128::from(y) < i128::from(placed.y) + i128::from(frame.descent))
+    is_across(x, placed.x, frame.width) & is_along(y, placed.y, frame.ascent, frame.descent)
+}
+
+/// Whether a place lies from one on to before the end of a width.
+fn is_across(place: i64, from: i64, width: i64) -> bool
+    ensures { result ≡ lies_between place from (from +ℤ width) }
+{
+    lies_between(place, i128::from(from), more(from, width))
+}
+
+/// Whether a place lies from so far above a baseline on to before so far below it.
+fn is_along(place: i64, baseline: i64, ascent: i64, descent: i64) -> bool
+    ensures { result ≡ lies_between place (baseline -ℤ ascent) (baseline +ℤ descent) }
+{
+    lies_between(place, less(baseline, ascent), more(baseline, descent))
+}
+
+/// Whether a number lies from one on to before another.
+fn lies_between(number: i64, from: i128, to: i128) -> bool
+    ensures { result ≡ lies_between number from to }
+{
+    (from <= i128::from(number)) & (i128::from(number) < to)
+}
+
+fn more(number: i64, other: i64) -> i128
+    ensures { result ≡ number +ℤ other }
+{
+    i128::from(number) + i128::from(other)
+}
+
+fn less(number: i64, other: i64) -> i128
+    ensures { result ≡ number -ℤ other }
+{
+    i128::from(number) - i128::from(other)
 }

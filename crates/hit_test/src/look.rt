@@ -1,8 +1,8 @@
 //! The lowest element over two others, found by one look through the tree.
-ghost use Rattle.std.specs.Prelude.{◌≡◌, ◌≤◌, ◌<◌, IfOk};
+ghost use Rattle.std.specs.Prelude.{◌≡◌, ◌≤◌, ◌<◌, if◌then◌else◌, IfOk};
 ghost use Rattle.math_tree.specs.Trees.{element_count};
 ghost use Rattle.embellished.specs.Known.{known_of};
-ghost use Rattle.hit_test.specs.Running.{Sees};
+ghost use Rattle.hit_test.specs.Running.{Sees, joined, or_own, with_kid};
 
 use embellished::{Known, NodeView, View};
 use fixed_units::Memory;
@@ -10,7 +10,7 @@ use math_tree::{Node, NodeId};
 use std::alloc::Global;
 
 /// What an element in flow is or contains of two others.
-#[derive(Clone, Copy, Debug)]
+#[derive(Clone, Copy)]
 pub struct Sight<'a> {
     /// It is the first of them, or contains it.
     pub first: bool,
@@ -20,12 +20,17 @@ pub struct Sight<'a> {
     pub over: Option<Found<'a>>,
 }
 
-/// An element with what is known of it, and which of its children in flow lead to the two: the place
-/// of the first that does, and the place behind the last.
-#[derive(Clone, Copy, Debug)]
+/// An element with what is known of it, and which of its children in flow lead to the two.
+#[derive(Clone, Copy)]
 pub struct Found<'a> {
     pub node: &'a Node,
     pub known: &'a Known,
+    pub span: Span,
+}
+
+/// From the place of a child on to before another.
+#[derive(Clone, Copy)]
+pub struct Span {
     pub from: usize,
     pub to: usize,
 }
@@ -43,36 +48,44 @@ pub fn look<'a>(
     ensures { IfOk result (λ sight. Sees first.0 second.0 node.now sight) }
 {
     let view = NodeView::make(alloc, node, known.facts, &known.kids)?;
-    let id = node.head.id;
+    let kids = view.kids();
+    let mut span = Span { from: kids, to: 0 };
     let mut sight = Sight {
-        first: id == first,
-        second: id == second,
+        first: node.head.id.0 == first.0,
+        second: node.head.id.0 == second.0,
         over: None,
     };
-    let mut span = (view.kids(), 0);
-    for index in 0..view.kids() {
+    for index in 0..kids {
         let below = &known.below.as_slice()[view.place(index)];
         let kid = look(alloc, view.node_at(index), below, first, second)?;
-        span = with_kid(span, index, &kid);
+        span = with_kid(span, index, kid.first | kid.second);
         sight = joined(&sight, &kid);
     }
-    Ok(with_own(sight, node, known, span))
+    Ok(or_own(&sight, &Found { node, known, span }))
 }
 
-/// The places that lead to the two, with one more child.
-fn with_kid(span: (usize, usize), index: usize, kid: &Sight) -> (usize, usize) {
-    if kid.first || kid.second {
-        (span.0.min(index), index + 1)
+/// The places of children that lead to the two, with one more child.
+fn with_kid(span: Span, index: usize, leads: bool) -> Span
+    requires { index < 65_536 }
+    ensures { result ≡ with_kid span index leads }
+{
+    if leads {
+        Span {
+            from: span.from.min(index),
+            to: index + 1,
+        }
     } else {
         span
     }
 }
 
-/// What an element contains, with one more child.
-fn joined<'a>(sight: &Sight<'a>, kid: &Sight<'a>) -> Sight<'a> {
+/// What an element sees, with one more child.
+fn joined<'a>(sight: &Sight<'a>, kid: &Sight<'a>) -> Sight<'a>
+    ensures { result ≡ joined sight.now kid.now }
+{
     Sight {
-        first: sight.first || kid.first,
-        second: sight.second || kid.second,
+        first: sight.first | kid.first,
+        second: sight.second | kid.second,
         over: match sight.over {
             Some(found) => Some(found),
             None => kid.over,
@@ -80,26 +93,22 @@ fn joined<'a>(sight: &Sight<'a>, kid: &Sight<'a>) -> Sight<'a> {
     }
 }
 
-/// The element itself is the lowest over both, where it is over both and none of its children is.
-fn with_own<'a>(
-    sight: Sight<'a>,
-    node: &'a Node,
-    known: &'a Known,
-    span: (usize, usize),
-) -> Sight<'a> {
-    if sight.first && sight.second && sight.over.is_none() {
-        let (from, to) = span;
-        let found = Found {
-            node,
-            known,
-            from,
-            to,
-        };
-        Sight {
-            over: Some(found),
-            ..sight
-        }
-    } else {
-        sight
+/// What an element sees, itself among it.
+fn or_own<'a>(sight: &Sight<'a>, own: &Found<'a>) -> Sight<'a>
+    ensures { result ≡ or_own sight.now own.now }
+{
+    Sight {
+        first: sight.first,
+        second: sight.second,
+        over: match sight.over {
+            Some(found) => Some(found),
+            None => own_if(sight.first & sight.second, own),
+        },
     }
+}
+
+fn own_if<'a>(is_over: bool, own: &Found<'a>) -> Option<Found<'a>>
+    ensures { result ≡ (if is_over then Some own.now else None) }
+{
+    if is_over { Some(*own) } else { None }
 }

@@ -1,12 +1,11 @@
-ghost use Rattle.std.specs.Prelude.{◌≡◌, All, Some, None, Err, map, IfOk, OnOk, IfErr};
-ghost use Rattle.math_tree.specs.declared.node.Node.{Node};
+ghost use Rattle.std.specs.Prelude.{◌≡◌, All, Some, None, IfOk, OnOk, IfErr};
 ghost use Rattle.hit_test.specs.Elements.{flow_tree};
-ghost use Rattle.hit_test.specs.Running.{Sees};
-ghost use Rattle.hit_test.specs.Selecting.{IsInReach, IsMissing, marked_ids, missing_id, selected_areas};
+ghost use Rattle.hit_test.specs.Running.{IsUnseen, unseen};
+ghost use Rattle.hit_test.specs.Selecting.{IsInReach, IsMissing, missing_id, selected_areas};
 
 use crate::areas::{Area, areas_of};
 use crate::chosen::chosen;
-use crate::look::{Sight, look};
+use crate::look::{Found, Sight, look};
 use box_writer::Placed;
 use embellished::known_of;
 use fixed_units::{List, Memory};
@@ -44,28 +43,26 @@ pub fn selection(
     let root = tree.root();
     let known = known_of(alloc, root)?;
     let sight = look(alloc, root, &known, first, second)?;
-    let ids = ids_between(alloc, &sight, first, second)?;
+    let found = found_in(&sight, first, second)?;
+    let ids = chosen(alloc, &found, first, second)?;
     Ok(areas_of(alloc, placed.items.as_slice(), ids.as_slice())?)
 }
 
-/// The elements to mark, or the first of the two ids that isn't there.
-fn ids_between(
-    alloc: Global,
-    sight: &Sight,
+/// The lowest element over both, or the first of the two that isn't there.
+fn found_in<'a>(
+    sight: &Sight<'a>,
     first: NodeId,
     second: NodeId,
-) -> Result<List<NodeId>, SelectRefusal>
-    ghost root: { Node }
-    requires { Sees first.0 second.0 root sight.now }
-    ensures exact { IfOk result (λ ids. map (λ id. id.0) ids ≡ marked_ids first.0 second.0 (flow_tree root)) }
-    ensures there { OnOk result (missing_id first.0 second.0 (flow_tree root) ≡ None) }
-    ensures missing { IfErr result (IsMissing first.0 second.0 (flow_tree root)) }
+) -> Result<Found<'a>, SelectRefusal>
+    ensures found { IfOk result (λ found. sight.now.over ≡ Some found) }
+    ensures there { OnOk result (unseen first.0 second.0 sight.now ≡ None) }
+    ensures missing { IfErr result (IsUnseen first.0 second.0 sight.now) }
 {
     if !sight.first {
         return Err(SelectRefusal::NoNode(first));
     }
-    match &sight.over {
-        Some(found) => Ok(chosen(alloc, found, first, second)?),
+    match sight.over {
+        Some(found) => Ok(found),
         None => Err(SelectRefusal::NoNode(second)),
     }
 }

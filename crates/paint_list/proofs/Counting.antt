@@ -32,8 +32,8 @@ pub painted-few : (m : MetricsValue) (items : List PlacedItem) (i : ℕ) (d item
     → length (paints_of m item) ≤ length (painted m items)
 painted-few m items i d item below is =
     let e : length (painted m items) ≡ length (painted m (take (i + 1) items)) + length (painted m (drop (i + 1) items)) =
-        ap (λ l. length (painted m l)) (sym (take-append-drop (i + 1) items))
-        ∙ ap length (painted-append m (take (i + 1) items) (drop (i + 1) items))
-        ∙ length-append (painted m (take (i + 1) items)) (painted m (drop (i + 1) items)) in
+    ap (λ l. length (painted m l)) (sym (take-append-drop (i + 1) items))
+    ∙ ap length (painted-append m (take (i + 1) items) (drop (i + 1) items))
+    ∙ length-append (painted m (take (i + 1) items)) (painted m (drop (i + 1) items)) in
     let f = painted-length-more m items i d item below is in
     omega arith

@@ -1,5 +1,5 @@
 pub mod Counting
 pub mod Plain
 pub mod Running
-pub mod Tags
+pub mod Texts
 mod Worked

@@ -2,6 +2,7 @@
 use Rattle.std.proofs.Common.{◌≡◌, ◌∙◌, sym, ap, subst, refl, ℕ, ◌+◌, ◌≤◌, ◌<◌, Bool, true, false, ◌&&◌, ◌||◌, not, cond, List, [], ◌∷◌, length, get_or, arith, nat_eq, IsTrue}
 use Rattle.std.specs.Prelude.{nat_le}
 use Rattle.std.specs.List.{All, list_all}
+use Rattle.std.proofs.lemmas.Bool.{and_parts}
 use Rattle.std.proofs.lemmas.List.Elements.{All-get_or}
 use Rattle.std.proofs.lemmas.Grind.{common_steps}
 use Rattle.font_metrics.specs.Metrics.{MetricsValue, NamedGlyph, name_at, nameless}
@@ -17,21 +18,14 @@ byte_plain byte h = grind (arith, common_steps)
 
 weaker : (bytes : List ℕ) → list_all is_name_byte bytes ≡ true → list_all is_plain bytes ≡ true
 weaker [] h = refl
-weaker (byte ∷ bytes) h = by (is_name_byte byte) refl h
-  where
-    by : (b : Bool) → is_name_byte byte ≡ b → (b && list_all is_name_byte bytes) ≡ true → list_all is_plain (byte ∷ bytes) ≡ true
-    by true e k = ap (λ (x : Bool). x && list_all is_plain bytes) (byte_plain byte e) ∙ weaker bytes k
-    by false e k = absurd cc
-
-last_of_three : (a b c : Bool) → IsTrue (a && b && c) → c ≡ true
-last_of_three true true true h = refl
-last_of_three true true false h = absurd h
-last_of_three true false c h = absurd h
-last_of_three false b c h = absurd h
+weaker (byte ∷ bytes) h =
+    let parts = and_parts (is_name_byte byte) (list_all is_name_byte bytes) h in
+    ap (λ (x : Bool). x && list_all is_plain bytes) (byte_plain byte parts.0) ∙ weaker bytes parts.1
 
 name_plain : (bytes : List ℕ) → IsTrue (is_name bytes) → list_all is_plain bytes ≡ true
 unfolding is_name
-name_plain bytes h = weaker bytes (last_of_three (nat_le 1 (length bytes)) (nat_le (length bytes) 63) (list_all is_name_byte bytes) h)
+name_plain bytes h =
+    weaker bytes (and_parts (nat_le 1 (length bytes) && nat_le (length bytes) 63) (list_all is_name_byte bytes) h).1
 
 pub name_law : NameLaw
 unfolding name_at

@@ -1,5 +1,5 @@
 -- The pieces of an assembly by the way along it, and how far that goes.
-use Rattle.std.proofs.Common.{◌≡◌, ◌∙◌, sym, ap, subst, refl, ℕ, ◌+◌, ◌*◌, ◌^◌, ◌≤◌, ◌<◌, ℤ, pos, ◌+ℤ◌, ◌-ℤ◌, ◌≤ℤ◌, List, [], ◌∷◌, ◌++◌, length, map, take, drop, get_or, replicate, arith, append-nil}
+use Rattle.std.proofs.Common.{◌≡◌, ◌∙◌, sym, ap, subst, refl, ℕ, zero, suc, ◌+◌, ◌*◌, ◌^◌, ◌≤◌, ◌<◌, false, ℤ, pos, ◌+ℤ◌, ◌-ℤ◌, ◌≤ℤ◌, List, [], ◌∷◌, ◌++◌, length, map, take, drop, get_or, replicate, arith, append-nil}
 use Rattle.std.specs.List.{All, flat_map}
 use Rattle.std.proofs.lemmas.List.Elements.{All-head, All-tail, All-append, All-replicate, All-nil, All-get_or}
 use Rattle.std.proofs.lemmas.List.Concat.{flat_map-append}
@@ -15,6 +15,10 @@ use Rattle.paint_list.specs.Pieces.{IsAssembly, built_paints, each_behind, piece
 use Rattle.paint_list.specs.Running.{laid_from, start_after}
 use Rattle.paint_list.specs.declared.paints.Paint.{Paint}
 use Rattle.paint_list.specs.declared.pieces.Assembly.{Assembly}
+
+-- what stands for a part that isn't there
+abbrev pub no_part : Part
+no_part = record { glyph = record { 0 = 0 }; extender = false; start = pos 0; end = pos 0; full = pos 0 }
 
 -- ---- one behind the other
 
@@ -73,7 +77,7 @@ module _ (m : MetricsValue) (built : Assembly) where
   laid-length : (start : ℤ) (parts : List Part) → length (laid_from m built start parts) ≡ length parts
   unfolding laid_from
   laid-length start [] = refl
-  laid-length start (part ∷ parts) = ap (λ n. n + 1) (laid-length (start +ℤ step_of m built part) parts)
+  laid-length start (part ∷ parts) = ap suc (laid-length (start +ℤ step_of m built part) parts)
 
   -- as many are painted as there are pieces
   pub built_length : length (built_paints m built) ≡ length (pieces_in m built)
@@ -97,6 +101,15 @@ module _ (m : MetricsValue) (built : Assembly) where
       widened ((n + length (part ∷ parts)) * 2 ^ 34)
       (after_within (start +ℤ step_of m built part) (n + 1) parts taken is (All-tail (IsPart (length m.glyphs)) part parts all) next) (omega arith)
 
+  -- pieces of one part lead so far
+  pub same_within : (start : ℤ) (n k : ℕ) (part : Part) → IsWithin (2 ^ 34) (step_of m built part) → IsWithin (n * 2 ^ 34) start
+      → IsWithin ((n + k) * 2 ^ 34) (start_after m built start (replicate k part))
+  unfolding start_after
+  same_within start n zero part near h = widened ((n + 0) * 2 ^ 34) h (omega arith)
+  same_within start n (suc k) part near h =
+      widened ((n + suc k) * 2 ^ 34)
+      (same_within (start +ℤ step_of m built part) (n + 1) k part near (widened ((n + 1) * 2 ^ 34) (sum_in h near) (omega arith))) (omega arith)
+
 -- ---- the pieces of some of the parts
 
 pub pieces-append : (count : ℤ) (xs ys : List Part) → pieces_of count (xs ++ ys) ≡ pieces_of count xs ++ pieces_of count ys
@@ -117,9 +130,9 @@ pieces-more count parts i d part below is =
 pub pieces-few : (count : ℤ) (parts : List Part) (i : ℕ) → length (pieces_of count (take i parts)) ≤ length (pieces_of count parts)
 pieces-few count parts i =
     let e : length (pieces_of count parts) ≡ length (pieces_of count (take i parts)) + length (pieces_of count (drop i parts)) =
-        ap (λ l. length (pieces_of count l)) (sym (take-append-drop i parts))
-        ∙ ap length (pieces-append count (take i parts) (drop i parts))
-        ∙ length-append (pieces_of count (take i parts)) (pieces_of count (drop i parts)) in
+    ap (λ l. length (pieces_of count l)) (sym (take-append-drop i parts))
+    ∙ ap length (pieces-append count (take i parts) (drop i parts))
+    ∙ length-append (pieces_of count (take i parts)) (pieces_of count (drop i parts)) in
     omega arith
 
 pub pieces-length-more : (count : ℤ) (parts : List Part) (i : ℕ) (d part : Part) → i < length parts → part ≡ get_or parts i d

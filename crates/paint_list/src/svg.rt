@@ -7,7 +7,7 @@ ghost use Rattle.paint_list.specs.Paints.{IsOfFont};
 ghost use Rattle.paint_list.specs.Svg.{paint_text, svg_of};
 
 use crate::paints::Paint;
-use crate::tags::{END, head_tag, put_paint};
+use crate::tags::{END, head_line, put_paint};
 use doc_io::{Piece, Sink, WriteFault};
 use fixed_units::{List, MathBox};
 use font_metrics::Metrics;
@@ -45,7 +45,7 @@ fn put_svg<O: Sink>(
     ensures { Puts (O.told out.old) (O.told out.new) piece.old piece.new
         (svg_of metrics.now frame.now paints.now) result }
 {
-    piece.put(out, head_tag(frame).as_str())?;
+    piece.put(out, head_line(frame).as_str())?;
     put_paints(piece, out, paints, metrics)?;
     piece.put(out, END)
 }

@@ -1,10 +1,10 @@
 //! The lines of an SVG. No call takes memory.
-ghost use Rattle.std.specs.Prelude.{◌≡◌, ◌+◌, ◌≤◌, ◌++◌, codes, length};
+ghost use Rattle.std.specs.Prelude.{◌≡◌, ◌+◌, ◌≤◌, ◌++◌, length};
 ghost use Rattle.std.specs.Fmt.{signed_decimal};
 ghost use Rattle.fixed_units.specs.Boxes.{IsStored};
 ghost use Rattle.doc_io.specs.Pieces.{Puts};
 ghost use Rattle.paint_list.specs.Paints.{IsOfFont};
-ghost use Rattle.paint_list.specs.Svg.{empty_text, head_text, moved_and_grown, paint_text, rect_tag};
+ghost use Rattle.paint_list.specs.Svg.{head_line, is_shown, window_line, paint_text, rect_if_shown, rect_line, use_end, use_line};
 
 use crate::paints::Paint;
 use doc_io::{Piece, ShortText, Sink, WriteFault};
@@ -17,20 +17,28 @@ pub const END: &str = "</svg>\n";
 
 /// The first line: what is shown begins at the root's left edge and at its top, and is as wide and as
 /// high as its box.
-pub fn head_tag(frame: &MathBox) -> ShortText
+pub fn head_line(frame: &MathBox) -> ShortText
     requires { IsStored frame.now }
-    ensures { result ≡ head_text frame.now }
+    ensures { result ≡ head_line frame.now }
 {
-    let top = -frame.ascent;
-    let width = frame.width.max(0);
-    let height = (frame.ascent + frame.descent).max(0);
+    window_line(
+        -frame.ascent,
+        frame.width.max(0),
+        (frame.ascent + frame.descent).max(0),
+    )
+}
+
+/// The first line, by the upper edge of what is shown, its width and its height.
+fn window_line(top: i64, width: i64, height: i64) -> ShortText
+    ensures { result ≡ window_line top width height }
+{
     let ahead = "<svg xmlns=\"http://www.w3.org/2000/svg\" viewBox=\"0";
     let mut text = ShortText::numbered(ahead, &[top, width, height]);
     text.add("\">\n");
     text
 }
 
-/// Puts the line of a glyph or a rule. A rule without width or height has none.
+/// Puts the line of a glyph or a rule.
 pub fn put_paint<O: Sink>(
     piece: &mut Piece,
     out: &mut O,
@@ -42,29 +50,56 @@ pub fn put_paint<O: Sink>(
         (paint_text metrics.now paint.now) result }
 {
     match *paint {
-        Paint::Glyph { x, y, size, glyph } => {
-            let behind = use_behind(x, y, size);
-            put_around(
-                piece,
-                out,
-                "<use href=\"#",
-                metrics.name(glyph),
-                behind.as_str(),
-            )
-        }
+        Paint::Glyph { x, y, size, glyph } => put_use(piece, out, x, y, size, metrics.name(glyph)),
         Paint::Rule {
             x,
             y,
             width,
             height,
-        } => {
-            if width > 0 && height > 0 {
-                piece.put(out, rect_tag(x, y, width, height).as_str())
-            } else {
-                Ok(())
-            }
-        }
+        } => put_rect(piece, out, x, y, width, height),
     }
+}
+
+/// Puts the line of a glyph, by its name.
+fn put_use<O: Sink>(
+    piece: &mut Piece,
+    out: &mut O,
+    x: i64,
+    y: i64,
+    size: i64,
+    name: &str,
+) -> Result<(), WriteFault>
+    ensures { Puts (O.told out.old) (O.told out.new) piece.old piece.new
+        (use_line x y size name.now) result }
+{
+    let behind = use_end(x, y, size);
+    put_around(piece, out, "<use href=\"#", name, behind.as_str())
+}
+
+/// Puts the line of a rule, where it has width and height.
+fn put_rect<O: Sink>(
+    piece: &mut Piece,
+    out: &mut O,
+    x: i64,
+    y: i64,
+    width: i64,
+    height: i64,
+) -> Result<(), WriteFault>
+    ensures { Puts (O.told out.old) (O.told out.new) piece.old piece.new
+        (rect_if_shown x y width height) result }
+{
+    if is_shown(width, height) {
+        piece.put(out, rect_line(x, y, width, height).as_str())
+    } else {
+        Ok(())
+    }
+}
+
+/// Whether a rule has width and height.
+fn is_shown(width: i64, height: i64) -> bool
+    ensures { result ≡ is_shown width height }
+{
+    (0 < width) & (0 < height)
 }
 
 /// Puts a name between two texts.
@@ -84,8 +119,8 @@ fn put_around<O: Sink>(
 }
 
 /// What stands behind the name of a glyph.
-fn use_behind(x: i64, y: i64, size: i64) -> ShortText
-    ensures { result ≡ codes "\" transform=\"" ++ moved_and_grown x y size ++ codes "\"/>\n" }
+fn use_end(x: i64, y: i64, size: i64) -> ShortText
+    ensures { result ≡ use_end x y size }
 {
     let mut text = ShortText::of("\" transform=\"translate(");
     add_decimal(&mut text, x);
@@ -97,8 +132,8 @@ fn use_behind(x: i64, y: i64, size: i64) -> ShortText
 }
 
 /// The line of a rule that has width and height.
-fn rect_tag(x: i64, y: i64, width: i64, height: i64) -> ShortText
-    ensures { result ≡ empty_text (rect_tag x y width height) }
+fn rect_line(x: i64, y: i64, width: i64, height: i64) -> ShortText
+    ensures { result ≡ rect_line x y width height }
 {
     let mut text = ShortText::of("<rect x=\"");
     add_decimal(&mut text, x);

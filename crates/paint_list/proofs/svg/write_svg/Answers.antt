@@ -1,0 +1,20 @@
+use Rattle.std.proofs.Common.{◌≡◌, ap, subst, [], Ok, Err}
+use Rattle.doc_io.specs.Pieces.{Puts}
+use Rattle.doc_io.specs.declared.whole.WriteFault.{WriteFault}
+use Rattle.doc_io.proofs.Written.{sent_all, sent_front}
+use Rattle.paint_list.specs.Svg.{svg_of}
+use Rattle.paint_list.proofs.Texts.{svg_some}
+use Rattle.paint_list.proofs.svg.write_svg.Goals as goal
+
+pub returns-in_err-put_svg : goal.returns-in_err-put_svg
+returns-in_err-put_svg g c = ?
+
+pub returns : goal.returns
+returns g c =
+    let told = g.O.Sink.told in
+    let m = c.args.metrics.now in
+    let frame = c.args.frame.now in
+    let put : Puts {E = WriteFault} (told c.args.out.now) (told c.put_svg.new.out) [] c.put_svg.new.piece (svg_of m frame c.args.paints.now) (Ok tt) =
+    subst (λ paints. Puts {E = WriteFault} (told c.args.out.now) (told c.put_svg.new.out) [] c.put_svg.new.piece (svg_of m frame paints) (Ok tt)) c.as_slice.ensures
+    (subst (λ held. Puts {E = WriteFault} (told c.args.out.now) (told c.put_svg.new.out) held c.put_svg.new.piece (svg_of m frame c.as_slice.result.now) (Ok tt)) c.new-piece.ensures c.in_ok-put_svg.ensures) in
+    sent_all _ _ _ _ _ _ put (λ none. absurd (svg_some m frame c.args.paints.now none)) c.send.ensures.writes
