@@ -1,3 +1,4 @@
+pub mod Areas
 pub mod Between
 pub mod Children
 pub mod Elements
