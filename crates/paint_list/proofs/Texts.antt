@@ -10,11 +10,11 @@ use Rattle.fixed_units.specs.declared.boxes.MathBox.{MathBox}
 use Rattle.font_metrics.specs.Metrics.{MetricsValue}
 use Rattle.paint_list.specs.Svg.{end_line, head_line, paint_text, svg_of}
 use Rattle.paint_list.specs.declared.paints.Paint.{Paint}
-use Rattle.paint_list.specs.declared.paints.Paint.TheVariants.{Rule}
+use Rattle.paint_list.specs.declared.paints.Paint.TheVariants.{Glyph}
 
 -- what stands for a glyph or a rule that isn't there
 abbrev pub no_paint : Paint
-no_paint = Rule (pos 0) (pos 0) (pos 0) (pos 0)
+no_paint = Glyph (pos 0) (pos 0) (pos 0) record { 0 = 0 }
 
 pub texts-more : (m : MetricsValue) (paints : List Paint) (i : ℕ) (d paint : Paint) → i < length paints → paint ≡ get_or paints i d
     → flat_map (paint_text m) (take i paints) ++ paint_text m paint ≡ flat_map (paint_text m) (take (i + 1) paints)

@@ -1,5 +1,5 @@
 use Rattle.std.proofs.Common.{◌≡◌, ◌∙◌, sym, ap, ◌+◌, min, length, rules, w64, to_z, of_z}
-use Rattle.paint_list.specs.Paints.{most_paints, paints_of}
+use Rattle.paint_list.specs.Paints.{most_paints, paints_of, paints_of_mark}
 use Rattle.paint_list.specs.Pieces.{pieces_of}
 use Rattle.paint_list.specs.declared.pieces.Assembly.{Assembly}
 use Rattle.paint_list.proofs.Running.{built_length}
@@ -14,4 +14,5 @@ returns-in-Drawn-Built c =
     c.piece_count.ensures
     ∙ (λ i. min (length (pieces_of (count i) (c.assembly.ensures.value i))) (most_paints + 1))
     ∙ ap (λ n. min n (most_paints + 1)) (sym (built_length m built))
+    ∙ sym (ap (λ mark. min (length (paints_of_mark m mark)) (most_paints + 1)) b.field-0-is)
     ∙ sym (ap (λ item. min (length (paints_of m item)) (most_paints + 1)) b.is)

@@ -7,7 +7,7 @@ use Rattle.fixed_units.proofs.Within.{natural_in, widened}
 use Rattle.font_metrics.proofs.Scaling.{back64}
 use Rattle.font_metrics.specs.Taken.{IsPart}
 use Rattle.paint_list.specs.Paints.{most_paints}
-use Rattle.paint_list.specs.Pieces.{pieces_of}
+use Rattle.paint_list.specs.Pieces.{pieces_of, times}
 use Rattle.paint_list.specs.Running.{laid_from, start_after}
 use Rattle.paint_list.proofs.Running.{after-append, after_within, built_is_laid, laid-append, no_part, pieces-few, pieces-length-more, pieces-more, pieces_are_parts}
 use Rattle.paint_list.proofs.pieces.add_pieces.Goals as goal
@@ -53,12 +53,12 @@ loop-part-preserved c =
     let back : to_z w64 (of_z w64 c.in_ok-start.start) ≡ c.in_ok-start.start = search rules in
     record {
       paints = added.added
-          ∙ (λ k. c.loop-part.invariant.paints k ++ laid_from m built (c.loop-part.invariant.start k) (replicate _ part))
-          ∙ append_assoc c.args.paints.now (laid_from m built (pos 0) before) _
-          ∙ ap (λ l. c.args.paints.now ++ l) (sym (laid-append m built (pos 0) before _) ∙ ap (laid_from m built (pos 0)) (sym more));
+          ∙ (λ k. c.loop-part.invariant.paints k ++ laid_from m built (c.loop-part.invariant.start k) (replicate (times built.count part) part))
+          ∙ append_assoc c.args.paints.now (laid_from m built (pos 0) before) (laid_from m built (start_after m built (pos 0) before) (replicate (times built.count part) part))
+          ∙ ap (λ l. c.args.paints.now ++ l) (sym (laid-append m built (pos 0) before (replicate (times built.count part) part)) ∙ ap (laid_from m built (pos 0)) (sym more));
       start = back ∙ added.next
-          ∙ ap (λ s. start_after m built s (replicate _ part)) c.loop-part.invariant.start
-          ∙ sym (after-append m built (pos 0) before _) ∙ ap (start_after m built (pos 0)) (sym more);
+          ∙ ap (λ s. start_after m built s (replicate (times built.count part) part)) c.loop-part.invariant.start
+          ∙ sym (after-append m built (pos 0) before (replicate (times built.count part) part)) ∙ ap (start_after m built (pos 0)) (sym more);
     }
 
 pub returns : goal.returns

@@ -1,6 +1,8 @@
-use Rattle.std.proofs.Common.{◌≡◌, ◌∙◌, sym, ap, pos, ◌+ℤ◌, w64, to_z, of_z, lit<, rules}
+use Rattle.std.proofs.Common.{◌≡◌, ◌∙◌, sym, ap, subst, max, pos, ◌+ℤ◌, w64, to_z, of_z, lit<, rules}
 use Rattle.std.specs.Int.{int_max}
 use Rattle.std.specs.Prelude.{neg_ℤ}
+use Rattle.fixed_units.specs.Boxes.{farthest}
+use Rattle.fixed_units.specs.Numbers.{IsWithin}
 use Rattle.fixed_units.proofs.Within.{max_in, natural_in, negation_in, sum_in}
 use Rattle.font_metrics.proofs.Scaling.{back64}
 use Rattle.paint_list.specs.Svg.{head_line, window_line}
@@ -8,4 +10,18 @@ use Rattle.paint_list.proofs.tags.head_line.Goals as goal
 
 pub returns : goal.returns
 unfolding head_line
-returns c = ?
+returns c =
+    let frame = c.args.frame.now in
+    let is = c.requires in
+    let ascent : to_z w64 (of_z w64 frame.ascent) ≡ frame.ascent = back64 is.ascent (lit< tt) in
+    let descent : to_z w64 (of_z w64 frame.descent) ≡ frame.descent = back64 is.descent (lit< tt) in
+    let width : to_z w64 (of_z w64 frame.width) ≡ frame.width = back64 is.width (lit< tt) in
+    let top : to_z w64 (of_z w64 (neg_ℤ (to_z w64 (of_z w64 frame.ascent)))) ≡ neg_ℤ frame.ascent =
+    (λ i. to_z w64 (of_z w64 (neg_ℤ (ascent i)))) ∙ back64 (negation_in is.ascent) (lit< tt) in
+    let height : to_z w64 (of_z w64 (to_z w64 (of_z w64 frame.ascent) +ℤ to_z w64 (of_z w64 frame.descent))) ≡ frame.ascent +ℤ frame.descent =
+    (λ i. to_z w64 (of_z w64 (ascent i +ℤ descent i))) ∙ back64 (sum_in is.ascent is.descent) (lit< tt) in
+    let wide : c.max.result ≡ int_max frame.width (pos 0) = c.max.ensures.value ∙ ap (λ z. int_max z (pos 0)) width in
+    let high : c.max-2.result ≡ int_max (frame.ascent +ℤ frame.descent) (pos 0) = c.max-2.ensures.value ∙ ap (λ z. int_max z (pos 0)) height in
+    let wide_back : to_z w64 (of_z w64 c.max.result) ≡ c.max.result = search rules in
+    let high_back : to_z w64 (of_z w64 c.max-2.result) ≡ c.max-2.result = search rules in
+    c.window_line.ensures ∙ (λ i. window_line (top i) ((wide_back ∙ wide) i) ((high_back ∙ high) i))
