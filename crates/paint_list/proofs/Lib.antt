@@ -1,4 +1,5 @@
 pub mod Counting
+pub mod Glyphs
 pub mod Plain
 pub mod Running
 pub mod Texts

@@ -1,10 +1,11 @@
 //! How much is painted. It is counted before anything is painted, and never past one more than may
 //! be.
 ghost use Rattle.std.specs.Prelude.{◌≡◌, ◌+◌, min, All, length};
-ghost use Rattle.paint_list.specs.Paints.{IsPaintable, most_paints, painted, paints_of};
-ghost use Rattle.paint_list.specs.Pieces.{pieces_of};
+ghost use Rattle.box_writer.specs.Items.{IsKnown};
+ghost use Rattle.paint_list.specs.Paints.{IsPaintable, IsPaintableMark, most_paints, painted, paints_of, paints_of_mark};
+ghost use Rattle.paint_list.specs.Pieces.{pieces_in, pieces_of};
 
-use crate::pieces::times;
+use crate::pieces::{Assembly, times};
 use box_writer::PlacedItem;
 use font_metrics::{Mark, Metrics, Part};
 
@@ -30,16 +31,47 @@ fn paints_of_item(item: &PlacedItem, metrics: &Metrics) -> u64
 {
     match item {
         PlacedItem::Frame(_) => 0,
-        PlacedItem::Drawn(Mark::Glyph { .. }) | PlacedItem::Drawn(Mark::Rule { .. }) => 1,
-        PlacedItem::Drawn(
-            Mark::Built {
+        PlacedItem::Drawn(mark) => paints_of_mark(*mark, metrics),
+    }
+}
+
+/// How much is painted of a mark, counted likewise.
+fn paints_of_mark(mark: Mark, metrics: &Metrics) -> u64
+    requires { IsPaintableMark metrics.now mark }
+    ensures { result ≡ min (length (paints_of_mark metrics.now mark)) (most_paints + 1) }
+{
+    match mark {
+        Mark::Glyph { .. } => 1,
+        Mark::Rule { .. } => 1,
+        Mark::Built {
+            x,
+            y,
+            size,
+            axis,
+            glyph,
+            count,
+            overlap,
+        } => {
+            let built = Assembly {
+                x,
+                y,
+                size,
                 axis,
                 glyph,
                 count,
-                ..
-            },
-        ) => piece_count(metrics.assembly(*glyph, *axis), *count),
+                overlap,
+            };
+            pieces_of_assembly(&built, metrics)
+        }
     }
+}
+
+/// How many pieces an assembly has, counted likewise.
+fn pieces_of_assembly(built: &Assembly, metrics: &Metrics) -> u64
+    requires { IsKnown metrics.now built.now.glyph }
+    ensures { result ≡ min (length (pieces_in metrics.now built.now)) (most_paints + 1) }
+{
+    piece_count(metrics.assembly(built.glyph, built.axis), built.count)
 }
 
 /// How many pieces an assembly of these parts has, counted likewise.

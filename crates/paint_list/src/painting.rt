@@ -20,7 +20,24 @@ pub fn paint(alloc: Global, placed: &Placed, metrics: &Metrics) -> Result<List<P
     ensures too_many { result ≡ Err TooMany → most_paints < length (painted metrics.now placed.now) }
     ensures refused { most_paints < length (painted metrics.now placed.now) → result ≡ Err TooMany }
 {
-    let items = placed.items.as_slice();
+    paint_items(alloc, placed.items.as_slice(), metrics)
+}
+
+/// The same of the items of a page.
+fn paint_items(
+    alloc: Global,
+    items: &[PlacedItem],
+    metrics: &Metrics,
+) -> Result<List<Paint>, PaintRefusal>
+    requires { All (IsPaintable metrics.now) items.now }
+    ensures exact { IfOk result (λ paints. paints ≡ painted metrics.now items.now) }
+    ensures glyphs { IfOk result (All (IsOfFont metrics.now)) }
+    ensures few { OnOk result (length (painted metrics.now items.now) ≤ most_paints) }
+    ensures too_many { result ≡ Err TooMany → most_paints < length (painted metrics.now items.now) }
+    ensures refused { most_paints < length (painted metrics.now items.now) → result ≡ Err TooMany }
+{
+    // What is known of the glyphs of pieces: the call does nothing.
+    metrics.is_taken();
     let count = paint_count(items, metrics);
     if count > MOST_PAINTS {
         return Err(PaintRefusal::TooMany);

@@ -22,7 +22,7 @@ pub fn head_line(frame: &MathBox) -> ShortText
     ensures { result ≡ head_line frame.now }
 {
     window_line(
-        -frame.ascent,
+        0 - frame.ascent,
         frame.width.max(0),
         (frame.ascent + frame.descent).max(0),
     )

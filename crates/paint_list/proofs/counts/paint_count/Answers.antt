@@ -1,4 +1,4 @@
-use Rattle.std.proofs.Common.{◌≡◌, ◌+◌, ◌<◌, refl, length, take, get_or, rules, arith}
+use Rattle.std.proofs.Common.{◌≡◌, ◌<◌, refl, length, get_or, rules, arith}
 use Rattle.paint_list.specs.Paints.{painted}
 use Rattle.paint_list.proofs.Counting.{painted-length-more}
 use Rattle.paint_list.proofs.counts.paint_count.Goals as goal

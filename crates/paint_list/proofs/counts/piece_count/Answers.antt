@@ -1,4 +1,4 @@
-use Rattle.std.proofs.Common.{◌≡◌, ◌+◌, ◌<◌, refl, length, take, get_or, rules, arith, w64, to_z, of_z}
+use Rattle.std.proofs.Common.{◌<◌, refl, length, get_or, rules, arith, w64, to_z, of_z}
 use Rattle.paint_list.specs.Pieces.{pieces_of}
 use Rattle.paint_list.proofs.Running.{no_part, pieces-length-more}
 use Rattle.paint_list.proofs.counts.piece_count.Goals as goal

@@ -1,4 +1,4 @@
-use Rattle.std.proofs.Common.{◌≡◌, ◌∙◌, sym, ap, subst, refl, ◌+◌, ◌*◌, ◌^◌, ◌≤◌, ◌<◌, ◌+ℤ◌, [], ◌∷◌, ◌++◌, replicate, append-nil, append_assoc, arith, rules, w64, to_z, of_z, lit<}
+use Rattle.std.proofs.Common.{◌≡◌, ◌∙◌, sym, ap, subst, refl, ◌*◌, ◌^◌, ◌≤◌, ◌+ℤ◌, [], ◌∷◌, ◌++◌, replicate, append-nil, append_assoc, arith, rules, w64, to_z, of_z, lit<}
 use Rattle.std.proofs.lemmas.List.{replicate_more}
 use Rattle.fixed_units.specs.Numbers.{IsWithin}
 use Rattle.fixed_units.proofs.Within.{fits_i64, sum_in, widened}

@@ -1,10 +1,8 @@
-use Rattle.std.proofs.Common.{◌≡◌, ◌∙◌, sym, ap, subst, refl, ℕ, pos, ◌+◌, ◌*◌, ◌^◌, ◌≤◌, ◌<◌, [], ◌∷◌, ◌++◌, length, take, get_or, replicate, append-nil, append_assoc, arith, rules, w64, to_z, of_z, lit<}
-use Rattle.std.specs.List.{All}
+use Rattle.std.proofs.Common.{◌≡◌, ◌∙◌, sym, ap, subst, refl, pos, ◌+◌, ◌*◌, ◌^◌, ◌≤◌, ◌<◌, ◌++◌, length, take, get_or, replicate, append-nil, append_assoc, arith, rules, w64, to_z, of_z}
 use Rattle.std.proofs.Math.Seq.{take-length}
 use Rattle.std.proofs.lemmas.List.Elements.{All-take}
 use Rattle.fixed_units.specs.Numbers.{IsWithin}
 use Rattle.fixed_units.proofs.Within.{natural_in, widened}
-use Rattle.font_metrics.proofs.Scaling.{back64}
 use Rattle.font_metrics.specs.Taken.{IsPart}
 use Rattle.paint_list.specs.Paints.{most_paints}
 use Rattle.paint_list.specs.Pieces.{pieces_of, times}

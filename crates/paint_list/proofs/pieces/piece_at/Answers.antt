@@ -1,10 +1,8 @@
-use Rattle.std.proofs.Common.{◌≡◌, ap, rules, arith, w64, lit<, FitsSigned, ◌+ℤ◌, ◌-ℤ◌}
+use Rattle.std.proofs.Common.{ap, arith, w64, lit<, FitsSigned}
 use Rattle.std.proofs.lemmas.Int.{to_z-of_z}
 use Rattle.fixed_units.proofs.Within.{difference_in, fits_i64, sum_in}
 use Rattle.font_metrics.proofs.Scaling.{size_in}
-use Rattle.op_dictionary.specs.declared.operator.Axis.TheVariants.{Block, Inline}
-use Rattle.paint_list.specs.Pieces.{ink_below, piece_along, piece_at}
-use Rattle.paint_list.specs.declared.paints.Paint.TheVariants.{Glyph}
+use Rattle.paint_list.specs.Pieces.{piece_along, piece_at}
 use Rattle.paint_list.proofs.pieces.piece_at.Goals as goal
 
 pub returns-in-Inline : goal.returns-in-Inline

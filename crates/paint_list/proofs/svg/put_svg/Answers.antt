@@ -1,8 +1,8 @@
-use Rattle.std.proofs.Common.{◌∙◌, sym, ap, subst, ◌++◌}
+use Rattle.std.proofs.Common.{◌∙◌, ap, subst, ◌++◌}
 use Rattle.std.specs.List.{flat_map}
 use Rattle.doc_io.specs.Pieces.{Puts}
 use Rattle.doc_io.proofs.Written.{puts_next, puts_cut}
-use Rattle.paint_list.specs.Svg.{end_line, head_line, paint_text}
+use Rattle.paint_list.specs.Svg.{end_line, paint_text}
 use Rattle.paint_list.proofs.Texts.{svg_parts}
 use Rattle.paint_list.proofs.svg.put_svg.Goals as goal
 

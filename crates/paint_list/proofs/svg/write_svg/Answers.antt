@@ -1,4 +1,4 @@
-use Rattle.std.proofs.Common.{◌≡◌, ap, subst, append-nil, [], Ok, Err}
+use Rattle.std.proofs.Common.{subst, append-nil, [], Ok, Err}
 use Rattle.doc_io.specs.Pieces.{Puts}
 use Rattle.doc_io.specs.declared.whole.WriteFault.{WriteFault}
 use Rattle.doc_io.proofs.Written.{puts_cut, sent_all, sent_front}
@@ -10,8 +10,8 @@ pub returns-in_err-put_svg : goal.returns-in_err-put_svg
 returns-in_err-put_svg g c =
     let told = g.O.Sink.told in
     let svg = svg_of c.args.metrics.now c.args.frame.now c.args.paints.now in
-    let put = subst (λ paints. Puts {E = WriteFault} (told c.args.out.now) (told c.put_svg.new.out) [] c.put_svg.new.piece (svg_of c.args.metrics.now c.args.frame.now paints) (Err c.in_err-put_svg.field-0)) c.as_slice.ensures
-    (subst (λ held. Puts {E = WriteFault} (told c.args.out.now) (told c.put_svg.new.out) held c.put_svg.new.piece (svg_of c.args.metrics.now c.args.frame.now c.as_slice.result.now) (Err c.in_err-put_svg.field-0)) c.new-piece.ensures c.in_err-put_svg.ensures) in
+    let put = subst (λ paints. Puts {E = WriteFault} (told c.args.out.now) (told c.put_svg.new.out) [] c.put_svg.new.piece (svg_of c.args.metrics.now c.args.frame.now paints) (Err c.in_err-put_svg.field-0.0)) c.as_slice.ensures
+    (subst (λ held. Puts {E = WriteFault} (told c.args.out.now) (told c.put_svg.new.out) held c.put_svg.new.piece (svg_of c.args.metrics.now c.args.frame.now c.as_slice.result.now) (Err c.in_err-put_svg.field-0.0)) c.new-piece.ensures c.in_err-put_svg.ensures) in
     let cut = puts_cut _ _ _ _ svg [] _ _ put c.from_residual.ensures.0 in
     sent_front _ _ _ _ _ (subst (λ text. Puts {E = WriteFault} (told c.args.out.now) (told c.put_svg.new.out) [] c.put_svg.new.piece text c.from_residual.result) (append-nil svg) cut)
     c.from_residual.ensures.0 (svg_some c.args.metrics.now c.args.frame.now c.args.paints.now)

@@ -1,12 +1,14 @@
-use Rattle.std.proofs.Common.{◌≡◌, ◌∙◌, sym, ap, subst, max, pos, ◌+ℤ◌, w64, to_z, of_z, lit<, rules}
+use Rattle.std.proofs.Common.{◌≡◌, ◌∙◌, ap, arith, ℤ, pos, ◌+ℤ◌, ◌-ℤ◌, w64, to_z, of_z, lit<, rules}
 use Rattle.std.specs.Int.{int_max}
 use Rattle.std.specs.Prelude.{neg_ℤ}
-use Rattle.fixed_units.specs.Boxes.{farthest}
-use Rattle.fixed_units.specs.Numbers.{IsWithin}
-use Rattle.fixed_units.proofs.Within.{max_in, natural_in, negation_in, sum_in}
+use Rattle.fixed_units.proofs.Signed.{signed}
+use Rattle.fixed_units.proofs.Within.{difference_in, natural_in, sum_in}
 use Rattle.font_metrics.proofs.Scaling.{back64}
 use Rattle.paint_list.specs.Svg.{head_line, window_line}
 use Rattle.paint_list.proofs.tags.head_line.Goals as goal
+
+none_less : (z : ℤ) → (pos 0 -ℤ z) ≡ neg_ℤ z
+none_less z = omega (arith, signed)
 
 pub returns : goal.returns
 unfolding head_line
@@ -16,8 +18,8 @@ returns c =
     let ascent : to_z w64 (of_z w64 frame.ascent) ≡ frame.ascent = back64 is.ascent (lit< tt) in
     let descent : to_z w64 (of_z w64 frame.descent) ≡ frame.descent = back64 is.descent (lit< tt) in
     let width : to_z w64 (of_z w64 frame.width) ≡ frame.width = back64 is.width (lit< tt) in
-    let top : to_z w64 (of_z w64 (neg_ℤ (to_z w64 (of_z w64 frame.ascent)))) ≡ neg_ℤ frame.ascent =
-    (λ i. to_z w64 (of_z w64 (neg_ℤ (ascent i)))) ∙ back64 (negation_in is.ascent) (lit< tt) in
+    let top : to_z w64 (of_z w64 (pos 0 -ℤ to_z w64 (of_z w64 frame.ascent))) ≡ neg_ℤ frame.ascent =
+    (λ i. to_z w64 (of_z w64 (pos 0 -ℤ ascent i))) ∙ back64 (difference_in (natural_in 0) is.ascent) (lit< tt) ∙ none_less frame.ascent in
     let height : to_z w64 (of_z w64 (to_z w64 (of_z w64 frame.ascent) +ℤ to_z w64 (of_z w64 frame.descent))) ≡ frame.ascent +ℤ frame.descent =
     (λ i. to_z w64 (of_z w64 (ascent i +ℤ descent i))) ∙ back64 (sum_in is.ascent is.descent) (lit< tt) in
     let wide : c.max.result ≡ int_max frame.width (pos 0) = c.max.ensures.value ∙ ap (λ z. int_max z (pos 0)) width in
