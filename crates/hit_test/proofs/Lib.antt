@@ -1,4 +1,4 @@
-pub mod Areas
+pub mod AreaLists
 pub mod Between
 pub mod Children
 pub mod Elements

@@ -22,7 +22,7 @@ pub record Looks (first second : ℕ) (node : Node) (kids : List Node) (most : �
   pub first_is : sight.first ≡ (has_id first (flow_tree node) || list_any (holds_id first) kids)
   pub second_is : sight.second ≡ (has_id second (flow_tree node) || list_any (holds_id second) kids)
   pub over : Finds first second (lowest_among first second kids) sight.over
-  pub span : Spans (leads first second) kids most span.from span.to
+  pub spans : Spans (leads first second) kids most span.from span.to
 
 -- ---- options
 
@@ -56,7 +56,7 @@ module _ (first second : ℕ) (node : Node) where
     first_is = e ∙ same first ∙ or_false (has_id first (flow_tree node));
     second_is = f ∙ same second ∙ or_false (has_id second (flow_tree node));
     over = refl;
-    span = spans_none (leads first second) most;
+    spans = spans_none (leads first second) most;
   }
     where
       same : (id : ℕ) → nat_eq (out-Node node).head.id.0 id ≡ has_id id (flow_tree node)
@@ -89,7 +89,7 @@ module _ (first second : ℕ) (node : Node) where
     over = finds_as first second _ _ _
         (sym (among_more first second kids (flow_tree kid ∷ []) ∙ ap (option_or (lowest_among first second kids)) (one_among first second (flow_tree kid) [] ∙ or_none (lowest first second (flow_tree kid)))))
         (finds_or first second _ _ _ _ looks.over sees.over);
-    span = span_more kids (flow_tree kid) most span (own.first || own.second) (λ i. sees.first_is i || sees.second_is i) l looks.span;
+    spans = span_more kids (flow_tree kid) most span (own.first || own.second) (λ i. sees.first_is i || sees.second_is i) l looks.spans;
   }
 
   -- ---- all children
@@ -114,9 +114,9 @@ module _ (first second : ℕ) (node : Node) where
       spanned = record {
         known = known ∙ ap known_of (sym is);
         few = subst (λ n. element_count n ≤ 65536) (sym is) few;
-        within = subst (λ n. own.span.to ≤ length (children_of (flow_tree n))) (sym is) looks.span.within;
+        within = subst (λ n. own.span.to ≤ length (children_of (flow_tree n))) (sym is) looks.spans.within;
         cut = subst (λ n. between (leads first second) (children_of (flow_tree n))
-            ≡ take (own.span.to - own.span.from) (drop own.span.from (children_of (flow_tree n)))) (sym is) looks.span.cut;
+            ≡ take (own.span.to - own.span.from) (drop own.span.from (children_of (flow_tree n)))) (sym is) looks.spans.cut;
       }
 
       found : Finds first second (Some (flow_tree node)) (Some own)

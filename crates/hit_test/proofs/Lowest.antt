@@ -28,7 +28,7 @@ module _ (first second : ℕ) where
       or_or None b c = refl
       or_or (Some n) b c = refl
 
-  one_among : (n : Node) (ys : List Node) → lowest_among (n ∷ ys) ≡ option_or (lowest first second n) (lowest_among ys)
+  pub one_among : (n : Node) (ys : List Node) → lowest_among (n ∷ ys) ≡ option_or (lowest first second n) (lowest_among ys)
   unfolding lowest
   one_among n ys = find-append (is_lowest first second) (elements_of n) (flat_map elements_of ys)
 

@@ -4,6 +4,6 @@ use Rattle.hit_test.proofs.chosen.chosen.Given as goal
 
 -- the ids of the children so far
 abbrev pub invariant-loop-index : goal.invariant-loop-index
-invariant-loop-index g l =
+invariant-loop-index l =
     map (λ id. id.0) l.ids
     ≡ map id_of (take (l.index - l.found.span.from) (drop l.found.span.from (children_of (flow_tree l.found.node.now))))

@@ -4,7 +4,7 @@ use Rattle.hit_test.proofs.Looking.{Looks}
 use Rattle.hit_test.proofs.look.+look.Given as goal
 
 -- what was seen of the children so far
-abbrev pub invariant-look-loop-index : goal.invariant-look-loop-index
-invariant-look-loop-index l =
+abbrev pub invariant-loop-index : goal.invariant-loop-index
+invariant-loop-index l =
     let kids = children_of (flow_tree l.node) in
     Looks l.first.0 l.second.0 l.node (take l.index kids) (length kids) l.sight l.span
