@@ -2,7 +2,7 @@
 use Rattle.std.proofs.Common.{◌≡◌, ◌∙◌, refl, sym, ap, subst, ℕ, ◌+◌, ◌<◌, Bool, true, false, ◌||◌, not, cond, List, [], ◌∷◌, ◌++◌, length, take, get_or, append-nil, Option, Some, None, ℤ}
 use Rattle.std.specs.Prelude.{filter, IsNone, ◌↔◌}
 use Rattle.std.specs.List.{All, flat_map, list_any}
-use Rattle.std.specs.Option.{IfSome, is_some, option_map}
+use Rattle.std.specs.Option.{IfSome, is_some}
 use Rattle.std.proofs.lemmas.List.{take_more}
 use Rattle.std.proofs.lemmas.List.Concat.{flat_map-append}
 use Rattle.std.proofs.lemmas.List.Elements.{All-head, All-tail, All-filter, filter-append}

@@ -1,5 +1,5 @@
 -- Worked hits: the page of a fraction at the sample metrics, one over one.
-use Rattle.std.proofs.Common.{◌≡◌, refl, ℕ, ℤ, pos, negsuc, Bool, ◌&&◌, List, [], ◌∷◌, codes, Option, Some, None}
+use Rattle.std.proofs.Common.{◌≡◌, refl, ℕ, ℤ, pos, negsuc, ◌&&◌, List, [], ◌∷◌, codes, Some, None}
 use Rattle.std.specs.Prelude.{nat_lt}
 use Rattle.math_tree.specs.declared.node.NodeId.{NodeId}
 use Rattle.box_writer.specs.declared.placed.PlacedItem.{PlacedItem}

@@ -1,7 +1,6 @@
 use Rattle.std.proofs.Common.{◌≡◌, ◌∙◌, sym, ap, subst, refl, rules, w64, to_z, of_z, ◌<◌, length, take, get_or, None, []}
 use Rattle.std.proofs.Math.Seq.{take-length}
 use Rattle.std.specs.Prelude.{IsNone, filter, ◌↔◌}
-use Rattle.box_writer.specs.declared.placed.PlacedItem.{PlacedItem}
 use Rattle.hit_test.specs.Hits.{boxes_of, box_in, holding, holds, id_of_box, last_of}
 use Rattle.hit_test.specs.Running.{or_last}
 use Rattle.hit_test.proofs.Hitting.{holding-more, last_is_deepest, none_holds, or_last-append, or_last_is}
