@@ -2,14 +2,14 @@
 use Rattle.std.specs.Prelude.{ℕ, List, [], ◌∷◌, ◌++◌, codes, if◌then◌else◌, Option, Some, None}
 use Rattle.std.specs.Option.{option_and_then, option_map}
 use Rattle.std.specs.Str.{bytes_eq}
+use Rattle.queries.specs.declared.query.Query.{Query}
+use Rattle.queries.specs.declared.query.Query.TheVariants.{Paint, Hit, Select}
 use Rattle.commands.specs.Numerals.{coordinate_in, count_in, id_in, seed_in}
 use Rattle.commands.specs.declared.command.Job.{Job as JobOfWords}
 use Rattle.commands.specs.declared.command.Job.TheVariants.{OverTree as WithTree, Generate}
 use Rattle.commands.specs.declared.command.Request.{Request}
 use Rattle.commands.specs.declared.command.Task.{Task}
 use Rattle.commands.specs.declared.command.Task.TheVariants.{Layout, Edit, Check, Ask}
-use Rattle.commands.specs.declared.query.Query.{Query}
-use Rattle.commands.specs.declared.query.Query.TheVariants.{Paint, Hit, Select}
 
 -- what is done with a metrics file and a tree file
 pub data Work : Type 0 where

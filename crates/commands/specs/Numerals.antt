@@ -38,11 +38,16 @@ if_count count = if is_count count then Some count else None
 abbrev pub count_in : List ℕ → Option ℕ
 count_in word = option_and_then if_count (number_in 5 word)
 
--- an optional minus stands before at most 11 digits of a coordinate
+-- what stands behind a minus, if a word begins with one
+abbrev pub behind_minus : List ℕ → List ℕ
+behind_minus [] = []
+behind_minus (first ∷ others) = if nat_eq first 45 then others else first ∷ others
+
 abbrev pub negated : ℕ → ℤ
 negated n = neg_ℤ (pos n)
 
-abbrev pub coordinate_in : List ℕ → Option ℤ
+-- a coordinate has 1 to 11 digits, and may have a minus before them
+unfoldable pub coordinate_in : List ℕ → Option ℤ
 coordinate_in [] = None
 coordinate_in (first ∷ others) =
     if nat_eq first 45 then option_map negated (number_in 11 others)

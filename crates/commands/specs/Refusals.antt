@@ -10,6 +10,8 @@ use Rattle.font_metrics.specs.declared.refusal.MetricsRefusal.{MetricsRefusal}
 use Rattle.font_metrics.specs.declared.refusal.MetricsRefusal.TheVariants as metrics
 use Rattle.math_tree.specs.declared.refusal.TreeRefusal.{TreeRefusal}
 use Rattle.math_tree.specs.declared.refusal.TreeRefusal.TheVariants as tree
+use Rattle.queries.specs.declared.query.QueryRefusal.{QueryRefusal}
+use Rattle.queries.specs.declared.query.QueryRefusal.TheVariants as query
 use Rattle.commands.specs.declared.status.Status.{Status}
 use Rattle.commands.specs.declared.status.Status.TheVariants as status
 use Rattle.commands.specs.declared.refusal.Refusal.{Refusal}
@@ -62,3 +64,8 @@ of_tree tree.Memory = Memory
 abbrev pub of_layout : LayRefusal → Refusal
 of_layout layout.Range = Range
 of_layout layout.Memory = Memory
+
+abbrev pub of_query : QueryRefusal → Refusal
+of_query (query.NoNode id) = NoNode id
+of_query query.TooMany = PaintMany
+of_query query.Memory = Memory

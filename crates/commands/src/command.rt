@@ -3,7 +3,8 @@ ghost use Rattle.std.specs.Option.{option_map};
 ghost use Rattle.commands.specs.Command.{asked_by, asked_of, generation_of, job_named, job_of, work_named, work_of};
 
 use crate::numerals::{count_of, seed_of};
-use crate::query::Query;
+use crate::query::query_of;
+use queries::Query;
 use thiserror::Error;
 
 /// What the user is told whose words are no command.
@@ -47,7 +48,8 @@ pub struct Request<'a> {
 
 impl<'a> Request<'a> {
     /// Reads the words after the program's name: `layout METRICS TREE`, `edit METRICS TREE SCRIPT`,
-    /// `check METRICS TREE` or `gen METRICS SEED COUNT`, and nothing else.
+    /// `check METRICS TREE`, `gen METRICS SEED COUNT`, `paint METRICS TREE`, `hit METRICS TREE X Y` or
+    /// `select METRICS TREE ID ID`, and nothing else.
     pub fn from_words(words: &'a [String]) -> Result<Request<'a>, NoCommand>
         ensures ok { IfOk result (λ request.
             asked_by (map string_bytes words.now) ≡ Some (asked_of request)) }
@@ -130,9 +132,12 @@ impl<'a> Task<'a> {
             None
         }
     }
-    /// The task that a word names, where two numbers are.
-    fn over_two(word: &str, first: &str, second: &str) -> Option<Task<'a>> {
-        let query = Query::of_words(word, first, second)?;
+
+    /// The task that a word names, where two words more are given.
+    fn over_two(word: &str, first: &str, second: &str) -> Option<Task<'a>>
+        ensures { option_map work_of result ≡ work_named word.now (first.now ∷ second.now ∷ []) }
+    {
+        let query = query_of(word, first, second)?;
         Some(Task::Ask(query))
     }
 }

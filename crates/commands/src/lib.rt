@@ -20,8 +20,7 @@ pub mod laws; // of all scripts
 mod load; // the files
 mod numerals; // numbers among the words
 mod program; // the top call
-mod queries; // what is asked of a page
-mod query; // the words of what is asked of a page
+mod query; // what is asked of a page
 mod refusal; // why the answer is another
 mod replies; // the lines of a script, one after another
 mod reply; // to one line

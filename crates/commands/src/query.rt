@@ -1,36 +1,35 @@
-use crate::numerals::{coordinate_of, id_of};
-use math_tree::NodeId;
+//! What is asked of a page, by the words of the command line.
+ghost use Rattle.std.specs.Prelude.{◌≡◌};
+ghost use Rattle.commands.specs.Command.{ids_of, point_of, query_named};
 
-/// What is asked of the page of a tree.
-#[derive(Clone, Copy, Debug)]
-pub enum Query {
-    /// An SVG that shows it.
-    Paint,
-    /// Which element a point lies in: x, y.
-    Hit(i64, i64),
-    /// The areas to mark from one element to another.
-    Select(NodeId, NodeId),
+use crate::numerals::{coordinate_of, id_of};
+use queries::Query;
+
+/// What a word asks, by the two words behind the two files.
+pub fn query_of(word: &str, first: &str, second: &str) -> Option<Query>
+    ensures { result ≡ query_named word.now first.now second.now }
+{
+    match word {
+        "hit" => point_of(first, second),
+        "select" => ids_of(first, second),
+        _ => None,
+    }
 }
 
-impl Query {
-    /// What a word asks, by the two words behind the two files.
-    pub fn of_words(word: &str, first: &str, second: &str) -> Option<Query> {
-        match word {
-            "hit" => Query::of_point(first, second),
-            "select" => Query::of_ids(first, second),
-            _ => None,
-        }
-    }
+/// Which element a point lies in.
+fn point_of(x: &str, y: &str) -> Option<Query>
+    ensures { result ≡ point_of x.now y.now }
+{
+    let x = coordinate_of(x)?;
+    let y = coordinate_of(y)?;
+    Some(Query::Hit(x, y))
+}
 
-    fn of_point(x: &str, y: &str) -> Option<Query> {
-        let x = coordinate_of(x)?;
-        let y = coordinate_of(y)?;
-        Some(Query::Hit(x, y))
-    }
-
-    fn of_ids(first: &str, second: &str) -> Option<Query> {
-        let first = id_of(first)?;
-        let second = id_of(second)?;
-        Some(Query::Select(first, second))
-    }
+/// What is marked from one element to another.
+fn ids_of(first: &str, second: &str) -> Option<Query>
+    ensures { result ≡ ids_of first.now second.now }
+{
+    let first = id_of(first)?;
+    let second = id_of(second)?;
+    Some(Query::Select(first, second))
 }

@@ -1,11 +1,14 @@
-ghost use Rattle.std.specs.Prelude.{◌≡◌, ◌≤◌, length};
-ghost use Rattle.commands.specs.Refusals.{fault_line, line_of, status_of, of_layout, of_reading};
+ghost use Rattle.std.specs.Prelude.{◌≡◌, ◌≤◌, ◌∷◌, [], codes, length};
+ghost use Rattle.std.specs.Fmt.{decimal};
+ghost use Rattle.doc_io.specs.Lines.{line};
+ghost use Rattle.commands.specs.Refusals.{fault_line, line_of, status_of, of_layout, of_query, of_reading};
 
 use crate::status::Status;
 use doc_io::{ReadRefusal, ShortText};
 use fixed_units::{LayRefusal, Memory};
 use font_metrics::{MetricsFault, MetricsRefusal};
 use math_tree::{NodeId, TreeFault, TreeRefusal};
+use queries::QueryRefusal;
 use thiserror::Error;
 
 /// Why the files don't give what is asked for.
@@ -97,6 +100,17 @@ impl Refusal {
             LayRefusal::Memory => Refusal::Memory,
         }
     }
+
+    /// Why a query has no answer.
+    pub fn of_query(refusal: QueryRefusal) -> Refusal
+        ensures { result ≡ of_query refusal }
+    {
+        match refusal {
+            QueryRefusal::NoNode(id) => Refusal::NoNode(id),
+            QueryRefusal::TooMany => Refusal::PaintMany,
+            QueryRefusal::Memory => Refusal::Memory,
+        }
+    }
 }
 
 /// The line of a fault in a file, by the place and the number of its kind.
@@ -109,11 +123,14 @@ fn fault_line(file: &str, place: u32, kind: u8) -> ShortText
     line
 }
 
-/// The line of an id that no element has.
-fn node_line(id: NodeId) -> ShortText {
-    let mut line = ShortText::numbered("node", &[i64::from(id.0)]);
-    line.add("\n");
-    line
+/// The line of an id that no element in flow has.
+fn node_line(id: NodeId) -> ShortText
+    ensures { result ≡ line (codes "node") (decimal id.0 ∷ []) }
+{
+    let mut text = ShortText::of("node");
+    text.add_number(i64::from(id.0));
+    text.add("\n");
+    text
 }
 
 impl From<Memory> for Refusal {

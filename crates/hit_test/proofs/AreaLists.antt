@@ -52,3 +52,15 @@ among-more ids i d id had below is =
     ∙ or_one (list_any (nat_eq id) (map (λ (n : NodeId). n.0) (take i ids))) (nat_eq id (get_or ids i d).0)
     ∙ sym (list_any-append (nat_eq id) (map (λ (n : NodeId). n.0) (take i ids)) ((get_or ids i d).0 ∷ []))
     ∙ ap (list_any (nat_eq id)) (sym (map-append (λ (n : NodeId). n.0) (take i ids) (get_or ids i d ∷ [])) ∙ ap (map (λ (n : NodeId). n.0)) (sym (take_more ids i d below)))
+
+-- the area of one box, if it passes
+pub one_area : (test : PlacedBox → Bool) (box : PlacedBox) (b : Bool) → b ≡ test box → cond b (area_of box ∷ []) [] ≡ map area_of (filter test (box ∷ []))
+one_area test box b e = ap (λ (c : Bool). cond c (area_of box ∷ []) []) e ∙ by (test box)
+  where
+    by : (c : Bool) → cond c (area_of box ∷ []) [] ≡ map area_of (cond c (box ∷ []) [])
+    by true = refl
+    by false = refl
+
+-- boxes that pass one test are those that pass another which says the same
+pub same_areas : (test other : PlacedBox → Bool) → ((box : PlacedBox) → test box ≡ other box) → (items : List PlacedItem) → areas_by test items ≡ areas_by other items
+same_areas test other same items = λ i. areas_by (λ box. same box i) items

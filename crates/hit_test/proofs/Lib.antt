@@ -5,4 +5,6 @@ pub mod Elements
 pub mod Hitting
 pub mod Looking
 pub mod Lowest
+pub mod Marking
+pub mod Selected
 mod Worked

@@ -1,7 +1,8 @@
 -- One look through the children of an element, one child after another.
-use Rattle.std.proofs.Common.{◌≡◌, ◌∙◌, refl, sym, ap, subst, ℕ, ◌+◌, ◌≤◌, ◌<◌, nat_eq, Bool, true, false, ◌||◌, ◌&&◌, cond, List, [], ◌∷◌, ◌++◌, length, take, drop, ◌-◌, Option, Some, None}
+use Rattle.std.proofs.Common.{◌≡◌, ◌∙◌, refl, sym, ap, subst, ℕ, ◌+◌, ◌≤◌, ◌<◌, nat_eq, Bool, true, false, ◌||◌, ◌&&◌, cond, List, [], ◌∷◌, ◌++◌, length, take, drop, get_or, ◌-◌, arith, Option, Some, None}
 use Rattle.std.specs.List.{list_any}
 use Rattle.std.specs.Option.{option_or}
+use Rattle.std.proofs.lemmas.List.{length-take, take_more}
 use Rattle.std.proofs.lemmas.List.Folds.{list_any-append}
 use Rattle.math_tree.specs.Trees.{element_count}
 use Rattle.math_tree.specs.declared.node.Node.{Node}
@@ -91,6 +92,21 @@ module _ (first second : ℕ) (node : Node) where
         (finds_or first second _ _ _ _ looks.over sees.over);
     spans = span_more kids (flow_tree kid) most span (own.first || own.second) (λ i. sees.first_is i || sees.second_is i) l looks.spans;
   }
+
+  -- the same, of those in front of a place
+  pub looks_next : (kids : List Node) (kid d : Node) (place : ℕ) (sight own sight' : Sight) (span span' : Span) → place < length kids
+      → get_or kids place d ≡ flow_tree kid → Sees first second kid own → Looks first second node (take place kids) (length kids) sight span
+      → sight' ≡ joined sight own → span' ≡ with_kid span place (own.first || own.second)
+      → Looks first second node (take (place + 1) kids) (length kids) sight' span'
+  looks_next kids kid d place sight own sight' span span' l is sees looks e f =
+      let front = take place kids in
+      let count : length front ≡ place = omega (arith, length-take place kids, l) in
+      let lead = own.first || own.second in
+      let next : take (place + 1) kids ≡ front ++ flow_tree kid ∷ [] = take_more kids place d l ∙ ap (λ k. front ++ k ∷ []) is in
+      let more = looks_more front kid (length kids) sight own span (omega (arith, count, l)) sees looks in
+      subst (λ s. Looks first second node (take (place + 1) kids) (length kids) s span') (sym e)
+      (subst (λ p. Looks first second node (take (place + 1) kids) (length kids) (joined sight own) p) (ap (λ n. with_kid span n lead) count ∙ sym f)
+      (subst (λ some. Looks first second node some (length kids) (joined sight own) (with_kid span (length front) lead)) (sym next) more))
 
   -- ---- all children
 

@@ -1,4 +1,4 @@
-ghost use Rattle.std.specs.Prelude.{◌≡◌, ℕ, ◌^◌, ◌++◌, All, map, filter, nat_eq, IfOk, OnOk};
+ghost use Rattle.std.specs.Prelude.{◌≡◌, ℕ, ◌^◌, [], ◌∷◌, ◌++◌, All, map, filter, nat_eq, if◌then◌else◌, IfOk, OnOk};
 ghost use Rattle.std.specs.BTreeSet.{contains};
 ghost use Rattle.std.specs.List.{list_any};
 ghost use Rattle.std.specs.Ordering.{nat_cmp};
@@ -24,17 +24,46 @@ pub struct Area {
 }
 
 /// The areas of the boxes of some elements, in the order of the page.
-pub fn areas_of(alloc: Global, items: &[PlacedItem], ids: &[NodeId]) -> Result<List<Area>, Memory> {
-    let chosen = set_of(alloc, ids)?;
+pub fn areas_of(alloc: Global, items: &[PlacedItem], ids: &[NodeId]) -> Result<List<Area>, Memory>
+    requires { All IsInReach items.now }
+    ensures { IfOk result (λ areas. areas ≡ areas_of (map (λ i. i.0) ids.now) items.now) }
+{
+    let marked = set_of(alloc, ids)?;
     let mut areas = List::make(alloc);
     for item in items {
-        if let PlacedItem::Frame(placed) = item {
-            if chosen.contains(&placed.id.0) {
-                areas.push(area_of(placed))?;
-            }
-        }
+        add_area(&mut areas, item, &marked)?;
     }
     Ok(areas)
+}
+
+/// Adds the area of a box of an element in the set.
+fn add_area(
+    areas: &mut List<Area>,
+    item: &PlacedItem,
+    marked: &BTreeSet<u32>,
+) -> Result<(), Memory>
+    requires { IsInReach item.now }
+    ensures { OnOk result (areas.new ≡ areas.old ++ map area_of
+        (filter (λ (box : PlacedBox). contains nat_cmp marked.now box.id.0) (box_in item.now))) }
+{
+    match item {
+        PlacedItem::Frame(placed) => add_if(areas, placed, marked.contains(&placed.id.0)),
+        PlacedItem::Drawn(_) => Ok(()),
+    }
+}
+
+/// Adds the area of a box, if it is to be marked.
+fn add_if(areas: &mut List<Area>, placed: &PlacedBox, is_marked: bool) -> Result<(), Memory>
+    requires frame { IsStored placed.now.frame }
+    requires down { IsWithin (2 ^ 37) placed.now.y }
+    ensures { OnOk result
+        (areas.new ≡ areas.old ++ (if is_marked then area_of placed.now ∷ [] else [])) }
+{
+    if is_marked {
+        areas.push(area_of(placed))
+    } else {
+        Ok(())
+    }
 }
 
 /// The ids as a set.

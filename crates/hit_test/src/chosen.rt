@@ -1,4 +1,4 @@
-ghost use Rattle.std.specs.Prelude.{◌≡◌, ◌∷◌, [], map, IfOk};
+ghost use Rattle.std.specs.Prelude.{◌≡◌, ◌∷◌, [], ◌||◌, nat_eq, map, IfOk};
 ghost use Rattle.hit_test.specs.Elements.{flow_tree, id_of};
 ghost use Rattle.hit_test.specs.Running.{IsSpanned};
 ghost use Rattle.hit_test.specs.Selecting.{marked_below};
@@ -23,7 +23,7 @@ pub fn chosen(
         ≡ map id_of (marked_below first.0 second.0 (flow_tree found.now.node.now))) }
 {
     let id = found.node.head.id;
-    if id == first || id == second {
+    if is_either(id, first, second) {
         return only(alloc, id);
     }
     let known = found.known;
@@ -33,6 +33,13 @@ pub fn chosen(
         ids.push(view.kid(index).id)?;
     }
     Ok(ids)
+}
+
+/// Whether an id is one of two.
+fn is_either(id: NodeId, first: NodeId, second: NodeId) -> bool
+    ensures { result ≡ (nat_eq id.0 first.0 || nat_eq id.0 second.0) }
+{
+    (id.0 == first.0) | (id.0 == second.0)
 }
 
 /// One id alone.

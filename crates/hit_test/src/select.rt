@@ -1,7 +1,7 @@
-ghost use Rattle.std.specs.Prelude.{◌≡◌, All, Some, None, IfOk, OnOk, IfErr};
-ghost use Rattle.hit_test.specs.Elements.{flow_tree};
-ghost use Rattle.hit_test.specs.Running.{IsUnseen, unseen};
-ghost use Rattle.hit_test.specs.Selecting.{IsInReach, IsMissing, missing_id, selected_areas};
+ghost use Rattle.std.specs.Prelude.{◌≡◌, All, Some, None, map, IfOk, OnOk, IfErr};
+ghost use Rattle.hit_test.specs.Elements.{flow_tree, id_of};
+ghost use Rattle.hit_test.specs.Running.{IsSpanned, IsUnseen, unseen};
+ghost use Rattle.hit_test.specs.Selecting.{IsInReach, IsMissing, areas_of as marked_areas, marked_below, missing_id, selected_areas};
 
 use crate::areas::{Area, areas_of};
 use crate::chosen::chosen;
@@ -43,9 +43,30 @@ pub fn selection(
     let root = tree.root();
     let known = known_of(alloc, root)?;
     let sight = look(alloc, root, &known, first, second)?;
-    let found = found_in(&sight, first, second)?;
-    let ids = chosen(alloc, &found, first, second)?;
-    Ok(areas_of(alloc, placed.items.as_slice(), ids.as_slice())?)
+    match found_in(&sight, first, second) {
+        Ok(found) => {
+            let areas = areas_below(alloc, &found, placed, first, second)?;
+            Ok(areas)
+        }
+        Err(refusal) => Err(refusal),
+    }
+}
+
+/// The areas to mark where an element is the lowest over the two.
+fn areas_below(
+    alloc: Global,
+    found: &Found,
+    placed: &Placed,
+    first: NodeId,
+    second: NodeId,
+) -> Result<List<Area>, Memory>
+    requires spanned { IsSpanned first.0 second.0 found.now }
+    requires reach { All IsInReach placed.now }
+    ensures { IfOk result (λ areas. areas ≡ marked_areas
+        (map id_of (marked_below first.0 second.0 (flow_tree found.now.node.now))) placed.now) }
+{
+    let ids = chosen(alloc, found, first, second)?;
+    areas_of(alloc, placed.items.as_slice(), ids.as_slice())
 }
 
 /// The lowest element over both, or the first of the two that isn't there.
