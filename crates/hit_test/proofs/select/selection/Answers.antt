@@ -16,7 +16,7 @@ returns-in-Ok-clause-exact c =
     let second = c.args.second.0 in
     let ids = map id_of (marked_below first second (flow_tree c.in-Ok.found.node.now)) in
     let marked = marked_is first second c.root-root.result.now c.in_ok-sight.sight (c.in_ok-sight.ensures {u = tt}) c.in-Ok.found c.in-Ok.ensures.found ids refl in
-    (c.in_ok-areas.ensures {u = tt})
+    (c.in_ok-areas-in-Ok.ensures {u = tt})
     ∙ ap (λ some. areas_of some c.args.placed.now) marked
     ∙ ap (λ (root : Node). areas_of (marked_ids first second (flow_tree root)) c.args.placed.now) c.root-root.ensures.exact
 
@@ -26,7 +26,7 @@ returns-in-Ok-clause-there c =
     ∙ sym (unseen_is c.args.first.0 c.args.second.0 c.root-root.result.now c.in_ok-sight.sight (c.in_ok-sight.ensures {u = tt}))
     ∙ c.in-Ok.ensures.there
 
-pub returns-in-Err-clause-missing : goal.returns-in-Err-clause-missing
-returns-in-Err-clause-missing c =
+pub returns-clause-missing : goal.returns-clause-missing
+returns-clause-missing c =
     subst (λ (root : Node). IsMissing c.args.first.0 c.args.second.0 (flow_tree root) c.in-Err.refusal) c.root-root.ensures.exact
     (missing_is c.args.first.0 c.args.second.0 c.root-root.result.now c.in_ok-sight.sight (c.in_ok-sight.ensures {u = tt}) c.in-Err.refusal c.in-Err.ensures.missing)
