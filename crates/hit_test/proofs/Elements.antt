@@ -44,7 +44,7 @@ places_away place [] = refl
 places_away place (n ∷ nodes) = ap (λ l. n ∷ l) (places_away (place + 1) nodes)
 
 -- the children in flow, without their places
-flow_is : (n : Node) → flow_nodes n ≡ flow_by (λ k. (facts k).laid) (facts n).laid (out-Node n).children
+pub flow_is : (n : Node) → flow_nodes n ≡ flow_by (λ k. (facts k).laid) (facts n).laid (out-Node n).children
 unfolding flow_children
 flow_is n =
     flow_map (λ (c : Child). c.node) (λ k. (facts k).laid) (facts n).laid (children_from 0 (out-Node n).children)

@@ -107,11 +107,12 @@ module _ (m : MetricsValue) (size : ℤ) where
 
   widest_small : (count : ℕ) (parts : List Part) → AllByRecursion EndsSmall parts → IfSome (reduce min (joints m size (sequence count parts))) (λ w. w ≤ 2 ^ 32)
   widest_small count [] h = tt
-  widest_small count (part ∷ parts) h = by (repeats count part)
+  widest_small count (part ∷ parts) h = by (widest_small count parts h.1) (repeats count part)
     where
-      by : (n : ℕ) → IfSome (reduce min (joints m size (replicate n part ++ sequence count parts))) (λ w. w ≤ 2 ^ 32)
-      by zero = widest_small count parts h.1
-      by (suc n) = joints_small part (replicate n part ++ sequence count parts) h.0
+      by : IfSome (reduce min (joints m size (sequence count parts))) (λ w. w ≤ 2 ^ 32) → (n : ℕ)
+          → IfSome (reduce min (joints m size (replicate n part ++ sequence count parts))) (λ w. w ≤ 2 ^ 32)
+      by rest zero = rest
+      by rest (suc n) = joints_small part (replicate n part ++ sequence count parts) h.0
 
 module _ (m : MetricsValue) (taken : IsTaken m) (size : ℤ) (sized : is_font_size size ≡ true) where
   low : pos 0 ≤ℤ size

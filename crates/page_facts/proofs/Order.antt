@@ -73,13 +73,14 @@ module _ (outer inner : ℕ) where
   behind_among [] all e = absurd cc
   behind_among (n ∷ nodes) all e =
       subst (λ (ids : List ℕ). before ids outer inner ≡ true) (sym (map-append id_of (elements_of n) (flat_map elements_of nodes)))
-      (by (inside_among outer inner (elements_of n)) refl
+      (by (λ f. behind_among nodes all.1 f) (inside_among outer inner (elements_of n)) refl
       (sym (list_any-append (λ x. has_id outer x && is_inside inner x) (elements_of n) (flat_map elements_of nodes)) ∙ e))
     where
-      by : (b : Bool) → inside_among outer inner (elements_of n) ≡ b → (b || inside_among outer inner (flat_map elements_of nodes)) ≡ true
+      by : (inside_among outer inner (flat_map elements_of nodes) ≡ true → before (ids_in (flat_map elements_of nodes)) outer inner ≡ true)
+          → (b : Bool) → inside_among outer inner (elements_of n) ≡ b → (b || inside_among outer inner (flat_map elements_of nodes)) ≡ true
           → before (ids_below n ++ ids_in (flat_map elements_of nodes)) outer inner ≡ true
-      by true f g = before_front (ids_below n) (ids_in (flat_map elements_of nodes)) outer inner (all.0 f)
-      by false f g = before_back (ids_below n) (ids_in (flat_map elements_of nodes)) outer inner (behind_among nodes all.1 g)
+      by rest true f g = before_front (ids_below n) (ids_in (flat_map elements_of nodes)) outer inner (all.0 f)
+      by rest false f g = before_back (ids_below n) (ids_in (flat_map elements_of nodes)) outer inner (rest g)
 
   behind_step : (n : Node) → AllByRecursion ComesBehind (out-Node n).children → ComesBehind n
   behind_step n below e =
@@ -214,19 +215,17 @@ kids_some x y [] f each [] = refl
 kids_some x y [] f each (offset ∷ offsets) = refl
 kids_some x y (n ∷ nodes) f each offsets =
     subst (λ (slots : List (Option Laid)). Sub (box_ids (kids_at x y offsets (map placed (somes slots)))) (flow_ids n ++ flat_map flow_ids nodes))
-    (sym (from_first (length nodes) f)) (by (f 0) offsets (each 0 n refl))
+    (sym (from_first (length nodes) f))
+    (by (λ others. kids_some x y nodes (λ i. f (suc i)) (λ i k at. each (suc i) k at) others) (f 0) offsets (each 0 n refl))
   where
     rest : List (Option Laid)
     rest = list_to (length nodes) (λ i. f (suc i))
 
-    more : (others : List Offset) → Sub (box_ids (kids_at x y others (map placed (somes rest)))) (flat_map flow_ids nodes)
-    more others = kids_some x y nodes (λ i. f (suc i)) (λ i k at. each (suc i) k at) others
-
-    by : (slot : Option Laid) (others : List Offset) → IfSome slot (HasIds (flow_ids n))
+    by : ((others : List Offset) → Sub (box_ids (kids_at x y others (map placed (somes rest)))) (flat_map flow_ids nodes)) → (slot : Option Laid) (others : List Offset) → IfSome slot (HasIds (flow_ids n))
         → Sub (box_ids (kids_at x y others (map placed (somes (slot ∷ rest))))) (flow_ids n ++ flat_map flow_ids nodes)
-    by None others h = sub_append [] (box_ids (kids_at x y others (map placed (somes rest)))) (flow_ids n) (flat_map flow_ids nodes) (sub_none (flow_ids n)) (more others)
-    by (Some l) [] h = sub_none (flow_ids n ++ flat_map flow_ids nodes)
-    by (Some l) (offset ∷ others) h =
+    by more None others h = sub_append [] (box_ids (kids_at x y others (map placed (somes rest)))) (flow_ids n) (flat_map flow_ids nodes) (sub_none (flow_ids n)) (more others)
+    by more (Some l) [] h = sub_none (flow_ids n ++ flat_map flow_ids nodes)
+    by more (Some l) (offset ∷ others) h =
         subst (λ (ids : List ℕ). Sub ids (flow_ids n ++ flat_map flow_ids nodes))
         (sym (boxes_append (placed l (x +ℤ offset.x) (y +ℤ offset.y)) (kids_at x y others (map placed (somes rest)))))
         (sub_append (box_ids (placed l (x +ℤ offset.x) (y +ℤ offset.y))) (box_ids (kids_at x y others (map placed (somes rest)))) (flow_ids n) (flat_map flow_ids nodes)

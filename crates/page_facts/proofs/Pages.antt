@@ -1,5 +1,5 @@
 -- The laws of a page: what stands on it is in reach and can be painted, and its boxes come in order.
-use Rattle.std.proofs.Common.{◌≡◌, ◌∙◌, sym, ap, subst, ℕ, ◌+◌, ◌-◌, ◌*◌, ◌^◌, ◌≤◌, arith, lit≤, Bool, true, ◌&&◌, List, [], ◌∷◌, ◌++◌, map, All, ℤ, pos, negsuc, ◌+ℤ◌}
+use Rattle.std.proofs.Common.{◌≡◌, ◌∙◌, sym, ap, subst, ℕ, ◌+◌, ◌-◌, ◌*◌, ◌^◌, ◌≤◌, arith, lit≤, Bool, true, false, ◌&&◌, List, [], ◌∷◌, ◌++◌, map, All, ℤ, pos, negsuc, ◌+ℤ◌}
 use Rattle.std.specs.Prelude.{◌≤ℤ◌, if◌then◌else◌, int_le, nat_le, unsigned_abs}
 use Rattle.std.proofs.lemmas.Bool.{and_parts, leb-true}
 use Rattle.std.proofs.lemmas.List.Elements.{All-append, All-cons, All-nil, All-weaker}

@@ -19,16 +19,16 @@ module _ {A : Type 0} where
 
   pub sub_all : (ys : List A) → Sub ys ys
   sub_all [] = refl
-  sub_all (y ∷ ys) = inr (ys, (refl, sub_all ys))
+  sub_all (y ∷ ys) = inr (ys, refl, sub_all ys)
 
   pub sub_append : (xs zs ys ws : List A) → Sub xs ys → Sub zs ws → Sub (xs ++ zs) (ys ++ ws)
   sub_append xs zs [] ws h k = subst (λ (front : List A). Sub (front ++ zs) ws) (sym h) k
   sub_append xs zs (y ∷ ys) ws (inl h) k = inl (sub_append xs zs ys ws h k)
   sub_append xs zs (y ∷ ys) ws (inr h) k =
-      inr (h.0 ++ zs, (ap (λ (front : List A). front ++ zs) h.1, sub_append h.0 zs ys ws h.2 k))
+      inr (h.0 ++ zs, ap (λ (front : List A). front ++ zs) h.1, sub_append h.0 zs ys ws h.2 k)
 
   pub sub_head : (x : A) (xs ys : List A) → Sub xs ys → Sub (x ∷ xs) (x ∷ ys)
-  sub_head x xs ys h = inr (xs, (refl, h))
+  sub_head x xs ys h = inr (xs, refl, h)
 
   pub sub_skip : (xs : List A) (y : A) (ys : List A) → Sub xs ys → Sub xs (y ∷ ys)
   sub_skip xs y ys h = inl h
@@ -41,11 +41,11 @@ module _ {A : Type 0} where
 
   pub sub_filter : (test : A → Bool) (xs : List A) → Sub (filter test xs) xs
   sub_filter test [] = refl
-  sub_filter test (x ∷ xs) = by (test x)
+  sub_filter test (x ∷ xs) = by (test x) (sub_filter test xs)
     where
-      by : (b : Bool) → Sub (cond b (x ∷ filter test xs) (filter test xs)) (x ∷ xs)
-      by true = sub_head x (filter test xs) xs (sub_filter test xs)
-      by false = sub_skip (filter test xs) x xs (sub_filter test xs)
+      by : (b : Bool) → Sub (filter test xs) xs → Sub (cond b (x ∷ filter test xs) (filter test xs)) (x ∷ xs)
+      by true rest = sub_head x (filter test xs) xs rest
+      by false rest = sub_skip (filter test xs) x xs rest
 
 -- some of distinct numbers are distinct
 pub sub_distinct : (xs ys : List ℕ) → Sub xs ys → IsDistinct nat_eq ys → IsDistinct nat_eq xs
@@ -94,18 +94,16 @@ or_left a b e = ap (λ (c : Bool). c || b) e
 -- in a longer list too
 pub before_front : (xs ys : List ℕ) (outer inner : ℕ) → before xs outer inner ≡ true → before (xs ++ ys) outer inner ≡ true
 before_front [] ys outer inner e = absurd cc
-before_front (x ∷ xs) ys outer inner e = by (nat_eq x outer) (is_in inner xs) refl e
+before_front (x ∷ xs) ys outer inner e = by (λ f. before_front xs ys outer inner f) (nat_eq x outer) (is_in inner xs) refl e
   where
-    rest : before xs outer inner ≡ true → ((nat_eq x outer && is_in inner (xs ++ ys)) || before (xs ++ ys) outer inner) ≡ true
-    rest f = or_right (nat_eq x outer && is_in inner (xs ++ ys)) (before (xs ++ ys) outer inner) (before_front xs ys outer inner f)
-
     longer : is_in inner xs ≡ true → is_in inner (xs ++ ys) ≡ true
     longer f = list_any-append (λ other. nat_eq other inner) xs ys ∙ or_left (is_in inner xs) (is_in inner ys) f
 
-    by : (a b : Bool) → is_in inner xs ≡ b → ((a && b) || before xs outer inner) ≡ true → ((a && is_in inner (xs ++ ys)) || before (xs ++ ys) outer inner) ≡ true
-    by true true k f = ap (λ (c : Bool). c || before (xs ++ ys) outer inner) (longer k)
-    by true false k f = or_right (is_in inner (xs ++ ys)) (before (xs ++ ys) outer inner) (before_front xs ys outer inner f)
-    by false b k f = before_front xs ys outer inner f
+    by : (before xs outer inner ≡ true → before (xs ++ ys) outer inner ≡ true) → (a b : Bool) → is_in inner xs ≡ b → ((a && b) || before xs outer inner) ≡ true
+        → ((a && is_in inner (xs ++ ys)) || before (xs ++ ys) outer inner) ≡ true
+    by rest true true k f = ap (λ (c : Bool). c || before (xs ++ ys) outer inner) (longer k)
+    by rest true false k f = or_right (is_in inner (xs ++ ys)) (before (xs ++ ys) outer inner) (rest f)
+    by rest false b k f = rest f
 
 pub before_back : (xs ys : List ℕ) (outer inner : ℕ) → before ys outer inner ≡ true → before (xs ++ ys) outer inner ≡ true
 before_back [] ys outer inner e = e
