@@ -37,11 +37,7 @@ pub fn areas_of(alloc: Global, items: &[PlacedItem], ids: &[NodeId]) -> Result<L
 }
 
 /// Adds the area of a box of an element in the set.
-fn add_area(
-    areas: &mut List<Area>,
-    item: &PlacedItem,
-    marked: &BTreeSet<u32>,
-) -> Result<(), Memory>
+fn add_area(areas: &mut List<Area>, item: &PlacedItem, marked: &BTreeSet<u32>) -> Result<(), Memory>
     requires { IsInReach item.now }
     ensures { OnOk result (areas.new ≡ areas.old ++ map area_of
         (filter (λ (box : PlacedBox). contains nat_cmp marked.now box.id.0) (box_in item.now))) }
