@@ -239,12 +239,7 @@ fn ask<O: Sink, L: Ledger>(
 }
 
 /// Answers what is asked of the page of a session's tree, or tells why it doesn't.
-fn ask_session<O: Sink>(
-    alloc: Global,
-    session: &mut Session,
-    query: Query,
-    out: &mut O,
-) -> Status
+fn ask_session<O: Sink>(alloc: Global, session: &mut Session, query: Query, out: &mut O) -> Status
     ensures written { Written (answered query session.old.held)
         (O.told out.old) (O.told out.new) result }
     ensures late { ¬ EndsUnlaid result }

@@ -51,11 +51,7 @@ fn answer_over(
 }
 
 /// What is painted of a page.
-fn picture_of(
-    alloc: Global,
-    session: &Session,
-    placed: &Placed,
-) -> Result<Answer, QueryRefusal>
+fn picture_of(alloc: Global, session: &Session, placed: &Placed) -> Result<Answer, QueryRefusal>
     requires { placed.now ≡ page session.now.held }
     ensures told { IfOk result (λ answer.
         painted_page session.now.held ≡ Ok (bytes_of session.now.held.metrics answer)) }

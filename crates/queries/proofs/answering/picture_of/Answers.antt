@@ -26,6 +26,7 @@ returns-in-Ok-clause-told c =
 
 pub returns-in-Ok-clause-writable : goal.returns-in-Ok-clause-writable
 returns-in-Ok-clause-writable c =
-    let s = c.args.session.now.held in
-    (subst IsStored (sym c.root_box.ensures.exact) (root_law s.metrics s.tree c.has_page.ensures),
-    subst (λ (m : MetricsValue). All (IsOfFont m) c.in-Ok.paints) c.metrics.ensures.exact c.in-Ok.ensures.glyphs)
+    let s = c.args.session.now.held in (
+      subst IsStored (sym c.root_box.ensures.exact) (root_law s.metrics s.tree c.has_page.ensures),
+      subst (λ (m : MetricsValue). All (IsOfFont m) c.in-Ok.paints) c.metrics.ensures.exact c.in-Ok.ensures.glyphs,
+    )
