@@ -1,4 +1,4 @@
-use Rattle.std.proofs.Common.{◌≡◌, ◌∙◌, ◌≤◌, ap, sym, subst, All, List, length, Ok}
+use Rattle.std.proofs.Common.{◌≡◌, ◌∙◌, ◌<◌, ◌≤◌, ap, sym, subst, All, List, length, Ok, Err}
 use Rattle.font_metrics.specs.Metrics.{MetricsValue}
 use Rattle.fixed_units.specs.Boxes.{IsStored}
 use Rattle.box_writer.specs.declared.placed.PlacedItem.{PlacedItem}
@@ -30,3 +30,9 @@ returns-in-Ok-clause-writable c =
       subst IsStored (sym c.root_box.ensures.exact) (root_law s.metrics s.tree c.has_page.ensures),
       subst (λ (m : MetricsValue). All (IsOfFont m) c.in-Ok.paints) c.metrics.ensures.exact c.in-Ok.ensures.glyphs,
     )
+
+pub returns-in-Err-TooMany-clause-refused : goal.returns-in-Err-TooMany-clause-refused
+returns-in-Err-TooMany-clause-refused c =
+    let s = c.args.session.now.held in
+    let same : painted c.metrics.result.now c.args.placed.now ≡ paints_of_page s = λ i. painted (c.metrics.ensures.exact i) (c.requires i) in
+    many_painted s (subst (λ (l : List Paint). most_paints < length l) same (c.in-Err-TooMany.ensures.too_many (ap Err c.in-Err-TooMany.field-0-is)))
