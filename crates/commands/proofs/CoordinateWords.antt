@@ -35,6 +35,12 @@ module _ (digits : List ℕ) (short : is_short_numeral 11 digits ≡ true) where
     | inr empty ↦ sym (ap (option_map sign) (by_tests 11 digits short false _ (le-ltb 0 (length digits) empty) refl))
   ]
 
+  -- what is known of the digits anyway
+  known_digits : {E : Type 0} → (limit : Type 0) (r : Result ℤ E) (value : ℤ) → OkIff r ((list_all is_ascii_digit digits ≡ true) × (0 < length digits) × limit) value
+      → OkIff r ((0 < length digits) × limit) value
+  known_digits limit (Ok z) value given = ((given.0.1, given.0.2), given.1)
+  known_digits limit (Err error) value none = λ both. none (alone, both.0, both.1)
+
 pub coordinate_parsed : {E : Type 0} → (word : List ℕ) (r : Result ℤ E) → is_short_numeral 11 (behind_minus word) ≡ true → ParsesSigned w64 10 word r
     → result_ok r ≡ coordinate_in word
 unfolding coordinate_in
@@ -49,7 +55,7 @@ coordinate_parsed (first ∷ others) r short parses = by (nat_eq first 45) refl 
         → result_ok r ≡ (if b then option_map negated (number_in 11 others) else option_map pos (number_in 11 (first ∷ others)))
     by true e s =
         signed_by others s negated (digits_value 10 others ≤ 2 ^ 63) (let l = small others s in omega (arith, l)) r
-        (parse_signed_minus own w64 (first ∷ others) r parses (eqb-true first 45 e))
+        (known_digits others s (digits_value 10 others ≤ 2 ^ 63) r (negated (digits_value 10 others)) (parse_signed_minus own w64 (first ∷ others) r parses (eqb-true first 45 e)))
     by false e s =
         signed_by (first ∷ others) s pos (digits_value 10 (first ∷ others) < 2 ^ 63) (let l = small (first ∷ others) s in omega (arith, l)) r
         (parse_signed_digits own w64 (first ∷ others) r parses (alone (first ∷ others) s))

@@ -8,8 +8,8 @@ use Rattle.commands.proofs.Answering.{not_answered}
 use Rattle.commands.proofs.Steps.{late, query_late}
 use Rattle.commands.proofs.program.ask_session.Goals as goal
 
-pub deliver_answer-requires : goal.deliver_answer-requires
-deliver_answer-requires g c =
+pub deliver_answer-status-requires : goal.deliver_answer-status-requires
+deliver_answer-status-requires g c =
     let metrics = c.metrics.ensures.exact ∙ ap (λ s. s.metrics) c.in-Ok.ensures.unchanged in
     subst (λ m. IsWritable m c.in-Ok.answer) (sym metrics) c.in-Ok.ensures.writable
 
