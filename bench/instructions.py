@@ -56,4 +56,5 @@ def lines(values):
     return "".join(json.dumps(value) + "\n" for value in values)
 
 
-main()
+if __name__ == "__main__":
+    main()

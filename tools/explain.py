@@ -2,14 +2,15 @@
 """Says in a sentence what the program's refusal means: the file, the line, what is wrong and what would be right.
 
     explain.py layout METRICS TREE | edit METRICS TREE SCRIPT | check METRICS TREE | gen METRICS SEED COUNT
+    explain.py paint METRICS TREE | hit METRICS TREE X Y | select METRICS TREE ID ID
     explain.py metrics LINE KIND [METRICS]
     explain.py tree ELEMENT KIND [TREE]
     explain.py refused CAUSE
-    explain.py range | metrics long | tree long | tree json [TREE]
+    explain.py range | metrics long | tree long | tree json [TREE] | node ID | paint many
     explain.py status NUMBER [METRICS [TREE [SCRIPT]]]
 
-The first line runs the program, writes what it writes, and on standard error a sentence for each refusal, for a script with the
-line that was refused. It ends with the program's status. The others explain what the program wrote before; with the file,
+The first two lines run the program, write what it writes, and on standard error a sentence for each refusal, for a script with the
+line that was refused. They end with the program's status. The others explain what the program wrote before; with the file,
 they show what stands there. The sentences are made of the tables of docs/FORMATS.md.
 """
 
@@ -20,7 +21,8 @@ from companion.command import Fault
 from companion.program import Inputs
 
 RUNS = {"layout": ["METRICS", "TREE"], "edit": ["METRICS", "TREE", "SCRIPT"], "check": ["METRICS", "TREE"],
-        "gen": ["METRICS", "SEED", "COUNT"]}
+        "gen": ["METRICS", "SEED", "COUNT"], "paint": ["METRICS", "TREE"], "hit": ["METRICS", "TREE", "X", "Y"],
+        "select": ["METRICS", "TREE", "ID", "ID"]}
 
 
 def main(argv=None):
@@ -28,7 +30,7 @@ def main(argv=None):
     parser.add_argument("words", metavar="WORD", nargs="+")
     parser.add_argument("--program", metavar="COMMAND", help=program.HELP)
     words = parser.parse_args(argv)
-    wanted = RUNS.get(words.words[0])
+    wanted = RUNS.get(words.words[0]) if words.words != ["paint", "many"] else None
     if wanted and len(words.words) != 1 + len(wanted):
         parser.error(f"{words.words[0]} takes {' '.join(wanted)}")
     if wanted:
@@ -39,10 +41,11 @@ def main(argv=None):
 def run_and_explain(words):
     """What the program wrote, once the sentences are told; raises Ended with its status."""
     verb, *others = words.words
-    inputs = Inputs(others[0], None, told=" ".join(words.words)) if verb == "gen" else Inputs(*others)
+    named = dict(zip(RUNS[verb], others))
+    inputs = Inputs(named["METRICS"], None, told=" ".join(words.words)) if verb == "gen" else Inputs(named["METRICS"], named["TREE"], named.get("SCRIPT"))
     done = program.ended([*program.command_of(words.program), verb, *others], inputs.formula)
     written = done.stdout.decode("utf-8", "replace")
-    if verb == "edit":
+    if inputs.script:
         for line in explained_replies(written, inputs.script):
             command.warn("explain", line)
     if done.returncode != 0:

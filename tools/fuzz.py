@@ -38,7 +38,7 @@ import fuzz_inputs  # noqa: E402
 from fuzz_inputs import FOLDER, KINDS, WEIGHTS, Case  # noqa: E402
 from second import program as engine  # noqa: E402
 
-STATUSES = {0, 2, 3, 4, 5, 8, 9}  # of docs/FORMATS.md, without a failed write and without want of memory
+STATUSES = {0, 2, 3, 4, 5, 8, 9, 10, 11}  # of docs/FORMATS.md, without a failed write and without want of memory
 PATIENCE = 300  # seconds that a case may take
 SLOW = 2  # seconds of processor time that count as a hang with --harm
 TOLD = 1000  # cases, after which it is told how far it got

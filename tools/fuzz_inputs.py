@@ -350,6 +350,25 @@ def script_bytes(random):
     return Case(["edit", "m", "t", "s"], {"m": REAL["metrics"][0], "t": root, "s": content})
 
 
+def pictures(random):
+    """The command `paint`."""
+    return Case(["paint", "m", "t"], {"m": metrics(random, random.random() < 0.1), "t": tree(random)})
+
+
+def pointers(random):
+    """The command `hit`, mostly near the formula."""
+    coordinates = [str(random.choice([random.randrange(-40000, 60000), random.randrange(-5000, 20000), 0, -1, 8192, 99999999999])) for _ in range(2)]
+    return Case(["hit", "m", "t", *coordinates], {"m": metrics(random), "t": tree(random)})
+
+
+def selections(random):
+    """The command `select`, mostly of elements that are there."""
+    root = tree(random)
+    count = len(re.findall(rb'"name"', root))
+    ids = [str(random.choice([random.randrange(1, count + 1)] * 8 + [0, count + 1, 2**32 - 1])) for _ in range(2)]
+    return Case(["select", "m", "t", *ids], {"m": metrics(random), "t": root})
+
+
 def nested(random):
     """Deep trees, round the limits of levels and of JSON."""
     name = random.choice(["mrow", "msqrt", "msup", "mfrac", "foo", "mstyle", "mtd", "mover", "mpadded"])
@@ -376,10 +395,12 @@ def wide(random):
 
 def words(random):
     """Any words, over files that are there, aren't there, or are folders."""
-    pool = ["layout", "edit", "check", "gen", "m", "t", "s", "folder", "none", "", "--help", "--version", "Layout", "0", "1", "20000", "20001", "18446744073709551615", "18446744073709551616", "00000000000000000007", "000000000000000000007", "00001", "000001", "+1", "-1", "1 ", "é", "./m", "-"]
-    made = [random.choice(pool) for _ in range(random.choice([0, 1, 2, 3, 3, 4, 4, 5]))]
+    pool = ["layout", "edit", "check", "gen", "paint", "hit", "select", "m", "t", "s", "folder", "none", "", "--help", "--version", "Layout", "0", "1", "20000", "20001", "18446744073709551615", "18446744073709551616", "00000000000000000007", "000000000000000000007", "00001", "000001", "-12345678901", "123456789012", "-0", "00000000002", "4294967295", "4294967296", "1.0", "--1", "+1", "-1", "1 ", "é", "./m", "-"]
+    made = [random.choice(pool) for _ in range(random.choice([0, 1, 2, 3, 3, 4, 4, 5, 5, 6]))]
     if made and random.random() < 0.6:
-        made[0] = random.choice(pool[:4])
+        made[0] = random.choice(pool[:7])
+    if len(made) > 3 and random.random() < 0.5:
+        made[1:3] = ["m", "t"]
     files = {"m": random.choice(REAL["metrics"][:1] * 3 + [b"", b"mathlay-metrics 1\n"]), "t": random.choice([tree(random), b"", b"{}"]), "s": random.choice([b'{"op":"show"}', b""]), "folder": FOLDER}
     return Case(made, files)
 
@@ -392,7 +413,7 @@ def generated(random):
 
 KINDS = {
     each.__name__: each
-    for each in (formulas, borders, samples, edits, metrics_bytes, tree_bytes, script_bytes, nested, wide, words, generated)
+    for each in (formulas, borders, samples, edits, pictures, pointers, selections, metrics_bytes, tree_bytes, script_bytes, nested, wide, words, generated)
 }
 # How often a kind comes among others.
-WEIGHTS = {"formulas": 8, "borders": 3, "samples": 2, "edits": 6, "metrics_bytes": 4, "tree_bytes": 4, "script_bytes": 3, "nested": 2, "wide": 1, "words": 2, "generated": 1}
+WEIGHTS = {"formulas": 8, "borders": 3, "samples": 2, "edits": 6, "pictures": 2, "pointers": 2, "selections": 2, "metrics_bytes": 4, "tree_bytes": 4, "script_bytes": 3, "nested": 2, "wide": 1, "words": 2, "generated": 1}

@@ -113,7 +113,7 @@ def numbers(values):
 
 def mark_words(metrics, mark):
     """A mark as in the lines of the output."""
-    return " ".join(map(str, words_at(metrics, mark, mark.x, mark.y)))
+    return " ".join(map(str, words_at(metrics, mark)))
 
 
 def fits(values):

@@ -11,6 +11,7 @@ from companion.jsons import places_of
 
 METRICS = re.compile(r"metrics (\d+) (\d+)")
 TREE = re.compile(r"tree (\d+) (\d+)")
+NODE = re.compile(r"node (\d+)")
 RIGHT = "what would be right"
 
 
@@ -23,7 +24,7 @@ def ending(status, written, errors, inputs):
     if row is None:
         return (f"{inputs.formula}: the program ended with status {status}, which is none of mathlay's: is it mathlay?"
                 f"{of_errors(errors or last)}")
-    if status in (3, 4, 8) and (told := refusal(last, inputs)):
+    if status in (3, 4, 8, 10, 11) and (told := refusal(last, inputs)):
         return f"{told} (the program wrote `{last}`)"
     if status == 5:
         return missing(inputs) or f"{inputs.formula}: {row['what it says']}; right would be {row[RIGHT]}"
@@ -55,6 +56,11 @@ def refusal(text, inputs):
         return of_metrics(int(found[1]), int(found[2]), inputs.metrics)
     if found := TREE.fullmatch(text):
         return of_tree(int(found[1]), int(found[2]), inputs)
+    if found := NODE.fullmatch(text):
+        return f"{inputs.formula or 'the tree'}: no element in flow has the id {found[1]}; right would be {formats.status(10)[RIGHT]}"
+    if text == "paint many":
+        row = formats.status(11)
+        return f"{inputs.formula or 'the tree'}: {row['what it says']}; right would be {row[RIGHT]}"
     simple = {"metrics long": (3, inputs.metrics), "tree long": (4, inputs.formula), "range": (8, inputs.formula)}
     if text in simple:
         status, name = simple[text]

@@ -9,15 +9,27 @@ from .layout import OutOfRange
 from .metrics_print import print_metrics
 from .metrics_reading import MOST_BYTES as LONGEST_METRICS
 from .metrics_reading import MetricsFault, read_metrics
+from .painting import TooMany, svg_of
+from .pointing import NoNode, coordinates_of, hit, ids_of, selection
 from .script import ScriptTooLong, lines_of
 from .session import Session
 from .tree_print import print_tree
 from .tree_reading import TreeFault, tree_of
 
-USAGE_LINE = "usage: mathlay layout METRICS TREE | edit METRICS TREE SCRIPT | check METRICS TREE | gen METRICS SEED COUNT"
+USAGE_LINE = "usage: mathlay " + " | ".join(
+    [
+        "layout METRICS TREE",
+        "edit METRICS TREE SCRIPT",
+        "check METRICS TREE",
+        "gen METRICS SEED COUNT",
+        "paint METRICS TREE",
+        "hit METRICS TREE X Y",
+        "select METRICS TREE ID ID",
+    ]
+)
 LONGEST_TREE = 4194304
 
-DONE, USAGE, METRICS, TREE, READ_FAULT, RANGE, SCRIPT_LIMIT = 0, 2, 3, 4, 5, 8, 9
+DONE, USAGE, METRICS, TREE, READ_FAULT, RANGE, SCRIPT_LIMIT, NO_NODE, PAINT = 0, 2, 3, 4, 5, 8, 9, 10, 11
 
 
 class Ending(Exception):
@@ -44,9 +56,8 @@ def run(words, inputs, write):
 
 def command_of(words):
     """The function of a command, where the words after it are as many as it takes."""
-    commands = {("layout", 3): layout, ("check", 3): check, ("edit", 4): edit, ("gen", 4): generate}
-    command = commands.get((words[0], len(words))) if words else None
-    if command is None or (command is generate and not seed_and_count(*words[2:])):
+    command, is_sound = COMMANDS.get((words[0], len(words)), (None, None)) if words else (None, None)
+    if command is None or not is_sound(*words[1:]):
         raise Ending(USAGE, USAGE_LINE)
     return command
 
@@ -77,6 +88,46 @@ def edit(inputs, write, metrics_name, tree_name, script_name):
 
 def generate(inputs, write, metrics_name, seed, count):
     write(generated(metrics_in(inputs, metrics_name), *seed_and_count(seed, count)))
+
+
+def paint(inputs, write, metrics_name, tree_name):
+    session = Session(metrics_in(inputs, metrics_name), tree_in(inputs, tree_name))
+    try:
+        write(svg_of(session.metrics, session.layout))
+    except TooMany:
+        raise Ending(PAINT, "paint many") from None
+
+
+def hit_point(inputs, write, metrics_name, tree_name, *point):
+    session = Session(metrics_in(inputs, metrics_name), tree_in(inputs, tree_name))
+    id = hit(session.layout, *coordinates_of(*point))
+    write(f"hit {'none' if id is None else id}\n".encode())
+
+
+def select(inputs, write, metrics_name, tree_name, *ids):
+    session = Session(metrics_in(inputs, metrics_name), tree_in(inputs, tree_name))
+    try:
+        areas = selection(session.layout, *ids_of(*ids))
+    except NoNode as fault:
+        raise Ending(NO_NODE, f"node {fault.id}") from None
+    write("".join(f"area {' '.join(map(str, area))}\n" for area in areas).encode())
+
+
+def any_words(*names):
+    """File names may be any text."""
+    return True
+
+
+# By the first word and how many there are: what is done, and whether the other words have their form.
+COMMANDS = {
+    ("layout", 3): (layout, any_words),
+    ("edit", 4): (edit, any_words),
+    ("check", 3): (check, any_words),
+    ("gen", 4): (generate, lambda metrics, *numbers: seed_and_count(*numbers)),
+    ("paint", 3): (paint, any_words),
+    ("hit", 5): (hit_point, lambda metrics, tree, *point: coordinates_of(*point)),
+    ("select", 5): (select, lambda metrics, tree, *ids: ids_of(*ids)),
+}
 
 
 # ---- files

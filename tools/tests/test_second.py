@@ -45,6 +45,23 @@ class SecondEngine(unittest.TestCase):
         lines = b"box 1 math 0 0 8192 14400 4800 10880 0\nbox 2 mn 0 0 8192 14400 4800 10880 0\nglyph 0 0 16384 one\n"
         self.assertEqual(run("layout", "m", "t", m=SMALL, t=ONE), (0, lines))
 
+    def test_the_picture_of_the_formats(self):
+        picture = b'<svg xmlns="http://www.w3.org/2000/svg" viewBox="0 -14400 8192 19200">\n<use href="#one" transform="translate(0 0) scale(16384)"/>\n</svg>\n'
+        self.assertEqual(run("paint", "m", "t", m=SMALL, t=ONE), (0, picture))
+        self.assertEqual(run("paint", "m", "t", m=SMALL, t=b'{"name":"math"}')[1].count(b"\n"), 2)
+
+    def test_pointing_and_selecting(self):
+        sample = (TOP / "crates" / "run_cases" / "data" / "sample.metrics").read_bytes()
+        tree = b'{"name":"math","children":[{"name":"mfrac","children":[{"name":"mn","text":"1"},{"name":"mn","text":"1"}]}]}'
+        for x, y, told in ((2000, -7000, b"3"), (2000, -4000, b"4"), (100, 0, b"2"), (8191, 0, b"2"), (8192, 0, b"none"), (-1, 0, b"none"), (100, 9200, b"none"), (100, -17200, b"2")):
+            self.assertEqual(run("hit", "m", "t", str(x), str(y), m=sample, t=tree), (0, b"hit " + told + b"\n"))
+        both = b"area 1024 -17200 6144 14400\narea 1024 -5200 6144 14400\n"
+        self.assertEqual(run("select", "m", "t", "4", "3", m=sample, t=tree), (0, both))
+        self.assertEqual(run("select", "m", "t", "2", "3", m=sample, t=tree), (0, b"area 0 -17200 8192 26400\n"))
+        self.assertEqual(run("select", "m", "t", "3", "09", m=sample, t=tree), (10, b"node 9\n"))
+        for words in (("hit", "m", "t", "1", "123456789012"), ("hit", "m", "t", "-", "1"), ("select", "m", "t", "1", "4294967296"), ("select", "m", "t", "1", "-1")):
+            self.assertEqual(run(*words, m=sample, t=tree)[0], 2)
+
     def test_every_sample_is_laid_out_with_its_own_font(self):
         font = read_metrics(FONT)
         for path in sorted(SAMPLES.glob("*.json")):

@@ -16,9 +16,13 @@ use Rattle.generator.specs.Generated.{generated}
 use Rattle.generator.specs.Start.{start_tree}
 use Rattle.generator.specs.Summary.{lines_of as lines_of_summary}
 use Rattle.generator.specs.declared.summary.Summary.{Summary}
-use Rattle.commands.specs.Command.{Asked, Job, OverTree, Generates, Work, LaysOut, Edits, Checks}
-use Rattle.commands.specs.Answer.{Text, whole_text, content, metrics_in, tree_in, answers_to, ◌>>=◌, started, lines_of_page, checked, laid_out, scripted, done, generates, told_of_edits, answer_over, answer_with, answer}
-use Rattle.commands.specs.Refusals.{of_layout}
+use Rattle.queries.specs.Queries.{IsCause, answer_to}
+use Rattle.queries.specs.declared.query.Query.{Query}
+use Rattle.queries.specs.declared.query.QueryRefusal.{QueryRefusal}
+use Rattle.queries.specs.declared.query.QueryRefusal.TheVariants as refused_query
+use Rattle.commands.specs.Command.{Asked, Job, OverTree, Generates, Work, LaysOut, Edits, Checks, Asks}
+use Rattle.commands.specs.Answer.{Text, whole_text, content, metrics_in, tree_in, answers_to, ◌>>=◌, started, lines_of_page, answered, asked_of_page, of_answer, checked, laid_out, scripted, done, generates, told_of_edits, answer_over, answer_with, answer}
+use Rattle.commands.specs.Refusals.{of_layout, of_query}
 use Rattle.commands.specs.Ends.{LacksFile, HasReadCause, IsCut, GivesOr, Answers, IsReachedNext, IsScript, start_of}
 use Rattle.commands.specs.Parts.{AnswersLines, LacksNext, LacksScript, LacksTree, OpensScript, replies_left}
 use Rattle.commands.specs.declared.status.Status.{Status}
@@ -185,6 +189,44 @@ module _ (metrics : MetricsValue) (tree : TreeValue) (seen : InputsTold) (result
   unfolding done
   checked_answers gives = without_files (Ok (whole_text (checked metrics tree))) result seen (λ e. cc) gives
 
+-- ---- a query, over a session
+
+-- no query fails for a read
+answered_no_fault : (said : Result (List ℕ) QueryRefusal) → of_answer said ≡ Err ReadFault → ⊥
+answered_no_fault (Ok bytes) h = cc
+answered_no_fault (Err (refused_query.NoNode id)) h = cc
+answered_no_fault (Err refused_query.TooMany) h = cc
+answered_no_fault (Err refused_query.Memory) h = cc
+
+asked_no_fault : (query : Query) (said : Result SessionValue Refusal) → ¬ (said ≡ Err ReadFault) → (said >>= λ session. answered query session) ≡ Err ReadFault → ⊥
+asked_no_fault query (Ok session) own h = answered_no_fault (answer_to query session) h
+asked_no_fault query (Err refusal) own h = own (err_again {A = Text} {B = SessionValue} refusal ReadFault h)
+
+-- why there is no answer, or want of memory
+pub not_answered : (r : QueryRefusal) (said : Result (List ℕ) QueryRefusal) → IsCause said r → GivesOr (of_answer said) (Err (of_query r))
+not_answered (refused_query.NoNode id) said is = inr (sym (ap of_answer is))
+not_answered refused_query.TooMany said is = inr (sym (ap of_answer is))
+not_answered refused_query.Memory said is = inl refl
+
+pub asked_answers : (query : Query) (metrics : MetricsValue) (tree : TreeValue) (seen : InputsTold) (result : Result Text Refusal)
+    → GivesOr (asked_of_page query metrics tree) result → DoneAnswer (Asks query) metrics tree seen seen result
+unfolding done
+asked_answers query metrics tree seen result gives =
+    without_files (asked_of_page query metrics tree) result seen
+    (asked_no_fault query (started metrics tree) (started_no_fault metrics tree)) gives
+
+-- what the session answers is what the page of the tree answers, where there is a session
+pub asked_over : (query : Query) (metrics : MetricsValue) (tree : TreeValue) (session : SessionValue) (result : Result Text Refusal)
+    → started metrics tree ≡ Ok session → GivesOr (answered query session) result → GivesOr (asked_of_page query metrics tree) result
+asked_over query metrics tree session result is (inl memory) = inl memory
+asked_over query metrics tree session result is (inr same) = inr (same ∙ sym (ap (λ said. said >>= λ s. answered query s) is))
+
+-- and nothing, where there is none
+pub not_asked : (query : Query) (metrics : MetricsValue) (tree : TreeValue) (r : Refusal) → GivesOr (started metrics tree) (Err r)
+    → GivesOr (asked_of_page query metrics tree) (Err r)
+not_asked query metrics tree r (inl memory) = inl (err_again r Memory memory)
+not_asked query metrics tree r (inr same) = inr (ap (λ said. said >>= λ s. answered query s) same)
+
 -- ---- the script, over a session
 
 abbrev ScriptedAnswer : List ℕ → SessionValue → InputsTold → InputsTold → Result Text Refusal → Type 0
@@ -340,6 +382,7 @@ script_lacks : (work : Work) (name : List ℕ) (metrics : MetricsValue) (tree : 
 script_lacks LaysOut name metrics tree f named away is = absurd named
 script_lacks (Edits script) name metrics tree f named away is = (is, subst (λ n. f n ≡ None) named away)
 script_lacks Checks name metrics tree f named away is = absurd named
+script_lacks (Asks query) name metrics tree f named away is = absurd named
 
 -- which file isn't there behind the metrics file
 which_next : (job : Job) (file : List ℕ) (f : Files) (name : List ℕ) → IsReachedNext job file f name → f name ≡ None
@@ -365,6 +408,7 @@ lacked_script : (work : Work) (metrics : MetricsValue) (tree : TreeValue) (f : F
 lacked_script LaysOut metrics tree f lack = absurd lack
 lacked_script (Edits script) metrics tree f lack = (script, refl, lack.1, lack.0)
 lacked_script Checks metrics tree f lack = absurd lack
+lacked_script (Asks query) metrics tree f lack = absurd lack
 
 lacked_next : (job : Job) (file : List ℕ) (f : Files) (metrics : MetricsValue) → metrics_in (content f file) ≡ Ok metrics
     → LacksNext job metrics f → (name : List ℕ) × IsReachedNext job file f name × (f name ≡ None)

@@ -19,7 +19,7 @@ module _ (most : ℕ) (word : List ℕ) where
       ap (λ (short : Bool). if short && nat_lt 0 (length word) && nat_lt (digits_value 10 word) (2 ^ 64) then Some (digits_value 10 word) else None) is
 
   -- by whether there is a digit, and whether the number is small enough
-  by_tests : is_short_numeral most word ≡ true → (some small : Bool)
+  pub by_tests : is_short_numeral most word ≡ true → (some small : Bool)
       → nat_lt 0 (length word) ≡ some → nat_lt (digits_value 10 word) (2 ^ 64) ≡ small
       → number_in most word ≡ (if some && small then Some (digits_value 10 word) else None)
   unfolding number_in

@@ -13,7 +13,7 @@ use Rattle.commands.specs.Ends.{LacksFile, HasReadCause, IsCut, IsCutShort, IsDe
 use Rattle.commands.specs.declared.status.Status.{Status}
 use Rattle.commands.specs.declared.status.Status.TheVariants as status
 use Rattle.commands.specs.declared.refusal.Refusal.{Refusal}
-use Rattle.commands.specs.declared.refusal.Refusal.TheVariants.{MetricsLong, Metrics, TreeLong, TreeJson, Tree, Range, ReadFault, Memory}
+use Rattle.commands.specs.declared.refusal.Refusal.TheVariants.{MetricsLong, Metrics, TreeLong, TreeJson, Tree, Range, NoNode, PaintMany, ReadFault, Memory}
 
 -- the status tells a failed read and want of memory
 is_read_fault : (refusal : Refusal) → status_of refusal ≡ status.ReadFault → refusal ≡ ReadFault
@@ -23,6 +23,8 @@ is_read_fault TreeLong e = cc
 is_read_fault TreeJson e = cc
 is_read_fault (Tree fault) e = cc
 is_read_fault Range e = cc
+is_read_fault (NoNode id) e = cc
+is_read_fault PaintMany e = cc
 is_read_fault ReadFault e = refl
 is_read_fault Memory e = cc
 
@@ -33,6 +35,8 @@ is_memory TreeLong e = cc
 is_memory TreeJson e = cc
 is_memory (Tree fault) e = cc
 is_memory Range e = cc
+is_memory (NoNode id) e = cc
+is_memory PaintMany e = cc
 is_memory ReadFault e = cc
 is_memory Memory e = refl
 
@@ -44,6 +48,8 @@ not_usage TreeLong e = cc
 not_usage TreeJson e = cc
 not_usage (Tree fault) e = cc
 not_usage Range e = cc
+not_usage (NoNode id) e = cc
+not_usage PaintMany e = cc
 not_usage ReadFault e = cc
 not_usage Memory e = cc
 
@@ -55,6 +61,8 @@ not_write_fault TreeLong e = cc
 not_write_fault TreeJson e = cc
 not_write_fault (Tree fault) e = cc
 not_write_fault Range e = cc
+not_write_fault (NoNode id) e = cc
+not_write_fault PaintMany e = cc
 not_write_fault ReadFault e = cc
 not_write_fault Memory e = cc
 
@@ -71,6 +79,8 @@ not_done TreeLong e = cc
 not_done TreeJson e = cc
 not_done (Tree fault) e = cc
 not_done Range e = cc
+not_done (NoNode id) e = cc
+not_done PaintMany e = cc
 not_done ReadFault e = cc
 not_done Memory e = cc
 

@@ -8,5 +8,6 @@ mod StepsTaken
 mod Parts
 mod Replying
 mod RepliesLaws
+mod CoordinateWords
 mod DigitWords
 mod Worked

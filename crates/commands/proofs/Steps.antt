@@ -7,11 +7,13 @@ use Rattle.fixed_units.specs.declared.refusal.LayRefusal.{LayRefusal}
 use Rattle.fixed_units.specs.declared.refusal.LayRefusal.TheVariants as layout
 use Rattle.commands.specs.Answer.{Text, status_of_end}
 use Rattle.commands.specs.Ends.{Breaks, Delivers, EndsBeforeTree, EndsUnlaid, IsCut}
-use Rattle.commands.specs.Refusals.{of_layout, status_of}
+use Rattle.queries.specs.declared.query.QueryRefusal.{QueryRefusal}
+use Rattle.queries.specs.declared.query.QueryRefusal.TheVariants as query
+use Rattle.commands.specs.Refusals.{of_layout, of_query, status_of}
 use Rattle.commands.specs.declared.refusal.Refusal.{Refusal}
 use Rattle.commands.specs.declared.refusal.Refusal.TheVariants as refusal
 use Rattle.commands.specs.declared.status.Status.{Status}
-use Rattle.commands.specs.declared.status.Status.TheVariants.{Done, Usage, Metrics, Tree, ReadFault, WriteFault, Memory, Range, ScriptLimit}
+use Rattle.commands.specs.declared.status.Status.TheVariants.{Done, Usage, Metrics, Tree, ReadFault, WriteFault, Memory, Range, ScriptLimit, Node, Paint}
 
 -- what was delivered with a status of a tree that was laid out, or failed to be written
 pub late : (text : List ℕ) (wanted s : Status) (old new : SinkTold) → ¬ EndsUnlaid wanted → Delivers text wanted old new s → ¬ EndsUnlaid s
@@ -56,7 +58,14 @@ before_unlaid WriteFault e = e
 before_unlaid Memory e = e
 before_unlaid Range e = e
 before_unlaid ScriptLimit e = e
+before_unlaid Node e = e
+before_unlaid Paint e = e
 
 pub layout_late : (refused : LayRefusal) → ¬ EndsUnlaid (status_of (of_layout refused))
 layout_late layout.Range e = e
 layout_late layout.Memory e = e
+
+pub query_late : (refused : QueryRefusal) → ¬ EndsUnlaid (status_of (of_query refused))
+query_late (query.NoNode id) e = e
+query_late query.TooMany e = e
+query_late query.Memory e = e

@@ -1,5 +1,5 @@
 -- Worked runs: the definitions of the program, computed from the bytes of the files and the words.
-use Rattle.std.proofs.Common.{◌≡◌, ◌∙◌, ap, ℕ, pos, List, [], ◌∷◌, ◌++◌, codes, Option, Some, None, refl, subst, lit≤, Bool, true, false}
+use Rattle.std.proofs.Common.{◌≡◌, ◌∙◌, ap, ℕ, pos, negsuc, List, [], ◌∷◌, ◌++◌, codes, Option, Some, None, refl, subst, lit≤, Bool, true, false}
 use Rattle.std.specs.Prelude.{⊤, Ok, Err, if◌then◌else◌}
 use Rattle.std.specs.Fmt.{digits}
 use Rattle.std.specs.Str.{bytes_eq}
@@ -36,8 +36,9 @@ use Rattle.commands.specs.Replies.{after_line, is_edited_in_range, replies, repl
 use Rattle.commands.specs.declared.reply.Cause.TheVariants.{NoCommand, Unmade}
 use Rattle.commands.specs.declared.reply.Reply.TheVariants.{Nothing, Refused}
 use Rattle.commands.specs.Steps.{TakesForEdit, TakesForLine, TakesForLines, accepted_by, accepted_in, unless_refused}
-use Rattle.commands.specs.Numerals.{number_in as numeral_in}
-use Rattle.commands.specs.Command.{asked_by, Asked, OverTree, Generates, Edits, Checks}
+use Rattle.commands.specs.Numerals.{coordinate_in, number_in as numeral_in}
+use Rattle.queries.specs.declared.query.Query.TheVariants.{Hit, Select}
+use Rattle.commands.specs.Command.{asked_by, Asked, OverTree, Generates, Edits, Checks, Asks}
 use Rattle.commands.specs.Answer.{metrics_in, tree_of_json, tree_in, output_of, output}
 use Rattle.commands.proofs.Loading.{tree_short}
 use Rattle.commands.proofs.Answering.{refused_by_metrics}
@@ -146,7 +147,7 @@ output_of_no_metrics = ap output_of (refused_by_metrics _ (files one) _ tree_is_
 
 output_of_two_words : output (asked_by (codes "layout" ∷ codes "m" ∷ [])) (files one)
     ≡ record {
-      bytes = codes "usage: mathlay layout METRICS TREE | edit METRICS TREE SCRIPT | check METRICS TREE | gen METRICS SEED COUNT\n";
+      bytes = codes "usage: mathlay layout METRICS TREE | edit METRICS TREE SCRIPT | check METRICS TREE | gen METRICS SEED COUNT | paint METRICS TREE | hit METRICS TREE X Y | select METRICS TREE ID ID\n";
       status = Usage;
     }
 output_of_two_words = refl
@@ -339,3 +340,36 @@ three_take_none from to (white, first, (moved, second, (removed, third, same))) 
     same ∙ takes_none remove remove_accepts_none moved removed at_remove
     ∙ takes_none move move_accepts_none white moved at_move
     ∙ takes_none (9 ∷ []) white_accepts_none from white first
+
+-- ---- a point, and two ids
+
+abbrev pointing : List ℕ → List ℕ → Option Asked
+pointing x y = asked_by (codes "hit" ∷ codes "m" ∷ codes "t" ∷ x ∷ y ∷ [])
+
+minus_and_zeros : pointing (codes "-5") (codes "007") ≡ Some record { job = OverTree (Asks (Hit (negsuc 4) (pos 7))) (codes "t"); metrics = codes "m" }
+unfolding numeral_in coordinate_in
+minus_and_zeros = refl
+
+twelve_digits : pointing (codes "123456789012") (codes "1") ≡ None
+unfolding numeral_in coordinate_in
+twelve_digits = refl
+
+minus_alone : pointing (codes "1") (codes "-") ≡ None
+unfolding numeral_in coordinate_in
+minus_alone = refl
+
+abbrev selecting : List ℕ → List ℕ → Option Asked
+selecting first second = asked_by (codes "select" ∷ codes "m" ∷ codes "t" ∷ first ∷ second ∷ [])
+
+greatest_id : selecting (codes "3") (codes "4294967295")
+    ≡ Some record { job = OverTree (Asks (Select record { 0 = 3 } record { 0 = 4294967295 })) (codes "t"); metrics = codes "m" }
+unfolding numeral_in
+greatest_id = refl
+
+past_id : selecting (codes "4294967296") (codes "3") ≡ None
+unfolding numeral_in
+past_id = refl
+
+eleven_digits : selecting (codes "3") (codes "00000000003") ≡ None
+unfolding numeral_in
+eleven_digits = refl

@@ -18,10 +18,13 @@ use Rattle.edit_session.specs.Session.{SessionValue, page}
 use Rattle.generator.specs.Generated.{generated}
 use Rattle.generator.specs.Start.{start_tree}
 use Rattle.generator.specs.Summary.{lines_of as lines_of_summary}
-use Rattle.commands.specs.Command.{Asked, Job, OverTree, Generates, Work, LaysOut, Edits, Checks, usage_line}
+use Rattle.queries.specs.Queries.{answer_to}
+use Rattle.queries.specs.declared.query.Query.{Query}
+use Rattle.queries.specs.declared.query.QueryRefusal.{QueryRefusal}
+use Rattle.commands.specs.Command.{Asked, Job, OverTree, Generates, Work, LaysOut, Edits, Checks, Asks, usage_line}
 use Rattle.commands.specs.Script.{within, is_within}
 use Rattle.commands.specs.Replies.{each_reply, replies}
-use Rattle.commands.specs.Refusals.{line_of, status_of}
+use Rattle.commands.specs.Refusals.{line_of, of_query, status_of}
 use Rattle.commands.specs.declared.status.Status.{Status}
 use Rattle.commands.specs.declared.status.Status.TheVariants.{Done, Usage, ScriptLimit}
 use Rattle.commands.specs.declared.refusal.Refusal.{Refusal}
@@ -127,6 +130,20 @@ laid_out metrics tree = do
   session ← started metrics tree
   Ok (whole_text (lines_of_page session))
 
+-- what is answered to a query, or why nothing is
+abbrev pub of_answer : Result (List ℕ) QueryRefusal → Result Text Refusal
+of_answer (Ok bytes) = Ok (whole_text bytes)
+of_answer (Err refusal) = Err (of_query refusal)
+
+abbrev pub answered : Query → SessionValue → Result Text Refusal
+answered query session = of_answer (answer_to query session)
+
+-- what is answered of the page of the tree
+abbrev pub asked_of_page : Query → MetricsValue → TreeValue → Result Text Refusal
+asked_of_page query metrics tree = do
+  session ← started metrics tree
+  answered query session
+
 -- the replies of a session to a script of that name
 abbrev pub scripted : List ℕ → SessionValue → Files → Result Text Refusal
 scripted name session files = Ok (answers_to session (content files name))
@@ -138,6 +155,7 @@ done (Edits script) metrics tree files = do
   session ← started metrics tree
   scripted script session files
 done Checks metrics tree files = Ok (whole_text (checked metrics tree))
+done (Asks query) metrics tree files = asked_of_page query metrics tree
 
 -- what is made of these metrics and a tree file, or the first refusal
 unfoldable pub answer_over : Work → MetricsValue → List ℕ → Files → Result Text Refusal

@@ -2,12 +2,14 @@
 use Rattle.std.specs.Prelude.{ℕ, List, [], ◌∷◌, ◌++◌, codes, if◌then◌else◌, Option, Some, None}
 use Rattle.std.specs.Option.{option_and_then, option_map}
 use Rattle.std.specs.Str.{bytes_eq}
-use Rattle.commands.specs.Numerals.{count_in, seed_in}
+use Rattle.queries.specs.declared.query.Query.{Query}
+use Rattle.queries.specs.declared.query.Query.TheVariants.{Paint, Hit, Select}
+use Rattle.commands.specs.Numerals.{coordinate_in, count_in, id_in, seed_in}
 use Rattle.commands.specs.declared.command.Job.{Job as JobOfWords}
 use Rattle.commands.specs.declared.command.Job.TheVariants.{OverTree as WithTree, Generate}
 use Rattle.commands.specs.declared.command.Request.{Request}
 use Rattle.commands.specs.declared.command.Task.{Task}
-use Rattle.commands.specs.declared.command.Task.TheVariants.{Layout, Edit, Check}
+use Rattle.commands.specs.declared.command.Task.TheVariants.{Layout, Edit, Check, Ask}
 
 -- what is done with a metrics file and a tree file
 pub data Work : Type 0 where
@@ -15,6 +17,8 @@ pub data Work : Type 0 where
   -- the lines of the script of this name are answered
   Edits : List ℕ → Work
   Checks : Work
+  -- this is asked of the page
+  Asks : Query → Work
 
 -- what is done with a metrics file
 pub data Job : Type 0 where
@@ -28,15 +32,32 @@ pub record Asked : Type 0 where
   pub job : Job
   pub metrics : List ℕ
 
+-- which element a point lies in
+abbrev pub point_of : List ℕ → List ℕ → Option Query
+point_of x y = option_and_then (λ a. option_map (λ b. Hit a b) (coordinate_in y)) (coordinate_in x)
+
+-- what is marked from one element to another
+abbrev pub ids_of : List ℕ → List ℕ → Option Query
+ids_of first second = option_and_then (λ a. option_map (λ b. Select a b) (id_in second)) (id_in first)
+
+-- what is asked, by the two words behind the two files
+abbrev pub query_named : List ℕ → List ℕ → List ℕ → Option Query
+query_named word first second =
+    if bytes_eq word (codes "hit") then point_of first second
+    else if bytes_eq word (codes "select") then ids_of first second
+    else None
+
 -- the work that a word names, by the words behind the two files; words are compared exactly
 abbrev pub work_named : List ℕ → List (List ℕ) → Option Work
 work_named word [] =
     if bytes_eq word (codes "layout") then Some LaysOut
     else if bytes_eq word (codes "check") then Some Checks
+    else if bytes_eq word (codes "paint") then Some (Asks Paint)
     else None
 work_named word (script ∷ []) =
     if bytes_eq word (codes "edit") then Some (Edits script) else None
-work_named word (script ∷ more ∷ others) = None
+work_named word (first ∷ second ∷ []) = option_map Asks (query_named word first second)
+work_named word (first ∷ second ∷ third ∷ others) = None
 
 -- the edits of two words, a seed and a count
 abbrev pub generation_of : List ℕ → List (List ℕ) → Option Job
@@ -50,8 +71,9 @@ job_named word next others =
     if bytes_eq word (codes "gen") then generation_of next others
     else option_map (λ work. OverTree work next) (work_named word others)
 
--- the words are `layout METRICS TREE`, `edit METRICS TREE SCRIPT`, `check METRICS TREE` or
--- `gen METRICS SEED COUNT`, and nothing else
+-- the words are `layout METRICS TREE`, `edit METRICS TREE SCRIPT`, `check METRICS TREE`,
+-- `gen METRICS SEED COUNT`, `paint METRICS TREE`, `hit METRICS TREE X Y` or
+-- `select METRICS TREE ID ID`, and nothing else
 abbrev pub asked_by : List (List ℕ) → Option Asked
 asked_by (command ∷ metrics ∷ next ∷ others) =
     option_map (λ job. record { job = job; metrics = metrics }) (job_named command next others)
@@ -61,6 +83,7 @@ abbrev pub work_of : Task → Work
 work_of Layout = LaysOut
 work_of (Edit script) = Edits script.now
 work_of Check = Checks
+work_of (Ask query) = Asks query
 
 abbrev pub job_of : JobOfWords → Job
 job_of (WithTree task tree) = OverTree (work_of task) tree.now
@@ -73,4 +96,5 @@ asked_of request = record { job = job_of request.job; metrics = request.metrics.
 abbrev pub usage_line : List ℕ
 usage_line =
     codes "usage: mathlay layout METRICS TREE | edit METRICS TREE SCRIPT | check METRICS TREE"
-    ++ codes " | gen METRICS SEED COUNT\n"
+    ++ codes " | gen METRICS SEED COUNT | paint METRICS TREE | hit METRICS TREE X Y"
+    ++ codes " | select METRICS TREE ID ID\n"

@@ -4,8 +4,8 @@ use Rattle.std.specs.List.{concat}
 use Rattle.std.specs.Io.KnownBytes.{Appends, IsAtEnd, Keeps}
 use Rattle.doc_io.specs.Causes.{Files, InputsTold, Rose, SinkTold}
 use Rattle.edit_session.specs.Session.{SessionValue}
-use Rattle.commands.specs.Command.{Asked, Job, OverTree, Generates, Work, LaysOut, Edits, Checks, usage_line}
-use Rattle.commands.specs.Answer.{Text, ◌>>=◌, content, metrics_in, tree_in, started, output, output_of, parts_asked, parts_of}
+use Rattle.commands.specs.Command.{Asked, Job, OverTree, Generates, Work, LaysOut, Edits, Checks, Asks, usage_line}
+use Rattle.commands.specs.Answer.{Output, Text, ◌>>=◌, content, metrics_in, tree_in, started, output, output_of, parts_asked, parts_of}
 use Rattle.commands.specs.declared.status.Status.{Status}
 use Rattle.commands.specs.declared.status.Status.TheVariants.{Done, Usage, Metrics, Tree, ReadFault, WriteFault, Memory}
 use Rattle.commands.specs.declared.refusal.Refusal.{Refusal}
@@ -25,6 +25,7 @@ abbrev pub IsScript : Work → List ℕ → Type 0
 IsScript LaysOut name = ⊥
 IsScript (Edits script) name = name ≡ script
 IsScript Checks name = ⊥
+IsScript (Asks query) name = ⊥
 
 -- behind a metrics file of that name: the tree file where that one gives metrics, and the script
 -- where both give a session; edits from a seed need no file more
@@ -96,6 +97,7 @@ abbrev pub IsInParts : Work → Type 0
 IsInParts LaysOut = ⊥
 IsInParts (Edits script) = Unit {0}
 IsInParts Checks = ⊥
+IsInParts (Asks query) = ⊥
 
 abbrev pub IsJobInParts : Job → Type 0
 IsJobInParts (OverTree work tree) = IsInParts work
@@ -203,6 +205,7 @@ abbrev pub StepsStand : Work → Status → Type 0
 StepsStand LaysOut status = EndsUnlaid status
 StepsStand (Edits script) status = EndsBeforeTree status
 StepsStand Checks status = Unit {0}
+StepsStand (Asks query) status = EndsUnlaid status
 
 abbrev pub JobStepsStand : Job → Status → Type 0
 JobStepsStand (OverTree work tree) status = StepsStand work status

@@ -10,10 +10,12 @@ use Rattle.font_metrics.specs.declared.refusal.MetricsRefusal.{MetricsRefusal}
 use Rattle.font_metrics.specs.declared.refusal.MetricsRefusal.TheVariants as metrics
 use Rattle.math_tree.specs.declared.refusal.TreeRefusal.{TreeRefusal}
 use Rattle.math_tree.specs.declared.refusal.TreeRefusal.TheVariants as tree
+use Rattle.queries.specs.declared.query.QueryRefusal.{QueryRefusal}
+use Rattle.queries.specs.declared.query.QueryRefusal.TheVariants as query
 use Rattle.commands.specs.declared.status.Status.{Status}
 use Rattle.commands.specs.declared.status.Status.TheVariants as status
 use Rattle.commands.specs.declared.refusal.Refusal.{Refusal}
-use Rattle.commands.specs.declared.refusal.Refusal.TheVariants.{MetricsLong, Metrics, TreeLong, TreeJson, Tree, Range, ReadFault, Memory}
+use Rattle.commands.specs.declared.refusal.Refusal.TheVariants.{MetricsLong, Metrics, TreeLong, TreeJson, Tree, Range, NoNode, PaintMany, ReadFault, Memory}
 
 -- the line of a fault: where it is, and the number of its kind
 abbrev pub fault_line : List ℕ → ℕ → ℕ → List ℕ
@@ -27,6 +29,8 @@ line_of TreeLong = codes "tree long\n"
 line_of TreeJson = codes "tree json\n"
 line_of (Tree fault) = fault_line (codes "tree") fault.element fault.kind
 line_of Range = codes "range\n"
+line_of (NoNode id) = line (codes "node") (decimal id.0 ∷ [])
+line_of PaintMany = codes "paint many\n"
 line_of ReadFault = []
 line_of Memory = []
 
@@ -38,6 +42,8 @@ status_of TreeLong = status.Tree
 status_of TreeJson = status.Tree
 status_of (Tree fault) = status.Tree
 status_of Range = status.Range
+status_of (NoNode id) = status.Node
+status_of PaintMany = status.Paint
 status_of ReadFault = status.ReadFault
 status_of Memory = status.Memory
 
@@ -58,3 +64,8 @@ of_tree tree.Memory = Memory
 abbrev pub of_layout : LayRefusal → Refusal
 of_layout layout.Range = Range
 of_layout layout.Memory = Memory
+
+abbrev pub of_query : QueryRefusal → Refusal
+of_query (query.NoNode id) = NoNode id
+of_query query.TooMany = PaintMany
+of_query query.Memory = Memory

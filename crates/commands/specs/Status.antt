@@ -1,7 +1,7 @@
 -- The numbers of the endings.
 use Rattle.std.specs.Prelude.{ℕ}
 use Rattle.commands.specs.declared.status.Status.{Status}
-use Rattle.commands.specs.declared.status.Status.TheVariants.{Done, Usage, Metrics, Tree, ReadFault, WriteFault, Memory, Range, ScriptLimit}
+use Rattle.commands.specs.declared.status.Status.TheVariants.{Done, Usage, Metrics, Tree, ReadFault, WriteFault, Memory, Range, ScriptLimit, Node, Paint}
 
 -- the exit status of the program
 abbrev pub number_of : Status → ℕ
@@ -14,3 +14,5 @@ number_of WriteFault = 6
 number_of Memory = 7
 number_of Range = 8
 number_of ScriptLimit = 9
+number_of Node = 10
+number_of Paint = 11

@@ -17,7 +17,7 @@ use Rattle.kept_edits.specs.ByIds.{TakesNeeded}
 use Rattle.memo_tree.specs.Counted.{TakesVisits}
 use Rattle.edit_session.specs.Session.{SessionValue}
 use Rattle.generator.specs.Steps.{TakesForRun as TakesForGenerated}
-use Rattle.commands.specs.Command.{Asked, Job, OverTree, Generates, Work, LaysOut, Edits, Checks}
+use Rattle.commands.specs.Command.{Asked, Job, OverTree, Generates, Work, LaysOut, Edits, Checks, Asks}
 use Rattle.commands.specs.Script.{within}
 use Rattle.commands.specs.Replies.{after_line}
 use Rattle.commands.specs.Answer.{content, metrics_in, started, tree_in}
@@ -111,6 +111,7 @@ TakesForWork LaysOut metrics tree files from to = TakesVisits metrics tree from 
 TakesForWork (Edits script) metrics tree files from to =
     TakesForEdits metrics tree (script_lines script files) from to
 TakesForWork Checks metrics tree files from to = to ≡ from
+TakesForWork (Asks query) metrics tree files from to = TakesVisits metrics tree from to
 
 -- the tree that was read, which is that of its file where the files are told, and the steps of the
 -- work on it

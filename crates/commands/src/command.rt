@@ -3,11 +3,14 @@ ghost use Rattle.std.specs.Option.{option_map};
 ghost use Rattle.commands.specs.Command.{asked_by, asked_of, generation_of, job_named, job_of, work_named, work_of};
 
 use crate::numerals::{count_of, seed_of};
+use crate::query::query_of;
+use queries::Query;
 use thiserror::Error;
 
 /// What the user is told whose words are no command.
 pub const USAGE: &str = "usage: mathlay layout METRICS TREE | edit METRICS TREE SCRIPT \
-    | check METRICS TREE | gen METRICS SEED COUNT\n";
+    | check METRICS TREE | gen METRICS SEED COUNT | paint METRICS TREE | hit METRICS TREE X Y \
+    | select METRICS TREE ID ID\n";
 
 /// The words are no command.
 #[derive(Clone, Copy, Debug, PartialEq, Eq, Error)]
@@ -23,6 +26,8 @@ pub enum Task<'a> {
     Edit(&'a str),
     /// Writes the canonical print of both files.
     Check,
+    /// Answers what is asked of the page.
+    Ask(Query),
 }
 
 /// What is done with a metrics file.
@@ -43,7 +48,8 @@ pub struct Request<'a> {
 
 impl<'a> Request<'a> {
     /// Reads the words after the program's name: `layout METRICS TREE`, `edit METRICS TREE SCRIPT`,
-    /// `check METRICS TREE` or `gen METRICS SEED COUNT`, and nothing else.
+    /// `check METRICS TREE`, `gen METRICS SEED COUNT`, `paint METRICS TREE`, `hit METRICS TREE X Y` or
+    /// `select METRICS TREE ID ID`, and nothing else.
     pub fn from_words(words: &'a [String]) -> Result<Request<'a>, NoCommand>
         ensures ok { IfOk result (λ request.
             asked_by (map string_bytes words.now) ≡ Some (asked_of request)) }
@@ -99,6 +105,7 @@ impl<'a> Task<'a> {
         match others {
             [] => Task::of_word(word),
             [script] => Task::over_script(word, script.as_str()),
+            [first, second] => Task::over_two(word, first.as_str(), second.as_str()),
             _ => None,
         }
     }
@@ -110,6 +117,7 @@ impl<'a> Task<'a> {
         match word {
             "layout" => Some(Task::Layout),
             "check" => Some(Task::Check),
+            "paint" => Some(Task::Ask(Query::Paint)),
             _ => None,
         }
     }
@@ -123,5 +131,13 @@ impl<'a> Task<'a> {
         } else {
             None
         }
+    }
+
+    /// The task that a word names, where two words more are given.
+    fn over_two(word: &str, first: &str, second: &str) -> Option<Task<'a>>
+        ensures { option_map work_of result ≡ work_named word.now (first.now ∷ second.now ∷ []) }
+    {
+        let query = query_of(word, first, second)?;
+        Some(Task::Ask(query))
     }
 }

@@ -21,6 +21,7 @@ mod load; // the files
 mod numerals; // numbers among the words
 mod opening; // a session of two files' bytes
 mod program; // the top call
+mod query; // what is asked of a page
 mod refusal; // why the answer is another
 mod replies; // the lines of a script, one after another
 mod reply; // to one line

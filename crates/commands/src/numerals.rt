@@ -2,7 +2,9 @@
 ghost use Rattle.std.specs.Prelude.{◌≡◌};
 ghost use Rattle.std.specs.Char.{is_ascii_digit};
 ghost use Rattle.std.specs.List.{list_all};
-ghost use Rattle.commands.specs.Numerals.{count_in, is_short_numeral, number_in, seed_in};
+ghost use Rattle.commands.specs.Numerals.{behind_minus, coordinate_in, count_in, id_in, is_short_numeral, number_in, seed_in};
+
+use math_tree::NodeId;
 
 /// The most digits of a seed, and of a count.
 const SEED_DIGITS: usize = 20;
@@ -53,4 +55,42 @@ fn has_digits_alone(word: &[u8]) -> bool
     ensures { result ≡ list_all is_ascii_digit word.now }
 {
     word.iter().all(|byte| byte.is_ascii_digit())
+}
+
+/// The most digits of a coordinate, and of an id.
+const COORDINATE_DIGITS: usize = 11;
+
+const ID_DIGITS: usize = 10;
+
+/// The coordinate that a word writes: an optional `-` and 1 to 11 decimal digits.
+pub fn coordinate_of(word: &str) -> Option<i64>
+    ensures { result ≡ coordinate_in word.now }
+{
+    if is_short_numeral(COORDINATE_DIGITS, behind_minus(word.as_bytes())) {
+        word.parse().ok()
+    } else {
+        None
+    }
+}
+
+/// What stands behind a minus, if the word begins with one.
+fn behind_minus(word: &[u8]) -> &[u8]
+    ensures { result.now ≡ behind_minus word.now }
+{
+    match word.split_first() {
+        Some((b'-', rest)) => rest,
+        _ => word,
+    }
+}
+
+/// The id that a word writes: 1 to 10 decimal digits, and below 2^32.
+pub fn id_of(word: &str) -> Option<NodeId>
+    ensures { result ≡ id_in word.now }
+{
+    let number = number_of(ID_DIGITS, word)?;
+    if number < 1 << 32 {
+        Some(NodeId(number as u32))
+    } else {
+        None
+    }
 }

@@ -3,10 +3,11 @@ ghost use Rattle.std.specs.Option.{option_map};
 ghost use Rattle.memo_tree.specs.Counted.{TakesVisits};
 ghost use Rattle.box_writer.specs.Items.{IsOfFont};
 ghost use Rattle.box_writer.specs.Lines.{text_of};
+ghost use Rattle.queries.specs.Queries.{IsWritable, bytes_of};
 ghost use Rattle.generator.specs.Steps.{TakesForRun as TakesForGenerated};
 ghost use Rattle.generator.specs.Summary.{lines_of};
 ghost use Rattle.commands.specs.Command.{asked_by, asked_of, job_of, work_of, LaysOut, Edits};
-ghost use Rattle.commands.specs.Answer.{answer, answer_over, answer_with, checked, done, generates, laid_out, lines_of_page, scripted, started, whole_text};
+ghost use Rattle.commands.specs.Answer.{answer, answer_over, answer_with, answered, asked_of_page, checked, done, generates, laid_out, lines_of_page, scripted, started, whole_text};
 ghost use Rattle.commands.specs.Ends.{Answered, AnsweredJob, Delivers, Ends, EndsBeforeTree, EndsUnlaid, GivesOr, IsJobInParts, JobStepsStand, LacksFile, StepsStand, TakesNoSteps, Written};
 ghost use Rattle.commands.specs.Parts.{LacksNext, LacksScript, LacksTree};
 ghost use Rattle.commands.specs.Steps.{TakesForEdits, TakesForJob, TakesForRun, TakesForScript, TakesForWork, TakesOverMetrics, script_lines};
@@ -24,6 +25,7 @@ use fixed_units::{List, Memory, Steps};
 use font_metrics::Metrics;
 use generator::{Summary, generate};
 use math_tree::Tree;
+use queries::{Answer, Query, answer_query};
 use std::alloc::Global;
 use std::sync::ledger::Ledger;
 
@@ -148,6 +150,7 @@ fn do_task<I: Inputs, O: Sink, L: Ledger>(
     match task {
         Task::Layout => lay_out(alloc, metrics, tree, out, steps),
         Task::Edit(script) => edit(alloc, metrics, tree, script, inputs, out, steps),
+        Task::Ask(query) => ask(alloc, metrics, tree, query, out, steps),
         Task::Check => {
             let status = check(alloc, &metrics, &tree, out);
             drop(metrics);
@@ -208,6 +211,46 @@ fn lay_out<O: Sink, L: Ledger>(
             status
         }
         Err(refusal) => tell(out, refusal),
+    }
+}
+
+/// Lays out the tree and answers what is asked of its page, or tells why it doesn't.
+fn ask<O: Sink, L: Ledger>(
+    alloc: Global,
+    metrics: Metrics,
+    tree: Tree,
+    query: Query,
+    out: &mut O,
+    steps: &mut Steps<L>,
+) -> Status
+    ensures written { Written (asked_of_page query metrics tree)
+        (O.told out.old) (O.told out.new) result }
+    ensures late { ¬ EndsUnlaid result }
+    ensures taken { TakesVisits metrics tree steps.old steps.new }
+{
+    match start(alloc, metrics, tree, steps) {
+        Ok(mut session) => {
+            let status = ask_session(alloc, &mut session, query, out);
+            drop(session);
+            status
+        }
+        Err(refusal) => tell(out, refusal),
+    }
+}
+
+/// Answers what is asked of the page of a session's tree, or tells why it doesn't.
+fn ask_session<O: Sink>(alloc: Global, session: &mut Session, query: Query, out: &mut O) -> Status
+    ensures written { Written (answered query session.old.held)
+        (O.told out.old) (O.told out.new) result }
+    ensures late { ¬ EndsUnlaid result }
+{
+    match answer_query(alloc, session, query) {
+        Ok(answer) => {
+            let status = deliver_answer(out, &answer, session.metrics());
+            drop(answer);
+            status
+        }
+        Err(refusal) => tell(out, Refusal::of_query(refusal)),
     }
 }
 
@@ -337,6 +380,18 @@ fn deliver_lines<O: Sink>(out: &mut O, placed: &Placed, metrics: &Metrics) -> St
         (O.told out.old) (O.told out.new) result }
 {
     match write_placed(out, placed, metrics) {
+        Ok(()) => Status::Done,
+        Err(_) => Status::WriteFault,
+    }
+}
+
+/// Writes what was answered, unless a write fails.
+fn deliver_answer<O: Sink>(out: &mut O, answer: &Answer, metrics: &Metrics) -> Status
+    requires { IsWritable metrics.now answer.now }
+    ensures { Delivers (bytes_of metrics.now answer.now) Status.Done
+        (O.told out.old) (O.told out.new) result }
+{
+    match answer.write(out, metrics) {
         Ok(()) => Status::Done,
         Err(_) => Status::WriteFault,
     }

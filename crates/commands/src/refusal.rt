@@ -1,11 +1,14 @@
-ghost use Rattle.std.specs.Prelude.{◌≡◌, ◌≤◌, length};
-ghost use Rattle.commands.specs.Refusals.{fault_line, line_of, status_of, of_layout, of_reading};
+ghost use Rattle.std.specs.Prelude.{◌≡◌, ◌≤◌, ◌∷◌, [], codes, length};
+ghost use Rattle.std.specs.Fmt.{decimal};
+ghost use Rattle.doc_io.specs.Lines.{line};
+ghost use Rattle.commands.specs.Refusals.{fault_line, line_of, status_of, of_layout, of_query, of_reading};
 
 use crate::status::Status;
 use doc_io::{ReadRefusal, ShortText};
 use fixed_units::{LayRefusal, Memory};
 use font_metrics::{MetricsFault, MetricsRefusal};
-use math_tree::{TreeFault, TreeRefusal};
+use math_tree::{NodeId, TreeFault, TreeRefusal};
+use queries::QueryRefusal;
 use thiserror::Error;
 
 /// Why the files don't give what is asked for.
@@ -29,6 +32,12 @@ pub enum Refusal {
     /// A number of the tree's layout can't be stored.
     #[error("a size is out of range")]
     Range,
+    /// No element in flow has this id.
+    #[error("no element in flow has the id {}", .0.0)]
+    NoNode(NodeId),
+    /// More would be painted than may be.
+    #[error("too much would be painted")]
+    PaintMany,
     /// A read failed, or a file isn't there.
     #[error("a read failed")]
     ReadFault,
@@ -50,6 +59,8 @@ impl Refusal {
             Refusal::TreeJson => ShortText::of("tree json\n"),
             Refusal::Tree(fault) => fault_line("tree", fault.element, fault.kind),
             Refusal::Range => ShortText::of("range\n"),
+            Refusal::NoNode(id) => node_line(id),
+            Refusal::PaintMany => ShortText::of("paint many\n"),
             Refusal::ReadFault | Refusal::Memory => ShortText::of(""),
         }
     }
@@ -62,6 +73,8 @@ impl Refusal {
             Refusal::MetricsLong | Refusal::Metrics(_) => Status::Metrics,
             Refusal::TreeLong | Refusal::TreeJson | Refusal::Tree(_) => Status::Tree,
             Refusal::Range => Status::Range,
+            Refusal::NoNode(_) => Status::Node,
+            Refusal::PaintMany => Status::Paint,
             Refusal::ReadFault => Status::ReadFault,
             Refusal::Memory => Status::Memory,
         }
@@ -87,6 +100,17 @@ impl Refusal {
             LayRefusal::Memory => Refusal::Memory,
         }
     }
+
+    /// Why a query has no answer.
+    pub fn of_query(refusal: QueryRefusal) -> Refusal
+        ensures { result ≡ of_query refusal }
+    {
+        match refusal {
+            QueryRefusal::NoNode(id) => Refusal::NoNode(id),
+            QueryRefusal::TooMany => Refusal::PaintMany,
+            QueryRefusal::Memory => Refusal::Memory,
+        }
+    }
 }
 
 /// The line of a fault in a file, by the place and the number of its kind.
@@ -97,6 +121,16 @@ fn fault_line(file: &str, place: u32, kind: u8) -> ShortText
     let mut line = ShortText::numbered(file, &[i64::from(place), i64::from(kind)]);
     line.add("\n");
     line
+}
+
+/// The line of an id that no element in flow has.
+fn node_line(id: NodeId) -> ShortText
+    ensures { result ≡ line (codes "node") (decimal id.0 ∷ []) }
+{
+    let mut text = ShortText::of("node");
+    text.add_number(i64::from(id.0));
+    text.add("\n");
+    text
 }
 
 impl From<Memory> for Refusal {

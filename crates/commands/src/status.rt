@@ -25,6 +25,10 @@ pub enum Status {
     Range,
     /// A line of the script or the number of its lines passes its limit.
     ScriptLimit,
+    /// No element has an id that is named among the words.
+    Node,
+    /// More would be painted than may be.
+    Paint,
 }
 
 impl Status {
@@ -42,6 +46,8 @@ impl Status {
             Status::Memory => 7,
             Status::Range => 8,
             Status::ScriptLimit => 9,
+            Status::Node => 10,
+            Status::Paint => 11,
         }
     }
 

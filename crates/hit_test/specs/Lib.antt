@@ -1,2 +1,4 @@
+pub mod Elements
 pub mod Hits
 pub mod Running
+pub mod Selecting

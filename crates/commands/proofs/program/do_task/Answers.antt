@@ -5,7 +5,7 @@ use Rattle.commands.specs.Command.{Work, work_of}
 use Rattle.commands.specs.Ends.{Answered}
 use Rattle.commands.specs.Parts.{LacksScript}
 use Rattle.commands.specs.Steps.{TakesForWork}
-use Rattle.commands.proofs.Answering.{checked_answers, laid_out_answers}
+use Rattle.commands.proofs.Answering.{asked_answers, checked_answers, laid_out_answers}
 use Rattle.commands.proofs.program.do_task.Goals as goal
 
 pub returns-in-Layout-clause-answered : goal.returns-in-Layout-clause-answered
@@ -39,3 +39,19 @@ pub returns-in-Check-clause-taken : goal.returns-in-Check-clause-taken
 returns-in-Check-clause-taken g c =
     subst (λ (work : Work). TakesForWork work c.args.metrics c.args.tree (g.I.Inputs.told c.args.inputs.now).files c.args.steps.now c.args.steps.now)
     (sym (ap work_of c.in-Check.is)) refl
+
+pub returns-in-Ask-clause-answered : goal.returns-in-Ask-clause-answered
+returns-in-Ask-clause-answered g c =
+    let told = g.I.Inputs.told c.args.inputs.now in
+    let m = c.args.metrics in
+    let t = c.args.tree in
+    let w = c.ask.ensures.written in
+    subst (λ (work : Work). Answered work (option_map (done work m t) told.files) (LacksScript work m t) told told
+    (g.O.Sink.told c.args.out.now) (g.O.Sink.told c.ask.new.out) c.ask.result)
+    (sym (ap work_of c.in-Ask.is))
+    (record { result = w.result; answers = asked_answers c.in-Ask.query m t told w.result w.gives; delivers = inl w.delivers; read_to_end = λ done parts. absurd parts })
+
+pub returns-in-Ask-clause-taken : goal.returns-in-Ask-clause-taken
+returns-in-Ask-clause-taken g c =
+    subst (λ (work : Work). TakesForWork work c.args.metrics c.args.tree (g.I.Inputs.told c.args.inputs.now).files c.args.steps.now c.ask.new.steps)
+    (sym (ap work_of c.in-Ask.is)) c.ask.ensures.taken
