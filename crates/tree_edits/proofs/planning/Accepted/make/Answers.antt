@@ -29,8 +29,8 @@ returns-in-Some-broken_limit-clause-refused c =
     let own : own_reason c.args.edit.now (shown (1 + length c.in-Some.path) element) ≡ None =
     ap (λ l. own_reason c.args.edit.now (shown l element)) (sym c.level.ensures) ∙ sym c.own_reason.ensures ∙ c.in_default-own_reason.is in
     let allows = allows_it c.args.edit.now c.args.tree.now c.in-Some.path element is own in
-    inr (limit_first c.args.tree.now c.args.edit.now c.in-Some.path element c.of_edited-totals.result allows c.of_edited-totals.ensures
-    ∙ sym c.broken_limit.ensures ∙ c.in-Some-broken_limit.is)
+    inr (limit_first c.args.tree.now c.args.edit.now c.in-Some.path element c.of_edited-totals.result c.in-Some-broken_limit.reason allows c.of_edited-totals.ensures
+    (sym c.broken_limit.ensures ∙ c.in-Some-broken_limit.is))
 
 pub returns-clause-accepted : goal.returns-clause-accepted
 returns-clause-accepted c =
