@@ -118,11 +118,11 @@ module _ (m : MetricsValue) (tree : TreeValue) (edit : Edit) (change : Change) (
   after = edited tree edit
 
   why : (pair : Pair) (need : IsNeededThere m after pair) → IsCounted m path change tree.root (context_at_root m tree) pair
-      → HasOrigin tree.next_id path change tree.root pair.path need.element
+      → HasOrigin (λ id. HasId tree id → ⊥) path change tree.root pair.path need.element
       → IsOnPath tree edit (id_of need.element) ⊎ ((HasId tree (id_of need.element) → ⊥) ⊎ (IsVisited m tree (named m after pair need) → ⊥))
   why pair need counted (inl on) =
       inl (record { path = path; to_end = is.to_end; front = on.front; rest = on.rest; parts = on.parts; element = on.element; at = on.at; has = on.has })
-  why pair need counted (inr (inl fresh)) = inr (inl (λ has. omega (arith, fresh, is_old tree (id_of need.element) is.whole has)))
+  why pair need counted (inr (inl fresh)) = inr (inl fresh)
   why pair need counted (inr (inr came)) =
       inr (inr (λ v. counted came.0 came.1 (needed_at m tree came.0 need.element pair.context is.whole came.2 v)))
 
@@ -133,7 +133,7 @@ module _ (m : MetricsValue) (tree : TreeValue) (edit : Edit) (change : Change) (
       ap (node_at pair.path) (sym is.is.gives) ∙ stands_at m after pair need in
       record {
         visited = visited m after pair need;
-        why = why pair need counted (origin tree.next_id change is.new path tree.root pair.path need.element is.is.fits at);
+        why = why pair need counted (origin (λ id. HasId tree id → ⊥) change is.free path tree.root pair.path need.element is.is.fits at);
       }
 
   pub all_needed : (pairs : List Pair) (needs : AllByRecursion (IsNeededThere m after) pairs)
