@@ -64,7 +64,7 @@ read_element-returns-clause-reads t c =
 
 pub read_element-returns-clause-order : goal.read_element-returns-clause-order
 read_element-returns-clause-order t c =
-    Ordered.with_head c.args.level c.in_ok-head.head c.in_ok-children.children c.as_slice-_in_order.ensures.order c.in_ok-children.ensures.order
+    Ordered.with_head c.args.level c.in_ok-head.head c.in_ok-children.children c.as_slice-in_order.ensures.order c.in_ok-children.ensures.order
 
 pub read_elements-read_element-requires : goal.read_elements-read_element-requires
 read_elements-read_element-requires t c =
