@@ -18,8 +18,9 @@ use Rattle.edit_session.specs.Session.{SessionValue, page}
 use Rattle.generator.specs.Generated.{generated}
 use Rattle.generator.specs.Start.{start_tree}
 use Rattle.generator.specs.Summary.{lines_of as lines_of_summary}
-use Rattle.commands.specs.Command.{Asked, Job, OverTree, Generates, Work, LaysOut, Edits, Checks, usage_line}
+use Rattle.commands.specs.Command.{Asked, Job, OverTree, Generates, Work, LaysOut, Edits, Checks, Remembers, usage_line}
 use Rattle.commands.specs.Script.{within, is_within}
+use Rattle.commands.specs.History.{Remembered, remembered, replies as history_replies}
 use Rattle.commands.specs.Replies.{replies}
 use Rattle.commands.specs.Refusals.{line_of, status_of}
 use Rattle.commands.specs.declared.status.Status.{Status}
@@ -114,6 +115,15 @@ laid_out metrics tree = do
 abbrev pub scripted : List ℕ → SessionValue → Files → Result Text Refusal
 scripted name session files = Ok (answers_to session (content files name))
 
+-- the same of a history
+abbrev pub history_within : ℕ → Remembered → List (List ℕ) → Text
+history_within most kept lines =
+    record { bytes = history_replies kept (within most lines); whole = is_within most lines }
+
+abbrev pub remembered_to : List ℕ → Remembered → Files → Result Text Refusal
+remembered_to name kept files =
+    Ok (history_within most_lines kept (lines_of (content files name)))
+
 -- what is made of metrics and a tree
 unfoldable pub done : Work → MetricsValue → TreeValue → Files → Result Text Refusal
 done LaysOut metrics tree files = laid_out metrics tree
@@ -121,6 +131,9 @@ done (Edits script) metrics tree files = do
   session ← started metrics tree
   scripted script session files
 done Checks metrics tree files = Ok (whole_text (checked metrics tree))
+done (Remembers depth script) metrics tree files = do
+  session ← started metrics tree
+  remembered_to script (remembered depth session) files
 
 -- what is made of these metrics and a tree file, or the first refusal
 unfoldable pub answer_over : Work → MetricsValue → List ℕ → Files → Result Text Refusal

@@ -2,12 +2,12 @@
 use Rattle.std.specs.Prelude.{ℕ, List, [], ◌∷◌, ◌++◌, codes, if◌then◌else◌, Option, Some, None}
 use Rattle.std.specs.Option.{option_and_then, option_map}
 use Rattle.std.specs.Str.{bytes_eq}
-use Rattle.commands.specs.Numerals.{count_in, seed_in}
+use Rattle.commands.specs.Numerals.{count_in, depth_in, seed_in}
 use Rattle.commands.specs.declared.command.Job.{Job as JobOfWords}
 use Rattle.commands.specs.declared.command.Job.TheVariants.{OverTree as WithTree, Generate}
 use Rattle.commands.specs.declared.command.Request.{Request}
 use Rattle.commands.specs.declared.command.Task.{Task}
-use Rattle.commands.specs.declared.command.Task.TheVariants.{Layout, Edit, Check}
+use Rattle.commands.specs.declared.command.Task.TheVariants.{Layout, Edit, Check, Remember}
 
 -- what is done with a metrics file and a tree file
 pub data Work : Type 0 where
@@ -15,6 +15,8 @@ pub data Work : Type 0 where
   -- the lines of the script of this name are answered
   Edits : List ℕ → Work
   Checks : Work
+  -- the same as of `Edits`, where so many edits can be undone: depth, script
+  Remembers : ℕ → List ℕ → Work
 
 -- what is done with a metrics file
 pub data Job : Type 0 where
@@ -50,10 +52,19 @@ job_named word next others =
     if bytes_eq word (codes "gen") then generation_of next others
     else option_map (λ work. OverTree work next) (work_named word others)
 
--- the words are `layout METRICS TREE`, `edit METRICS TREE SCRIPT`, `check METRICS TREE` or
--- `gen METRICS SEED COUNT`, and nothing else
+-- a script whose edits can be undone: a depth, the metrics file, and then the tree and the script
+abbrev pub remembering : List ℕ → List ℕ → List (List ℕ) → Option Asked
+remembering depth metrics (tree ∷ script ∷ []) =
+    option_map (λ n. record { job = OverTree (Remembers n script) tree; metrics = metrics })
+    (depth_in depth)
+remembering depth metrics others = None
+
+-- the words are `layout METRICS TREE`, `edit METRICS TREE SCRIPT`, `check METRICS TREE`,
+-- `gen METRICS SEED COUNT` or `history DEPTH METRICS TREE SCRIPT`, and nothing else
 abbrev pub asked_by : List (List ℕ) → Option Asked
 asked_by (command ∷ metrics ∷ next ∷ others) =
+    if bytes_eq command (codes "history") then remembering metrics next others
+    else
     option_map (λ job. record { job = job; metrics = metrics }) (job_named command next others)
 asked_by words = None
 
@@ -61,6 +72,7 @@ abbrev pub work_of : Task → Work
 work_of Layout = LaysOut
 work_of (Edit script) = Edits script.now
 work_of Check = Checks
+work_of (Remember depth script) = Remembers depth script.now
 
 abbrev pub job_of : JobOfWords → Job
 job_of (WithTree task tree) = OverTree (work_of task) tree.now
@@ -73,4 +85,4 @@ asked_of request = record { job = job_of request.job; metrics = request.metrics.
 abbrev pub usage_line : List ℕ
 usage_line =
     codes "usage: mathlay layout METRICS TREE | edit METRICS TREE SCRIPT | check METRICS TREE"
-    ++ codes " | gen METRICS SEED COUNT\n"
+    ++ codes " | gen METRICS SEED COUNT | history DEPTH METRICS TREE SCRIPT\n"

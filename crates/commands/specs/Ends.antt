@@ -3,7 +3,7 @@ use Rattle.std.specs.Prelude.{◌≡◌, ◌⊎◌, ℕ, ◌≤◌, List, [], ta
 use Rattle.std.specs.Io.KnownBytes.{Appends, IsAtEnd, Keeps}
 use Rattle.doc_io.specs.Causes.{Files, InputsTold, Rose, SinkTold}
 use Rattle.edit_session.specs.Session.{SessionValue}
-use Rattle.commands.specs.Command.{Asked, Job, OverTree, Generates, Work, LaysOut, Edits, Checks, usage_line}
+use Rattle.commands.specs.Command.{Asked, Job, OverTree, Generates, Work, LaysOut, Edits, Checks, Remembers, usage_line}
 use Rattle.commands.specs.Answer.{Output, Text, ◌>>=◌, content, metrics_in, tree_in, started, output, output_of}
 use Rattle.commands.specs.declared.status.Status.{Status}
 use Rattle.commands.specs.declared.status.Status.TheVariants.{Done, Usage, Metrics, Tree, ReadFault, WriteFault, Memory}
@@ -93,6 +93,7 @@ abbrev pub IsInParts : Work → Type 0
 IsInParts LaysOut = ⊥
 IsInParts (Edits script) = Unit {0}
 IsInParts Checks = ⊥
+IsInParts (Remembers depth script) = Unit {0}
 
 abbrev pub IsJobInParts : Job → Type 0
 IsJobInParts (OverTree work tree) = IsInParts work
@@ -196,6 +197,7 @@ abbrev pub StepsStand : Work → Status → Type 0
 StepsStand LaysOut status = EndsUnlaid status
 StepsStand (Edits script) status = EndsBeforeTree status
 StepsStand Checks status = Unit {0}
+StepsStand (Remembers depth script) status = EndsBeforeTree status
 
 abbrev pub JobStepsStand : Job → Status → Type 0
 JobStepsStand (OverTree work tree) status = StepsStand work status

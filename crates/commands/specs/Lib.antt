@@ -8,4 +8,6 @@ pub mod Answer
 pub mod Ends
 pub mod Parts
 pub mod Steps
+pub mod History
 pub mod Laws
+pub mod Undoable

@@ -36,3 +36,17 @@ if_count count = if is_count count then Some count else None
 -- a count has at most 5 digits, and is from 1 to 20,000
 abbrev pub count_in : List ℕ → Option ℕ
 count_in word = option_and_then if_count (number_in 5 word)
+
+-- the most edits that can be undone
+abbrev pub most_undone : ℕ
+most_undone = 1000
+
+abbrev pub is_depth : ℕ → Bool
+is_depth depth = nat_le 1 depth && nat_le depth most_undone
+
+abbrev pub if_depth : ℕ → Option ℕ
+if_depth depth = if is_depth depth then Some depth else None
+
+-- a depth has at most 4 digits, and is from 1 to 1,000
+abbrev pub depth_in : List ℕ → Option ℕ
+depth_in word = option_and_then if_depth (number_in 4 word)

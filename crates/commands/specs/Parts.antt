@@ -13,7 +13,7 @@ use Rattle.math_tree.specs.Trees.{TreeValue}
 use Rattle.edit_session.specs.Session.{SessionValue}
 use Rattle.commands.specs.Replies.{after_line, told_of}
 use Rattle.commands.specs.Answer.{Text, content, replies_within, started, status_of_end, tree_in}
-use Rattle.commands.specs.Command.{Job, OverTree, Generates, Work, LaysOut, Edits, Checks}
+use Rattle.commands.specs.Command.{Job, OverTree, Generates, Work, LaysOut, Edits, Checks, Remembers}
 use Rattle.commands.specs.Ends.{Breaks, Delivers, HasReadCause, IsCut}
 use Rattle.commands.specs.declared.refusal.Refusal.{Refusal}
 use Rattle.commands.specs.declared.refusal.Refusal.TheVariants.{ReadFault}
@@ -30,6 +30,8 @@ LacksScript LaysOut metrics tree files = ⊥
 LacksScript (Edits script) metrics tree files =
     IsOk (started metrics tree) × (files script ≡ None)
 LacksScript Checks metrics tree files = ⊥
+LacksScript (Remembers depth script) metrics tree files =
+    IsOk (started metrics tree) × (files script ≡ None)
 
 -- the tree file isn't there, or a script that is read
 abbrev pub LacksTree : Work → MetricsValue → List ℕ → Files → Type 0

@@ -16,7 +16,7 @@ use Rattle.box_writer.specs.Lines.{text_of}
 use Rattle.box_writer.specs.declared.placed.PlacedItem.{PlacedItem}
 use Rattle.edit_session.specs.Session.{SessionValue, edited_session, page}
 use Rattle.commands.specs.declared.reply.Cause.{Cause}
-use Rattle.commands.specs.declared.reply.Cause.TheVariants.{NoCommand, Unmade, OutOfRange}
+use Rattle.commands.specs.declared.reply.Cause.TheVariants.{NoCommand, Unmade, OutOfRange, NoneHeld}
 use Rattle.commands.specs.declared.reply.Reply.{Reply}
 use Rattle.commands.specs.declared.reply.Reply.TheVariants.{Nothing, Accepted, Refused, Shown}
 
@@ -83,6 +83,7 @@ abbrev pub word_of : Cause → List ℕ
 word_of NoCommand = codes "line"
 word_of (Unmade reason) = word_of_edit reason
 word_of OutOfRange = codes "range"
+word_of NoneHeld = codes "nothing"
 
 abbrev pub shown_text : MetricsValue → List PlacedItem → List ℕ
 shown_text metrics items = codes "shown\n" ++ text_of metrics items

@@ -13,12 +13,15 @@ ghost use Rattle.commands.specs.Steps.{TakesForEdits, TakesForJob, TakesForRun, 
 ghost use Rattle.commands.specs.Refusals.{line_of, status_of};
 
 use crate::command::{Job, NoCommand, Request, Task, USAGE};
+use crate::history::answer_history;
 use crate::load::{load_metrics, load_tree, open_script};
 use crate::refusal::Refusal;
 use crate::replies::answer_lines;
 use crate::status::Status;
+use crate::undoable::Undoable;
 use box_writer::{Placed, write_placed};
 use doc_io::{Inputs, Sink, write_all};
+use edit_ring::Ring;
 use edit_session::Session;
 use fixed_units::{List, Memory, Steps};
 use font_metrics::Metrics;
@@ -148,6 +151,9 @@ fn do_task<I: Inputs, O: Sink, L: Ledger>(
     match task {
         Task::Layout => lay_out(alloc, metrics, tree, out, steps),
         Task::Edit(script) => edit(alloc, metrics, tree, script, inputs, out, steps),
+        Task::Remember(depth, script) => {
+            remember(alloc, metrics, tree, depth, script, inputs, out, steps)
+        }
         Task::Check => {
             let status = check(alloc, &metrics, &tree, out);
             drop(metrics);
@@ -234,6 +240,62 @@ fn edit<I: Inputs, O: Sink, L: Ledger>(
         Ok(mut session) => {
             let status = answer_script(alloc, &mut session, script, inputs, out, steps);
             drop(session);
+            status
+        }
+        Err(refusal) => tell(out, refusal),
+    }
+}
+
+/// Lays out the tree and answers the lines of a script whose edits can be undone, or tells why it
+/// doesn't.
+fn remember<I: Inputs, O: Sink, L: Ledger>(
+    alloc: Global,
+    metrics: Metrics,
+    tree: Tree,
+    depth: u32,
+    script: &str,
+    inputs: &mut I,
+    out: &mut O,
+    steps: &mut Steps<L>,
+) -> Status {
+    match start_ring(alloc, metrics, tree, depth, steps) {
+        Ok(mut ring) => {
+            let status = remember_script(alloc, &mut ring, script, inputs, out, steps);
+            drop(ring);
+            status
+        }
+        Err(refusal) => tell(out, refusal),
+    }
+}
+
+/// The session of a tree that is laid out, of which so many edits can be undone.
+fn start_ring<L: Ledger>(
+    alloc: Global,
+    metrics: Metrics,
+    tree: Tree,
+    depth: u32,
+    steps: &mut Steps<L>,
+) -> Result<Ring<Undoable>, Refusal> {
+    let session = start(alloc, metrics, tree, steps)?;
+    match Ring::make(alloc, Undoable { session }, depth as usize) {
+        Ok(ring) => Ok(ring),
+        Err(Memory) => Err(Refusal::Memory),
+    }
+}
+
+/// Answers the lines of a script over a ring, or tells why it doesn't.
+fn remember_script<I: Inputs, O: Sink, L: Ledger>(
+    alloc: Global,
+    ring: &mut Ring<Undoable>,
+    name: &str,
+    inputs: &mut I,
+    out: &mut O,
+    steps: &mut Steps<L>,
+) -> Status {
+    match open_script(alloc, name, inputs) {
+        Ok(mut reader) => {
+            let status = answer_history(alloc, ring, &mut reader, inputs, out, steps);
+            drop(reader);
             status
         }
         Err(refusal) => tell(out, refusal),

@@ -86,7 +86,7 @@ fn answer_next<I: Inputs, O: Sink, L: Ledger>(
 }
 
 /// Goes on to the next line of a script, and says whether there is one.
-fn next_line<I: Inputs>(reader: &mut LineReader, inputs: &mut I) -> Result<bool, Stop>
+pub fn next_line<I: Inputs>(reader: &mut LineReader, inputs: &mut I) -> Result<bool, Stop>
     ensures { ComesToLine reader.old reader.new (I.told inputs.old) (I.told inputs.new) result }
 {
     match reader.next_line(inputs) {
@@ -124,7 +124,7 @@ impl Stop {
     }
 
     /// The status with which the run ends.
-    fn status(self) -> Status
+    pub fn status(self) -> Status
         ensures { result ≡ status_of_stop self }
     {
         match self {

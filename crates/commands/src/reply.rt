@@ -27,6 +27,8 @@ pub enum Cause {
     Unmade(EditRefusal),
     /// A size of the edited tree's layout is out of range.
     OutOfRange,
+    /// There is nothing to undo or redo.
+    NoneHeld,
 }
 
 /// What is answered to a line of a script.
@@ -154,6 +156,7 @@ impl Cause {
             Cause::NoCommand => "line",
             Cause::Unmade(reason) => word_of_edit(reason),
             Cause::OutOfRange => "range",
+            Cause::NoneHeld => "nothing",
         }
     }
 }

@@ -12,7 +12,7 @@ use Rattle.math_tree.specs.Attributes.{value_of}
 use Rattle.math_tree.specs.Forms.{most_elements, most_bytes, is_name, is_rtl, is_short_enough}
 use Rattle.math_tree.specs.Kinds.{is_text_kind}
 use Rattle.math_tree.specs.Print.{renumbered}
-use Rattle.math_tree.specs.Trees.{TreeValue, IsProper, IsProperAttribute, IsWhole, Listed, ids_of, listed}
+use Rattle.math_tree.specs.Trees.{TreeValue, IsProper, IsProperAttribute, IsWhole, Listed, byte_count, element_count, ids_of, listed}
 use Rattle.math_tree.specs.declared.attributes.Attribute.{Attribute}
 use Rattle.math_tree.specs.declared.node.Head.{Head}
 use Rattle.math_tree.specs.declared.node.Node.{Node}
@@ -40,7 +40,7 @@ use Rattle.tree_edits.proofs.StaysWhole.{further, over_named, stays_whole}
 use Rattle.tree_edits.proofs.Target.{found_at}
 use Rattle.tree_edits.proofs.WaysTo.{child_in, child_is, element_is, node_at_end}
 use Rattle.tree_edits.specs.Applying.{IsProperEdit}
-use Rattle.tree_edits.specs.Edits.{named, has_id, head_of, added, edited, at_target, is_deep, is_large, is_long_value, is_not_text, is_past, is_rtl_value, is_taken, refusal_of, target, with_attribute, with_text}
+use Rattle.tree_edits.specs.Edits.{named, has_id, head_of, added, edited, at_target, is_deep, is_fixed, is_in_text, is_large, is_long_value, is_not_text, is_past, is_rtl_value, is_taken, refusal_of, target, with_attribute, with_text}
 use Rattle.tree_edits.specs.Inverses.{InverseLaw, IsBack, inverse, with_next}
 use Rattle.tree_edits.specs.Paths.{children_of, node_at, changed, changed_at}
 use Rattle.tree_edits.specs.Reasons.{own_reason, own_reasons, shown}
@@ -60,7 +60,9 @@ itself : (n : ℕ) → nat_eq n n ≡ true
 itself n = (Decides-eqb n n).1 refl
 
 large_none : (tree : TreeValue) → IsWhole tree → is_large (listed 1 tree.root) ≡ false
-large_none tree whole = or_from _ _ (le-ltb most_elements _ whole.few) (le-ltb most_bytes _ whole.small)
+large_none tree whole =
+    or_from (nat_lt most_elements (element_count tree.root)) (nat_lt most_bytes (byte_count tree.root))
+    (le-ltb most_elements (element_count tree.root) whole.few) (le-ltb most_bytes (byte_count tree.root) whole.small)
 
 module _ (before after : TreeValue) (whole : IsWhole before) (whole_after : IsWhole after) where
   -- it names an element, nothing there is against it, and it gives the root of before
@@ -80,10 +82,10 @@ module _ (before after : TreeValue) (whole : IsWhole before) (whole_after : IsWh
           settled = settled;
           accepted = accepts after back (record {
             known = ap is_some found;
-            on_text = ap (at_target _) found ∙ tests.0;
-            in_other = ap (at_target _) found ∙ tests.1.0;
-            within = ap (at_target _) found ∙ tests.1.1.0;
-            movable = ap (at_target _) found ∙ tests.1.1.1.0;
+            on_text = ap (at_target (is_not_text back)) found ∙ tests.0;
+            in_other = ap (at_target (is_in_text back)) found ∙ tests.1.0;
+            within = ap (at_target (is_past back)) found ∙ tests.1.1.0;
+            movable = ap (at_target (is_fixed back)) found ∙ tests.1.1.1.0;
             named = tests.1.1.1.1.0;
             left_to_right = tests.1.1.1.1.1.0;
             short = tests.1.1.1.1.1.1.0;
@@ -116,14 +118,16 @@ keeps_id id change element has = ap (λ n. nat_eq n id) (id_stays change element
 not_not : (b : Bool) → b ≡ true → not b ≡ false
 not_not b h = ap not h
 
+short_by : (b : Bool) (value : List ℕ) (found : Option (List ℕ)) → is_short_enough value ≡ true → is_long_value found ≡ false
+    → is_long_value (cond b (Some value) found) ≡ false
+short_by true value found short rest = not_not (is_short_enough value) short
+short_by false value found short rest = rest
+
 value_short : (name : List ℕ) (xs : List Attribute) → AllByRecursion IsProperAttribute xs → is_long_value (value_of name xs) ≡ false
 value_short name [] h = refl
 value_short name (x ∷ xs) h =
-    ap is_long_value (first_value name x xs) ∙ by (bytes_eq x.name name)
-  where
-    by : (b : Bool) → is_long_value (cond b (Some x.value) (value_of name xs)) ≡ false
-    by true = not_not (is_short_enough x.value) h.0.value
-    by false = value_short name xs h.1
+    ap is_long_value (first_value name x xs)
+    ∙ short_by (bytes_eq x.name name) x.value (value_of name xs) h.0.value (value_short name xs h.1)
 
 rtl_none : (name : List ℕ) (xs : List Attribute) → option_map_or is_rtl (value_of (codes "dir") xs) false ≡ false → is_rtl_value name (value_of name xs) ≡ false
 rtl_none name xs left = by (value_of name xs) refl

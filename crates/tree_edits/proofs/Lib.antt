@@ -32,6 +32,7 @@ pub mod Inverse
 -- how much there is in an element, and new ids
 mod Measuring
 mod NewIds
+mod Gathered
 -- how many notes of which element stands over which there are
 mod Noted
 -- what planning an edit finds: the numbers of the edited tree, the change that the edit is, and the

@@ -1,5 +1,5 @@
 -- The ids that an element keeps, as a set.
-use Rattle.std.specs.Prelude.{◌≡◌, ◌×◌, ℕ, List, Bool, true, false, ◌||◌, nat_eq, nat_le, Option, Some, None}
+use Rattle.std.specs.Prelude.{◌≡◌, ℕ, List, Bool, true, false, ◌||◌, nat_eq, nat_le, Option, Some, None}
 use Rattle.std.specs.HashSet.{HashSet}
 use Rattle.std.specs.List.{list_any}
 use Rattle.tree_edits.specs.Edits.{stands_twice}

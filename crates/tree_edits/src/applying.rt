@@ -4,7 +4,8 @@ ghost use Rattle.tree_edits.specs.Applying.{CanRestore, IsProperEdit, IsReason, 
 ghost use Rattle.tree_edits.specs.Edits.{edited, named, refusal_of};
 ghost use Rattle.tree_edits.specs.Inverses.{edit_by, edit_of, inverse};
 ghost use Rattle.tree_edits.specs.Paths.{Finds};
-ghost use Rattle.tree_edits.specs.Planning.{planned, CanCarryOut};
+ghost use Rattle.tree_edits.specs.Planning.{planned, CanCarryOut, GivesBack};
+ghost use Rattle.tree_edits.specs.declared.edit.Edit.{Edit as EditValue};
 
 use crate::change::{Change, carry_out_at};
 use crate::path::{Path, path_to};
@@ -113,6 +114,8 @@ fn carry_out_plan(tree: &mut Tree, plan: EditPlan) -> Taken
     requires { CanCarryOut plan tree.old }
     ensures tree { tree.new ≡ planned plan tree.old }
     ensures taken { Undoes result tree.new tree.old }
+    ensures back { (edit : EditValue) → GivesBack tree.old edit plan.step →
+        edit_of result ≡ inverse tree.old edit }
 {
     let EditPlan {
         step,

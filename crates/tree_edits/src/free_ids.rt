@@ -52,7 +52,10 @@ fn set_of_free(alloc: Global, ids: &[u32], next: u64) -> Result<Option<IndexSet<
 {
     let mut own = IndexSet::new(alloc);
     for id in ids {
-        if u64::from(*id) >= next || !own.insert(*id)? {
+        if u64::from(*id) >= next {
+            return Ok(None);
+        }
+        if !own.insert(*id)? {
             return Ok(None);
         }
     }

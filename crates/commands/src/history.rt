@@ -1,0 +1,130 @@
+//! The lines of a script whose edits can be undone, one after another.
+use crate::moves::{Move, move_in};
+use crate::replies::{Stop, next_line};
+use crate::reply::{Cause, Reply};
+use crate::script::is_white_space;
+use crate::status::Status;
+use crate::undoable::Undoable;
+use doc_io::{Inputs, LineReader, Sink};
+use edit_ring::{GroundRefusal, Ring, RingRefusal};
+use fixed_units::{Memory, Steps};
+use std::alloc::Global;
+use std::sync::ledger::Ledger;
+use tree_edits::{Command, CommandRefusal, Edit, read_command};
+
+/// Answers the lines of a script, each before the next is read: to its end, or to the first line
+/// that passes a limit.
+pub fn answer_history<I: Inputs, O: Sink, L: Ledger>(
+    alloc: Global,
+    ring: &mut Ring<Undoable>,
+    reader: &mut LineReader,
+    inputs: &mut I,
+    out: &mut O,
+    steps: &mut Steps<L>,
+) -> Status {
+    match answer_each(alloc, ring, reader, inputs, out, steps) {
+        Ok(()) => Status::Done,
+        Err(stop) => stop.status(),
+    }
+}
+
+/// Answers the lines of a script, each before the next is read.
+fn answer_each<I: Inputs, O: Sink, L: Ledger>(
+    alloc: Global,
+    ring: &mut Ring<Undoable>,
+    reader: &mut LineReader,
+    inputs: &mut I,
+    out: &mut O,
+    steps: &mut Steps<L>,
+) -> Result<(), Stop> {
+    while answer_next(alloc, ring, reader, inputs, out, steps)? {}
+    Ok(())
+}
+
+/// Reads the next line of a script and answers it, and says whether there was one. When it returns,
+/// the reply to the line that was read is written.
+fn answer_next<I: Inputs, O: Sink, L: Ledger>(
+    alloc: Global,
+    ring: &mut Ring<Undoable>,
+    reader: &mut LineReader,
+    inputs: &mut I,
+    out: &mut O,
+    steps: &mut Steps<L>,
+) -> Result<bool, Stop> {
+    if !next_line(reader, inputs)? {
+        return Ok(false);
+    }
+    answer_line(alloc, ring, reader.line(), out, steps)?;
+    Ok(true)
+}
+
+/// Does what a line asks for, and writes the reply.
+fn answer_line<O: Sink, L: Ledger>(
+    alloc: Global,
+    ring: &mut Ring<Undoable>,
+    line: &[u8],
+    out: &mut O,
+    steps: &mut Steps<L>,
+) -> Result<(), Stop> {
+    let reply = reply_to(alloc, ring, line, steps)?;
+    reply.write(out, ring.metrics())?;
+    Ok(())
+}
+
+/// Does what a line of a script asks for, and says what is answered.
+fn reply_to<L: Ledger>(
+    alloc: Global,
+    ring: &mut Ring<Undoable>,
+    line: &[u8],
+    steps: &mut Steps<L>,
+) -> Result<Reply, Memory> {
+    if is_white_space(line) {
+        return Ok(Reply::Nothing);
+    }
+    match move_in(alloc, line)? {
+        Move::Undo => reply_to_move(ring.undo(alloc, steps)),
+        Move::Redo => reply_to_move(ring.redo(alloc, steps)),
+        Move::Other => match read_command(alloc, line) {
+            Ok(command) => carry_out(alloc, ring, command, steps),
+            Err(CommandRefusal::BadLine) => Ok(Reply::Refused(Cause::NoCommand)),
+            Err(CommandRefusal::Memory) => Err(Memory),
+        },
+    }
+}
+
+/// What is answered to a line that goes through the history.
+fn reply_to_move(moved: Result<(), RingRefusal>) -> Result<Reply, Memory> {
+    match moved {
+        Ok(()) => Ok(Reply::Accepted),
+        Err(RingRefusal::Nothing) => Ok(Reply::Refused(Cause::NoneHeld)),
+        Err(RingRefusal::Memory) => Err(Memory),
+    }
+}
+
+/// Does what a command asks for.
+fn carry_out<L: Ledger>(
+    alloc: Global,
+    ring: &mut Ring<Undoable>,
+    command: Command,
+    steps: &mut Steps<L>,
+) -> Result<Reply, Memory> {
+    match command {
+        Command::Show => Ok(Reply::Shown(ring.show(alloc)?)),
+        Command::Change(edit) => change(alloc, ring, edit, steps),
+    }
+}
+
+/// Carries an edit out, or says why it isn't made.
+fn change<L: Ledger>(
+    alloc: Global,
+    ring: &mut Ring<Undoable>,
+    edit: Edit,
+    steps: &mut Steps<L>,
+) -> Result<Reply, Memory> {
+    match ring.edit(alloc, edit, steps) {
+        Ok(()) => Ok(Reply::Accepted),
+        Err(GroundRefusal::Edit(reason)) => Ok(Reply::Refused(Cause::Unmade(reason))),
+        Err(GroundRefusal::Range) => Ok(Reply::Refused(Cause::OutOfRange)),
+        Err(GroundRefusal::Memory) => Err(Memory),
+    }
+}
