@@ -7,7 +7,10 @@ pub mod Replies
 pub mod Answer
 pub mod Ends
 pub mod Parts
+pub mod EditSteps
 pub mod Steps
 pub mod History
+pub mod HistoryParts
+pub mod HistorySteps
 pub mod Laws
 pub mod Undoable

@@ -17,7 +17,9 @@ use Rattle.kept_edits.specs.ByIds.{TakesNeeded}
 use Rattle.memo_tree.specs.Counted.{TakesVisits}
 use Rattle.edit_session.specs.Session.{SessionValue}
 use Rattle.generator.specs.Steps.{TakesForRun as TakesForGenerated}
-use Rattle.commands.specs.Command.{Asked, Job, OverTree, Generates, Work, LaysOut, Edits, Checks}
+use Rattle.commands.specs.Command.{Asked, Job, OverTree, Generates, Work, LaysOut, Edits, Checks, Remembers}
+pub use Rattle.commands.specs.EditSteps.{TakesForEdit, accepted_by, unless_refused}
+use Rattle.commands.specs.HistorySteps.{TakesForRemembered}
 use Rattle.commands.specs.Script.{within}
 use Rattle.commands.specs.Replies.{after_line}
 use Rattle.commands.specs.Answer.{content, metrics_in, started, tree_in}
@@ -26,28 +28,10 @@ use Rattle.commands.specs.declared.replies.Stop.{Stop}
 
 -- ---- one line
 
--- an edit, where the tree has no reason to refuse it
-abbrev pub unless_refused : Option EditRefusal → Edit → Option Edit
-unless_refused None edit = Some edit
-unless_refused (Some reason) edit = None
-
--- the edit that a command asks for, where the tree has no reason to refuse it
-abbrev pub accepted_by : SessionValue → Option Command → Option Edit
-accepted_by session None = None
-accepted_by session (Some Show) = None
-accepted_by session (Some (Change edit)) = unless_refused (refusal_of session.tree edit) edit
-
 -- the edit that a line asks for, where the tree has no reason to refuse it
 unfoldable pub accepted_in : SessionValue → List ℕ → Option Edit
 accepted_in session line =
     if is_white_space line then None else accepted_by session (command_in line)
-
--- the steps of an accepted edit: layouts that it needs, none twice, be it then done, out of range
--- or cut short; where there is none, no step
-abbrev pub TakesForEdit : SessionValue → Option Edit → ℕ → ℕ → Type 0
-TakesForEdit session None from to = to ≡ from
-TakesForEdit session (Some edit) from to =
-    TakesNeeded session.metrics session.tree edit from to
 
 -- the steps of a line
 abbrev pub TakesForLine : SessionValue → List ℕ → ℕ → ℕ → Type 0
@@ -111,6 +95,8 @@ TakesForWork LaysOut metrics tree files from to = TakesVisits metrics tree from 
 TakesForWork (Edits script) metrics tree files from to =
     TakesForEdits metrics tree (script_lines script files) from to
 TakesForWork Checks metrics tree files from to = to ≡ from
+TakesForWork (Remembers depth script) metrics tree files from to =
+    TakesForRemembered depth metrics tree (script_lines script files) from to
 
 -- the tree that was read, which is that of its file where the files are told, and the steps of the
 -- work on it

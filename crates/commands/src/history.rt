@@ -1,4 +1,15 @@
 //! The lines of a script whose edits can be undone, one after another.
+ghost use Rattle.std.specs.Prelude.{◌≡◌, IfOk, OnOk, Some};
+ghost use Rattle.tree_edits.specs.Applying.{IsProperEdit};
+ghost use Rattle.tree_edits.specs.Commands.{IsProperCommand};
+ghost use Rattle.tree_edits.specs.Edits.{refusal_of};
+ghost use Rattle.commands.specs.History.{after_command, after_line, after_reply, reply_to, told_of};
+ghost use Rattle.commands.specs.HistoryParts.{AnswersEach, AnswersLines, AnswersNext, kept_by, ring_of};
+ghost use Rattle.commands.specs.HistorySteps.{TakesForHistory, TakesForLine, TakesForNext, ring_after, session_under};
+ghost use Rattle.commands.specs.Parts.{Tells};
+ghost use Rattle.commands.specs.Replies.{IsReplyOfFont, reply_to_command, reply_to_edit};
+ghost use Rattle.commands.specs.Steps.{TakesForEdit, accepted_by, lines_left, unless_refused};
+
 use crate::moves::{Move, move_in};
 use crate::replies::{Stop, next_line};
 use crate::reply::{Cause, Reply};
@@ -21,7 +32,12 @@ pub fn answer_history<I: Inputs, O: Sink, L: Ledger>(
     inputs: &mut I,
     out: &mut O,
     steps: &mut Steps<L>,
-) -> Status {
+) -> Status
+    ensures answers { AnswersLines (kept_by (ring_of ring.old)) reader.old
+        (I.told inputs.old) (I.told inputs.new) (O.told out.old) (O.told out.new) result }
+    ensures taken { TakesForHistory (ring_of ring.old) (lines_left reader.old (I.told inputs.old))
+        steps.old steps.new }
+{
     match answer_each(alloc, ring, reader, inputs, out, steps) {
         Ok(()) => Status::Done,
         Err(stop) => stop.status(),
@@ -36,7 +52,12 @@ fn answer_each<I: Inputs, O: Sink, L: Ledger>(
     inputs: &mut I,
     out: &mut O,
     steps: &mut Steps<L>,
-) -> Result<(), Stop> {
+) -> Result<(), Stop>
+    ensures answers { AnswersEach (kept_by (ring_of ring.old)) reader.old
+        (I.told inputs.old) (I.told inputs.new) (O.told out.old) (O.told out.new) result }
+    ensures taken { TakesForHistory (ring_of ring.old) (lines_left reader.old (I.told inputs.old))
+        steps.old steps.new }
+{
     while answer_next(alloc, ring, reader, inputs, out, steps)? {}
     Ok(())
 }
@@ -50,7 +71,13 @@ fn answer_next<I: Inputs, O: Sink, L: Ledger>(
     inputs: &mut I,
     out: &mut O,
     steps: &mut Steps<L>,
-) -> Result<bool, Stop> {
+) -> Result<bool, Stop>
+    ensures answers { AnswersNext (kept_by (ring_of ring.old)) (kept_by (ring_of ring.new))
+        reader.old reader.new (I.told inputs.old) (I.told inputs.new)
+        (O.told out.old) (O.told out.new) result }
+    ensures taken { TakesForNext (ring_of ring.old) reader.old reader.new
+        (I.told inputs.old) (I.told inputs.new) steps.old steps.new result }
+{
     if !next_line(reader, inputs)? {
         return Ok(false);
     }
@@ -65,19 +92,35 @@ fn answer_line<O: Sink, L: Ledger>(
     line: &[u8],
     out: &mut O,
     steps: &mut Steps<L>,
-) -> Result<(), Stop> {
+) -> Result<(), Stop>
+    ensures told { Tells (told_of (kept_by (ring_of ring.old)) line.now)
+        (O.told out.old) (O.told out.new) result }
+    ensures kept { OnOk result (kept_by (ring_of ring.new)
+        ≡ after_line (kept_by (ring_of ring.old)) line.now) }
+    ensures ring { OnOk result (ring_of ring.new ≡ ring_after (ring_of ring.old) line.now) }
+    ensures taken { TakesForLine (ring_of ring.old) line.now steps.old steps.new }
+{
     let reply = reply_to(alloc, ring, line, steps)?;
     reply.write(out, ring.metrics())?;
     Ok(())
 }
 
 /// Does what a line of a script asks for, and says what is answered.
+#[tactic(auto, unfolding(crate::specs::History::reply_to, crate::specs::History::after_line, crate::specs::HistorySteps::ring_after))]
 fn reply_to<L: Ledger>(
     alloc: Global,
     ring: &mut Ring<Undoable>,
     line: &[u8],
     steps: &mut Steps<L>,
-) -> Result<Reply, Memory> {
+) -> Result<Reply, Memory>
+    ensures reply { IfOk result
+        (λ reply. reply ≡ reply_to (kept_by (ring_of ring.old)) line.now) }
+    ensures glyphs { IfOk result (IsReplyOfFont (ring_of ring.old).told.metrics) }
+    ensures kept { OnOk result (kept_by (ring_of ring.new)
+        ≡ after_line (kept_by (ring_of ring.old)) line.now) }
+    ensures ring { OnOk result (ring_of ring.new ≡ ring_after (ring_of ring.old) line.now) }
+    ensures taken { TakesForLine (ring_of ring.old) line.now steps.old steps.new }
+{
     if is_white_space(line) {
         return Ok(Reply::Nothing);
     }

@@ -1,7 +1,9 @@
 //! Lines of a script that go through its history.
-ghost use Rattle.std.specs.Prelude.{◌≡◌};
+ghost use Rattle.std.specs.Prelude.{◌≡◌, IfOk, codes};
+ghost use Rattle.std.specs.List.{list_all};
 ghost use Rattle.std.specs.Str.{bytes_eq};
 ghost use Rattle.serde_json.specs.View.{view};
+ghost use Rattle.math_tree.specs.Elements.{keys_in};
 ghost use Rattle.commands.specs.History.{asks_for, move_in, move_of};
 
 use fixed_units::Memory;
@@ -20,7 +22,9 @@ pub enum Move {
 }
 
 /// The way that a line asks for: `{"op":"undo"}`, `{"op":"redo"}`, or none of these.
-pub fn move_in(alloc: Global, line: &[u8]) -> Result<Move, Memory> {
+pub fn move_in(alloc: Global, line: &[u8]) -> Result<Move, Memory>
+    ensures { IfOk result (λ way. way ≡ move_in line.now) }
+{
     match Value::from_slice(alloc, line) {
         Ok(value) => Ok(move_of(&value)),
         Err(error) => {
@@ -54,7 +58,9 @@ fn asks_for(word: &str, value: &Value) -> bool
     value.get("op").and_then(Value::as_str).is_some_and(|op| op == word) && has_op_alone(value)
 }
 
-fn has_op_alone(value: &Value) -> bool {
+fn has_op_alone(value: &Value) -> bool
+    ensures { result ≡ list_all (bytes_eq (codes "op")) (keys_in (view value.now)) }
+{
     match value {
         Value::Object(members) => members.keys().all(|key| key.as_str() == "op"),
         _ => true,

@@ -1,16 +1,19 @@
-ghost use Rattle.std.specs.Prelude.{◌≡◌, ◌≢◌, Some, None, All, IfOk, IfErr, Ok, Err, map, string_bytes};
+ghost use Rattle.std.specs.Prelude.{◌≡◌, ◌≢◌, ◌≤◌, Some, None, All, IfOk, IfErr, Ok, Err, map, string_bytes};
 ghost use Rattle.std.specs.Option.{option_map};
 ghost use Rattle.memo_tree.specs.Counted.{TakesVisits};
 ghost use Rattle.box_writer.specs.Items.{IsOfFont};
 ghost use Rattle.box_writer.specs.Lines.{text_of};
 ghost use Rattle.generator.specs.Steps.{TakesForRun as TakesForGenerated};
 ghost use Rattle.generator.specs.Summary.{lines_of};
-ghost use Rattle.commands.specs.Command.{asked_by, asked_of, job_of, work_of, LaysOut, Edits};
-ghost use Rattle.commands.specs.Answer.{answer, answer_over, answer_with, checked, done, generates, laid_out, lines_of_page, scripted, started, whole_text};
+ghost use Rattle.commands.specs.Command.{asked_by, asked_of, job_of, work_of, LaysOut, Edits, Remembers};
+ghost use Rattle.commands.specs.Answer.{answer, answer_over, answer_with, checked, done, generates, laid_out, lines_of_page, remembered_to, scripted, started, whole_text};
 ghost use Rattle.commands.specs.Ends.{Answered, AnsweredJob, Delivers, Ends, EndsBeforeTree, EndsUnlaid, GivesOr, IsJobInParts, JobStepsStand, LacksFile, StepsStand, TakesNoSteps, Written};
 ghost use Rattle.commands.specs.Parts.{LacksNext, LacksScript, LacksTree};
 ghost use Rattle.commands.specs.Steps.{TakesForEdits, TakesForJob, TakesForRun, TakesForScript, TakesForWork, TakesOverMetrics, script_lines};
+ghost use Rattle.commands.specs.HistoryParts.{kept_by, ring_of};
+ghost use Rattle.commands.specs.HistorySteps.{TakesForHistory, TakesForRemembered, new_ring};
 ghost use Rattle.commands.specs.Refusals.{line_of, status_of};
+ghost use Rattle.edit_session.specs.Session.{SessionValue};
 
 use crate::command::{Job, NoCommand, Request, Task, USAGE};
 use crate::history::answer_history;
@@ -257,7 +260,18 @@ fn remember<I: Inputs, O: Sink, L: Ledger>(
     inputs: &mut I,
     out: &mut O,
     steps: &mut Steps<L>,
-) -> Status {
+) -> Status
+    requires some { 1 ≤ depth }
+    requires few { depth ≤ 1000 }
+    ensures answered { Answered (Remembers depth script.now)
+        (option_map (done (Remembers depth script.now) metrics tree) (I.told inputs.old).files)
+        (LacksScript (Remembers depth script.now) metrics tree)
+        (I.told inputs.old) (I.told inputs.new)
+        (O.told out.old) (O.told out.new) result }
+    ensures late { ¬ EndsBeforeTree result }
+    ensures taken { TakesForRemembered depth metrics tree
+        (script_lines script.now (I.told inputs.old).files) steps.old steps.new }
+{
     match start_ring(alloc, metrics, tree, depth, steps) {
         Ok(mut ring) => {
             let status = remember_script(alloc, &mut ring, script, inputs, out, steps);
@@ -275,7 +289,15 @@ fn start_ring<L: Ledger>(
     tree: Tree,
     depth: u32,
     steps: &mut Steps<L>,
-) -> Result<Ring<Undoable>, Refusal> {
+) -> Result<Ring<Undoable>, Refusal>
+    requires some { 1 ≤ depth }
+    requires few { depth ≤ 1000 }
+    ensures ring { IfOk result (λ ring. (session : SessionValue)
+        × (started metrics tree ≡ Ok session) × (ring_of ring ≡ new_ring depth session)) }
+    ensures refused { IfErr result (λ refusal. GivesOr (started metrics tree) (Err refusal)) }
+    ensures late { IfErr result (λ refusal. ¬ EndsUnlaid (status_of refusal)) }
+    ensures taken { TakesVisits metrics tree steps.old steps.new }
+{
     let session = start(alloc, metrics, tree, steps)?;
     match Ring::make(alloc, Undoable { session }, depth as usize) {
         Ok(ring) => Ok(ring),
@@ -291,7 +313,16 @@ fn remember_script<I: Inputs, O: Sink, L: Ledger>(
     inputs: &mut I,
     out: &mut O,
     steps: &mut Steps<L>,
-) -> Status {
+) -> Status
+    ensures answered { Answered (Remembers (ring_of ring.old).depth name.now)
+        (option_map (remembered_to name.now (kept_by (ring_of ring.old))) (I.told inputs.old).files)
+        (λ files. files name.now ≡ None)
+        (I.told inputs.old) (I.told inputs.new)
+        (O.told out.old) (O.told out.new) result }
+    ensures late { ¬ EndsBeforeTree result }
+    ensures taken { TakesForHistory (ring_of ring.old)
+        (script_lines name.now (I.told inputs.old).files) steps.old steps.new }
+{
     match open_script(alloc, name, inputs) {
         Ok(mut reader) => {
             let status = answer_history(alloc, ring, &mut reader, inputs, out, steps);
