@@ -10,3 +10,4 @@ mod Replying
 mod RepliesLaws
 mod DigitWords
 mod Worked
+pub mod ByElements

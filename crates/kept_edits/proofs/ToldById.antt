@@ -29,21 +29,6 @@ use Rattle.kept_edits.proofs.Origins.{HasOrigin, id_of, origin}
 own_id : (element : Node) → has_id (id_of element) (head_of element) ≡ true
 own_id element = (Decides-eqb (id_of element) (id_of element)).1 refl
 
--- ---- ids of a tree
-
--- what holds of all ids of elements holds of one that an element has
-id_listed : (P : ℕ → Type 0) (id : ℕ) (elements : List Listed) → list_any (λ e. has_id id e.head) elements ≡ true → AllByRecursion P (ids_of elements) → P id
-id_listed P id [] h all = absurd (true≢false (sym h))
-id_listed P id (e ∷ elements) h all =
-    elim (or_cases (has_id id e.head) (list_any (λ (x : Listed). has_id id x.head) elements) h) [
-      | inl own ↦ subst P ((Decides-eqb e.head.id.0 id).0 own) all.0
-      | inr further ↦ id_listed P id elements further all.1
-    ]
-
-pub is_old : (tree : TreeValue) (id : ℕ) → IsWhole tree → HasId tree id → id < tree.next_id
-is_old tree id whole has =
-    id_listed (λ n. n < tree.next_id) id (listed 1 tree.root) has (recursion_from_All (λ n. n < tree.next_id) (ids_of (listed 1 tree.root)) whole.given)
-
 -- ---- layouts of a tree
 
 module _ (m : MetricsValue) (tree : TreeValue) where
