@@ -166,7 +166,7 @@ module _ (tree : TreeValue) (whole : IsWhole tree) where
       let on_text : not (is_text_kind (head_of element).kind) ≡ false = sym (ap (at_target (is_not_text edit)) found) ∙ passes.on_text in
       let kind : (head_of now).kind ≡ (head_of element).kind = ap (λ (h : Head). h.kind) (head_rolled (with_text text (head_of element)) (children_of element)) in
       let reasons = none_holds (own_reasons back (shown (1 + length way.path) now))
-          (ap (λ k. not (is_text_kind k)) kind ∙ on_text, refl, refl, refl, refl, refl, not_not (is_short_enough old) own.text, tt) in
+          (ap (λ k. not (is_text_kind k)) kind ∙ on_text, (refl, (refl, (refl, (refl, (refl, (not_not (is_short_enough old) own.text, tt))))))) in
       let root = own_change_law after back way.path now whole_after tt at has
           ∙ led_back tree.root after.root element way.path (changed change) (changed (SetText old)) way.at made (undone element change 0 tt tt) in
       let is : back ≡ inverse tree edit = sym (ap (λ o. Text id (option_map_or (λ e. (head_of e).text) o [])) (element_is tree id.0 way.path element whole way.at way.has)) in
@@ -192,7 +192,7 @@ module _ (tree : TreeValue) (whole : IsWhole tree) where
       let exchange = attribute_exchanged tree way.path element whole way.at id name value way.has in
       let own = own_of_all exchange IsProper (recursion_from_All IsProper (listed 1 tree.root) whole.proper) in
       let reasons = none_holds (own_reasons back (shown (1 + length way.path) now))
-          (refl, refl, refl, refl, passes.named, rtl_none name attributes own.left_to_right, value_short name attributes (recursion_from_All IsProperAttribute attributes own.attributes), tt) in
+          (refl, (refl, (refl, (refl, (passes.named, (rtl_none name attributes own.left_to_right, (value_short name attributes (recursion_from_All IsProperAttribute attributes own.attributes), tt))))))) in
       let root = own_change_law after back way.path now whole_after tt at has
           ∙ led_back tree.root after.root element way.path (changed change) (changed (SetValue name old 0)) way.at made (undone element change 0 (omega arith) own.order) in
       let is : back ≡ inverse tree edit =
@@ -214,7 +214,7 @@ module _ (tree : TreeValue) (whole : IsWhole tree) where
       let has = itself (head_of child).id.0 in
       let down = node_at_end path index after.root now child over there in
       let below : nat_eq (1 + length (path ++ (index ∷ []))) 1 ≡ false = ne_eqb (1 + length (path ++ (index ∷ []))) 1 (λ same. omega (arith, same, length_end path index)) in
-      let reasons = none_holds (own_reasons back (shown (1 + length (path ++ (index ∷ []))) child)) (refl, refl, refl, below, refl, refl, refl, tt) in
+      let reasons = none_holds (own_reasons back (shown (1 + length (path ++ (index ∷ []))) child)) (refl, (refl, (refl, (below, (refl, (refl, (refl, tt))))))) in
       let root = parent_change_law after back path now index child whole_after tt over there has
           ∙ led_back tree.root after.root element path (changed change) (changed (Children (Take index))) at made (undone element change 0 (within, omega arith) tt) in
       gives_before tree after whole whole_after back (path ++ (index ∷ [])) child down has reasons refl tt root refl
@@ -296,7 +296,7 @@ module _ (tree : TreeValue) (whole : IsWhole tree) where
       let head : head_of now ≡ head_of parent = head_rolled (head_of parent) (remove nodes place) in
       let count : length (children_of now) ≡ length (remove nodes place) = ap length (children_changed change parent) in
       let past : nat_lt (length (children_of now)) place ≡ false = le-ltb (length (children_of now)) place (omega (arith, count, length_remove nodes place near, near)) in
-      let reasons = none_holds (own_reasons back (shown (1 + length over.path) now)) (refl, ap (λ (h : Head). is_text_kind h.kind) head ∙ other, past, refl, refl, refl, refl, tt) in
+      let reasons = none_holds (own_reasons back (shown (1 + length over.path) now)) (refl, (ap (λ (h : Head). is_text_kind h.kind) head ∙ other, (past, (refl, (refl, (refl, (refl, tt))))))) in
       let again : changed (Children (splice_back (TakeAt place) (slice_get nodes place) 0)) now ≡ changed (Children (Put place child 0)) now =
       ap (λ o. changed (Children (splice_back (TakeAt place) o 0)) now) over.there in
       let root = own_change_law after back over.path now whole_after tt at has
@@ -326,7 +326,7 @@ module _ (tree : TreeValue) (whole : IsWhole tree) where
       let has = itself (head_of other).id.0 in
       let down = node_at_end path place after.root now other over here in
       let below : nat_eq (1 + length (path ++ (place ∷ []))) 1 ≡ false = ne_eqb (1 + length (path ++ (place ∷ []))) 1 (λ same. omega (arith, same, length_end path place)) in
-      let reasons = none_holds (own_reasons back (shown (1 + length (path ++ (place ∷ []))) other)) (refl, refl, refl, below, refl, refl, refl, tt) in
+      let reasons = none_holds (own_reasons back (shown (1 + length (path ++ (place ∷ []))) other)) (refl, (refl, (refl, (below, (refl, (refl, (refl, tt))))))) in
       let again : changed (Children (splice_back (ExchangeAt place) (slice_get nodes place) 0)) now ≡ changed (Children (Exchange place child)) now =
       ap (λ o. changed (Children (splice_back (ExchangeAt place) o 0)) now) there in
       let root = parent_change_law after back path now place other whole_after tt over here has

@@ -76,21 +76,8 @@ is_known (Some e) h = refl
 
 pub passes : (before after : List Listed) (next : ℕ) (edit : Edit) → IsAccepted before after next edit → first_refusal before after next edit ≡ None
 passes before after next edit is =
-    none_holds (refusals before after next edit) (
-      is_known (target edit before) is.known,
-      is.on_text,
-      is.in_other,
-      is.within,
-      is.movable,
-      is.named,
-      is.left_to_right,
-      is.short,
-      is.shallow,
-      is.small,
-      is.left,
-      is.free,
-      tt,
-    )
+    none_holds (refusals before after next edit)
+    (is_known (target edit before) is.known, (is.on_text, (is.in_other, (is.within, (is.movable, (is.named, (is.left_to_right, (is.short, (is.shallow, (is.small, (is.left, (is.free, tt))))))))))))
 
 abbrev pub AcceptedBy : TreeValue → Edit → Type 0
 AcceptedBy tree edit = IsAccepted (listed 1 tree.root) (listed 1 (edited tree edit).root) (edited tree edit).next_id edit

@@ -77,6 +77,7 @@ way_is id (i ∷ path) n t at has few =
     ∙ cond-false (has_id id (head_of n)) (Some []) ways (has_not id (head_of n) (omega (arith, few, some, within, out)))
     ∙ way_of_child id 0 (children_of n) i child path below.1 (omega (arith, few, out)) some
     (way_is id path child t below.2 has (omega (arith, few, within, out)))
+    ∙ ap (λ p. Some (p ∷ path)) (let none : 0 + i ≡ i = omega arith in none)
 
 one_way : (tree : TreeValue) (id : ℕ) (path : List ℕ) (element : Node) → IsWhole tree → node_at path tree.root ≡ Some element
     → has_id id (head_of element) ≡ true → way_to id tree.root ≡ Some path
