@@ -1,5 +1,6 @@
 -- Whether ids may be had in a tree.
-use Rattle.std.proofs.Common.{◌≡◌, ◌∙◌, sym, ap, refl, inl, inr, ℕ, ◌≤◌, ◌<◌, List, [], ◌∷◌, ◌++◌, Bool, true, false, ◌||◌, nat_eq, nat_le, arith, true≢false}
+use Rattle.std.proofs.Common.{◌≡◌, ◌∙◌, sym, ap, refl, inl, inr, ℕ, ◌+◌, ◌≤◌, ◌<◌, List, [], ◌∷◌, ◌++◌, length, take, drop, get_or, Bool, true, false, not, cond, ◌||◌, nat_eq, nat_le, arith, true≢false}
+use Rattle.std.proofs.lemmas.List.{append_assoc, take-append-drop, take_more}
 use Rattle.std.proofs.lemmas.Bool.{eqb-false, ne_eqb, leb-false, lt-leb, or_cases, or_parts, or_from}
 use Rattle.std.proofs.lemmas.Bool.Decides.{Decides-eqb}
 use Rattle.std.proofs.lemmas.List.Folds.{list_any-append}
@@ -136,3 +137,37 @@ high_found xs n next rest high =
 pub again_found : (xs : List ℕ) (n next : ℕ) (rest : List ℕ) → list_any (nat_eq n) xs ≡ true → is_bad (xs ++ n ∷ rest) next ≡ true
 again_found xs n next rest again =
     either_true (stands_twice (xs ++ n ∷ rest)) (list_any (nat_le next) (xs ++ n ∷ rest)) (twice_found xs n rest again)
+
+-- ---- a list, item by item, with those before it as a set
+
+split_at : (ids : List ℕ) (i n : ℕ) → i < length ids → n ≡ get_or ids i n → ids ≡ take i ids ++ (n ∷ drop (i + 1) ids)
+split_at ids i n within is =
+    sym (take-append-drop (i + 1) ids)
+    ∙ ap (λ l. l ++ drop (i + 1) ids) (take_more ids i n within ∙ ap (λ m. take i ids ++ (m ∷ [])) (sym is))
+    ∙ append_assoc (take i ids) (n ∷ []) (drop (i + 1) ids)
+
+was_there : (r b : Bool) → r ≡ not b → not r ≡ true → b ≡ true
+was_there r true e h = refl
+was_there r false e h = absurd (true≢false (sym h ∙ ap not e))
+
+was_absent : (r b : Bool) → r ≡ not b → not r ≡ false → b ≡ false
+was_absent r true e h = absurd (true≢false (sym (ap not e) ∙ h))
+was_absent r false e h = refl
+
+pub found_again : (ids : List ℕ) (i next n : ℕ) (keys : List ℕ) (r : Bool) → i < length ids → n ≡ get_or ids i n → keys ≡ take i ids
+    → r ≡ not (list_any (nat_eq n) keys) → not r ≡ true → is_bad ids next ≡ true
+found_again ids i next n keys r within is held added twice =
+    let there = ap (list_any (nat_eq n)) (sym held) ∙ was_there r (list_any (nat_eq n) keys) added twice in
+    ap (λ l. is_bad l next) (split_at ids i n within is) ∙ again_found (take i ids) n next (drop (i + 1) ids) there
+
+pub still_free : (ids : List ℕ) (i next n : ℕ) (keys after : List ℕ) (r : Bool) → i < length ids → n ≡ get_or ids i n → is_bad (take i ids) next ≡ false
+    → keys ≡ take i ids → n < next → r ≡ not (list_any (nat_eq n) keys) → not r ≡ false
+    → after ≡ cond (list_any (nat_eq n) keys) keys (keys ++ n ∷ [])
+    → (is_bad (take (i + 1) ids) next ≡ false) × (after ≡ take (i + 1) ids)
+still_free ids i next n keys after r within is good held low added once now =
+    let none = was_absent r (list_any (nat_eq n) keys) added once in
+    let more : take (i + 1) ids ≡ take i ids ++ n ∷ [] = take_more ids i n within ∙ ap (λ m. take i ids ++ (m ∷ [])) (sym is) in
+    (
+      ap (λ l. is_bad l next) more ∙ still_good (take i ids) n next good (lt-leb next n low) (ap (list_any (nat_eq n)) (sym held) ∙ none),
+      now ∙ ap (λ b. cond b keys (keys ++ n ∷ [])) none ∙ ap (λ l. l ++ n ∷ []) held ∙ sym more,
+    )
