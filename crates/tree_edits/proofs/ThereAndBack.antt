@@ -6,7 +6,7 @@ use Rattle.math_tree.specs.declared.node.Node.{Node}
 use Rattle.tree_edits.proofs.Inverse.{undone_at, undo_fits_at}
 use Rattle.tree_edits.specs.Applying.{TakenValue, Undoes, restored}
 use Rattle.tree_edits.specs.Paths.{node_at, replaced_by}
-use Rattle.tree_edits.specs.Inverses.{edit_by, edit_of, inverse}
+use Rattle.tree_edits.specs.Inverses.{edit_by, inverse}
 use Rattle.tree_edits.specs.Planning.{CanCarryOut, GivesBack, planned}
 use Rattle.tree_edits.specs.Undoing.{completed, inverse_of, room_for, undo_of}
 use Rattle.tree_edits.specs.declared.change.Change.{Change}
@@ -53,17 +53,16 @@ undoes tree plan replaced back taken can whole was undoing path_is change_is nex
 -- ---- as an edit
 
 -- what was taken is the inverse of an edit, where the step gives that back
-pub taken_back : (tree : TreeValue) (plan : EditPlan) (replaced : Replaced) (back : Change) (taken : TakenValue)
+pub taken_back : (tree : TreeValue) (plan : EditPlan) (replaced : Replaced) (back : Change)
     → option_map (replaced_by plan.step.change) (node_at plan.step.path tree.root) ≡ Some replaced → completed plan.step.undo replaced ≡ Some back
-    → taken.change ≡ back → taken.back ≡ plan.step.back → (edit : Edit) → GivesBack tree edit plan.step → edit_of taken ≡ inverse tree edit
-taken_back tree plan replaced back taken was undoing change_is back_is edit gives =
+    → (edit : Edit) → GivesBack tree edit plan.step → edit_by back plan.step.back ≡ inverse tree edit
+taken_back tree plan replaced back was undoing edit gives =
     let change = plan.step.change in
     let fits = gives.ready.fits in
     let room = room_for change fits.element in
     let there : replaced_by change fits.element ≡ replaced =
     same_Some (replaced_by change fits.element) replaced (ap (option_map (replaced_by change)) (sym fits.at) ∙ was) in
-    let meant : taken.change ≡ inverse_of change room fits.element =
-    change_is
-    ∙ same_Some back (inverse_of change room fits.element)
+    let meant : back ≡ inverse_of change room fits.element =
+    same_Some back (inverse_of change room fits.element)
     (sym undoing ∙ ap (λ u. completed u replaced) gives.ready.undo_is ∙ ap (completed (undo_of change room)) (sym there) ∙ is_completed change room fits.element) in
-    ap (λ c. edit_by c taken.back) meant ∙ ap (edit_by (inverse_of change room fits.element)) back_is ∙ gives.is
+    ap (λ c. edit_by c plan.step.back) meant ∙ gives.is

@@ -40,4 +40,4 @@ returns-clause-back c =
     let plan = c.args.plan in
     let was : option_map (replaced_by plan.step.change) (node_at plan.step.path tree.root) ≡ Some c.carry_out_at-replaced.result =
     rw (← c.as_slice.ensures, ← c.exchange-root.ensures.former) c.carry_out_at-replaced.ensures.replaced in
-    λ edit gives. taken_back tree plan c.carry_out_at-replaced.result c.completed.result _ was c.completed.ensures refl refl edit gives
+    λ edit gives. taken_back tree plan c.carry_out_at-replaced.result c.completed.result was c.completed.ensures edit gives
