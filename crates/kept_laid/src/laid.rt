@@ -7,9 +7,9 @@ ghost use Rattle.kept_results.specs.Kept.{Agrees, HasEntry, IsKept};
 ghost use Rattle.kept_results.specs.declared.memo.Memo.TheViews.{out-Memo};
 ghost use Rattle.kept_laid.specs.Laid.{AgreesWithSome, AreKids, kids_laid, laid_kid};
 
+use crate::copies::copy_of;
 use crate::last::last_contexts;
 use crate::lookup::kept_entry;
-use crate::outcomes::copy_of;
 use embellished::{NodeView, View};
 use fixed_units::{List, Memory};
 use kept_results::{Entry, Memo, facts_below};
