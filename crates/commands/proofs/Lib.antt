@@ -10,4 +10,3 @@ mod Replying
 mod RepliesLaws
 mod DigitWords
 mod Worked
-pub mod ByElements

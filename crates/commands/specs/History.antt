@@ -1,12 +1,7 @@
 -- What is answered to the lines of a script whose edits can be undone.
-use Rattle.std.specs.Prelude.{ℕ, List, [], ◌∷◌, ◌++◌, codes, Bool, true, false, ◌&&◌, if◌then◌else◌, Option, Some, None}
-use Rattle.std.specs.List.{list_all}
-use Rattle.std.specs.Option.{option_and_then, option_map_or}
-use Rattle.std.specs.Str.{bytes_eq}
-use Rattle.serde_json.specs.Data.{Data}
-use Rattle.serde_json.specs.Find.{get, as_str}
+use Rattle.std.specs.Prelude.{ℕ, List, [], ◌∷◌, ◌++◌, if◌then◌else◌, Option, Some, None}
+use Rattle.std.specs.Option.{option_and_then}
 use Rattle.font_metrics.specs.Metrics.{MetricsValue}
-use Rattle.math_tree.specs.Elements.{keys_in}
 use Rattle.math_tree.specs.Forms.{is_white_space}
 use Rattle.math_tree.specs.Trees.{TreeValue}
 use Rattle.tree_edits.specs.Commands.{command_of, json_in}
@@ -16,30 +11,13 @@ use Rattle.tree_edits.specs.declared.command.Command.TheVariants.{Show, Change}
 use Rattle.tree_edits.specs.declared.edit.Edit.{Edit}
 use Rattle.edit_session.specs.Session.{SessionValue}
 use Rattle.edit_ring.specs.Rings.{History, after_edit, after_redo, after_undo}
+use Rattle.session_ring.specs.Moves.{move_in}
+use Rattle.session_ring.specs.declared.moves.Move.{Move}
+use Rattle.session_ring.specs.declared.moves.Move.TheVariants.{Undo, Redo, Other}
 use Rattle.commands.specs.Replies.{reply_to_command, reply_to_edit, text_of_reply}
 use Rattle.commands.specs.declared.reply.Cause.TheVariants.{NoneHeld}
 use Rattle.commands.specs.declared.reply.Reply.{Reply}
 use Rattle.commands.specs.declared.reply.Reply.TheVariants.{Nothing, Accepted, Refused}
-use Rattle.commands.specs.declared.moves.Move.{Move}
-use Rattle.commands.specs.declared.moves.Move.TheVariants.{Undo, Redo, Other}
-
--- ---- what a line asks for
-
--- an object with the one key `op`, under which this word stands
-abbrev pub asks_for : List ℕ → Data → Bool
-asks_for word value =
-    option_map_or (bytes_eq word) (option_and_then as_str (get (codes "op") value)) false
-    && list_all (bytes_eq (codes "op")) (keys_in value)
-
-unfoldable pub move_of : Data → Move
-move_of value =
-    if asks_for (codes "undo") value then Undo
-    else if asks_for (codes "redo") value then Redo
-    else Other
-
--- to undo, to redo, or something else, where a line without a reading asks for neither
-abbrev pub move_in : List ℕ → Move
-move_in line = option_map_or move_of (json_in line) Other
 
 -- ---- the history of a session
 

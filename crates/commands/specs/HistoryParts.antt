@@ -10,11 +10,11 @@ use Rattle.commands.specs.Answer.{Text, history_within, status_of_end}
 use Rattle.commands.specs.Ends.{Breaks, Delivers}
 use Rattle.commands.specs.History.{Remembered, after_line, told_of}
 use Rattle.commands.specs.Parts.{ComesToLine, Tells, status_of_lines}
-use Rattle.commands.specs.Undoable.{told}
+use Rattle.session_ring.specs.Undoable.{told}
 use Rattle.commands.specs.declared.replies.Stop.{Stop}
 use Rattle.commands.specs.declared.status.Status.{Status}
 use Rattle.commands.specs.declared.status.Status.TheVariants as ending
-use Rattle.commands.specs.declared.undoable.Undoable.{Undoable}
+use Rattle.session_ring.specs.declared.undoable.Undoable.{Undoable}
 
 -- what a ring over a session tells
 abbrev pub ring_of : RingValue Undoable → RingState

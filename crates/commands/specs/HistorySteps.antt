@@ -19,12 +19,12 @@ use Rattle.edit_session.specs.Session.{SessionValue}
 use Rattle.edit_ring.specs.Grounds.{GroundTold, with_tree}
 use Rattle.edit_ring.specs.Rings.{RingState, TakesMove, redone, undone}
 use Rattle.commands.specs.Answer.{started}
-use Rattle.commands.specs.History.{move_in}
+use Rattle.session_ring.specs.Moves.{move_in}
 use Rattle.commands.specs.Replies.{reply_to_edit}
 use Rattle.commands.specs.EditSteps.{TakesForEdit, accepted_by}
-use Rattle.commands.specs.Undoable.{told}
-use Rattle.commands.specs.declared.moves.Move.{Move}
-use Rattle.commands.specs.declared.moves.Move.TheVariants.{Undo, Redo, Other}
+use Rattle.session_ring.specs.Undoable.{told}
+use Rattle.session_ring.specs.declared.moves.Move.{Move}
+use Rattle.session_ring.specs.declared.moves.Move.TheVariants.{Undo, Redo, Other}
 use Rattle.commands.specs.declared.refusal.Refusal.{Refusal}
 use Rattle.commands.specs.declared.replies.Stop.{Stop}
 use Rattle.commands.specs.declared.reply.Reply.{Reply}

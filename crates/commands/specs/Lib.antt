@@ -13,4 +13,3 @@ pub mod History
 pub mod HistoryParts
 pub mod HistorySteps
 pub mod Laws
-pub mod Undoable

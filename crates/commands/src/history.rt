@@ -10,15 +10,14 @@ ghost use Rattle.commands.specs.Parts.{Tells};
 ghost use Rattle.commands.specs.Replies.{IsReplyOfFont, reply_to_command, reply_to_edit};
 ghost use Rattle.commands.specs.Steps.{TakesForEdit, accepted_by, lines_left, unless_refused};
 
-use crate::moves::{Move, move_in};
 use crate::replies::{Stop, next_line};
 use crate::reply::{Cause, Reply};
 use crate::script::is_white_space;
 use crate::status::Status;
-use crate::undoable::Undoable;
 use doc_io::{Inputs, LineReader, Sink};
 use edit_ring::{GroundRefusal, Ring, RingRefusal};
 use fixed_units::{Memory, Steps};
+use session_ring::{Move, Undoable, move_in};
 use std::alloc::Global;
 use std::sync::ledger::Ledger;
 use tree_edits::{Command, CommandRefusal, Edit, read_command};

@@ -19,7 +19,6 @@ mod command; // the words of the command line
 pub mod laws; // of all scripts
 mod history; // the lines of a script whose edits can be undone
 mod load; // the files
-mod moves; // to undo and to redo
 mod numerals; // numbers among the words
 mod program; // the top call
 mod refusal; // why the answer is another
@@ -27,7 +26,6 @@ mod replies; // the lines of a script, one after another
 mod reply; // to one line
 mod script; // white space
 mod status; // how a run ends
-mod undoable; // a session that a ring can undo
 
 pub use program::run;
 pub use status::Status;

@@ -21,7 +21,6 @@ use crate::load::{load_metrics, load_tree, open_script};
 use crate::refusal::Refusal;
 use crate::replies::answer_lines;
 use crate::status::Status;
-use crate::undoable::Undoable;
 use box_writer::{Placed, write_placed};
 use doc_io::{Inputs, Sink, write_all};
 use edit_ring::Ring;
@@ -30,6 +29,7 @@ use fixed_units::{List, Memory, Steps};
 use font_metrics::Metrics;
 use generator::{Summary, generate};
 use math_tree::Tree;
+use session_ring::Undoable;
 use std::alloc::Global;
 use std::sync::ledger::Ledger;
 

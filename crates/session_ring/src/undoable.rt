@@ -1,6 +1,6 @@
 //! A session as a ground: a ring keeps the inverses of its edits.
 ghost use Rattle.edit_ring.specs.Grounds.{Changes, IsStanding, Shows};
-ghost use Rattle.commands.specs.Undoable.{told};
+ghost use Rattle.session_ring.specs.Undoable.{told};
 
 use box_writer::Placed;
 use edit_ring::{Ground, GroundRefusal};
@@ -19,8 +19,8 @@ pub struct Undoable {
 
 impl Ground for Undoable {
     ghost use Rattle.kept_edits.specs.ByIds.{TakesNeeded};
-    ghost use Rattle.commands.specs.Undoable.{told};
-    ghost use Rattle.commands.proofs.ByElements.{steps_by_elements};
+    ghost use Rattle.session_ring.specs.Undoable.{told};
+    ghost use Rattle.session_ring.proofs.ByElements.{steps_by_elements};
 
     ghost told = { λ undoable. told undoable.session.held };
 

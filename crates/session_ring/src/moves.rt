@@ -4,7 +4,7 @@ ghost use Rattle.std.specs.List.{list_all};
 ghost use Rattle.std.specs.Str.{bytes_eq};
 ghost use Rattle.serde_json.specs.View.{view};
 ghost use Rattle.math_tree.specs.Elements.{keys_in};
-ghost use Rattle.commands.specs.History.{asks_for, move_in, move_of};
+ghost use Rattle.session_ring.specs.Moves.{asks_for, move_in, move_of};
 
 use fixed_units::Memory;
 use serde_json::Value;

@@ -1,0 +1,2 @@
+pub mod Undoable
+pub mod Moves
