@@ -2,6 +2,7 @@
 """Says in a sentence what the program's refusal means: the file, the line, what is wrong and what would be right.
 
     explain.py layout METRICS TREE | edit METRICS TREE SCRIPT | check METRICS TREE | gen METRICS SEED COUNT
+    explain.py history DEPTH METRICS TREE SCRIPT
     explain.py metrics LINE KIND [METRICS]
     explain.py tree ELEMENT KIND [TREE]
     explain.py refused CAUSE
@@ -20,7 +21,7 @@ from companion.command import Fault
 from companion.program import Inputs
 
 RUNS = {"layout": ["METRICS", "TREE"], "edit": ["METRICS", "TREE", "SCRIPT"], "check": ["METRICS", "TREE"],
-        "gen": ["METRICS", "SEED", "COUNT"]}
+        "gen": ["METRICS", "SEED", "COUNT"], "history": ["DEPTH", "METRICS", "TREE", "SCRIPT"]}
 
 
 def main(argv=None):

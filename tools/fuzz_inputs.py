@@ -24,7 +24,7 @@ class Case:
 
     @property
     def is_edit(self):
-        return self.words[:1] == ["edit"]
+        return self.words[:1] in (["edit"], ["history"])
 
 
 # ---- real files
@@ -350,6 +350,16 @@ def script_bytes(random):
     return Case(["edit", "m", "t", "s"], {"m": REAL["metrics"][0], "t": root, "s": content})
 
 
+def histories(random):
+    """The command `history`: scripts with lines that undo and redo, and some that almost do."""
+    root = tree(random)
+    lines = script(random, root).split(b"\n")
+    steps = [b'{"op":"undo"}'] * 5 + [b'{"op":"redo"}'] * 3 + [b' {"op" : "redo" } ', b'{"op":"undo","node":1}', b'{"op":"undo","op":"redo"}', b'{"op":"Undo"}', b'["undo"]', b'{"op":"show"}']
+    mixed = [each for line in lines for each in [line, *random.choices(steps, k=random.choice([0, 0, 1, 1, 2, 4]))]]
+    depth = random.choice(["1", "2", "3", "0007", "1000"])
+    return Case([random.choice(["history"] * 9 + ["edit"]), depth, "m", "t", "s"], {"m": metrics(random), "t": root, "s": b"\n".join([*mixed, b'{"op":"show"}'])})
+
+
 def nested(random):
     """Deep trees, round the limits of levels and of JSON."""
     name = random.choice(["mrow", "msqrt", "msup", "mfrac", "foo", "mstyle", "mtd", "mover", "mpadded"])
@@ -376,10 +386,12 @@ def wide(random):
 
 def words(random):
     """Any words, over files that are there, aren't there, or are folders."""
-    pool = ["layout", "edit", "check", "gen", "m", "t", "s", "folder", "none", "", "--help", "--version", "Layout", "0", "1", "20000", "20001", "18446744073709551615", "18446744073709551616", "00000000000000000007", "000000000000000000007", "00001", "000001", "+1", "-1", "1 ", "é", "./m", "-"]
-    made = [random.choice(pool) for _ in range(random.choice([0, 1, 2, 3, 3, 4, 4, 5]))]
+    pool = ["layout", "edit", "check", "gen", "history", "m", "t", "s", "folder", "none", "", "--help", "--version", "Layout", "0", "1", "20000", "20001", "18446744073709551615", "18446744073709551616", "00000000000000000007", "000000000000000000007", "00001", "000001", "1000", "1001", "+1", "-1", "1 ", "é", "./m", "-"]
+    made = [random.choice(pool) for _ in range(random.choice([0, 1, 2, 3, 3, 4, 4, 5, 5, 6]))]
     if made and random.random() < 0.6:
-        made[0] = random.choice(pool[:4])
+        made[0] = random.choice(pool[:5])
+    if len(made) > 3 and random.random() < 0.5:
+        made[1:4] = random.choice([["m", "t", made[3]], [random.choice(["1000", "1001", "0", "0001", "00001", "-1"]), "m", "t"]])
     files = {"m": random.choice(REAL["metrics"][:1] * 3 + [b"", b"mathlay-metrics 1\n"]), "t": random.choice([tree(random), b"", b"{}"]), "s": random.choice([b'{"op":"show"}', b""]), "folder": FOLDER}
     return Case(made, files)
 
@@ -392,7 +404,7 @@ def generated(random):
 
 KINDS = {
     each.__name__: each
-    for each in (formulas, borders, samples, edits, metrics_bytes, tree_bytes, script_bytes, nested, wide, words, generated)
+    for each in (formulas, borders, samples, edits, histories, metrics_bytes, tree_bytes, script_bytes, nested, wide, words, generated)
 }
 # How often a kind comes among others.
-WEIGHTS = {"formulas": 8, "borders": 3, "samples": 2, "edits": 6, "metrics_bytes": 4, "tree_bytes": 4, "script_bytes": 3, "nested": 2, "wide": 1, "words": 2, "generated": 1}
+WEIGHTS = {"formulas": 8, "borders": 3, "samples": 2, "edits": 6, "histories": 4, "metrics_bytes": 4, "tree_bytes": 4, "script_bytes": 3, "nested": 2, "wide": 1, "words": 2, "generated": 1}

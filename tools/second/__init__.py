@@ -20,7 +20,7 @@ docstring says otherwise, x grows to the right and y downward.
 | rows, padding, fraction, radicals, scripts, limits, multiscripts, tables | the equations of elements with children |
 | questions, equations, layout | what an element asks of its children, which equation it has, the layout of a tree |
 | placing | where everything stands, and the lines of output |
-| edits, script, session | edits of a tree, the lines of a script, and the replies |
+| edits, script, session, history | edits of a tree, the lines of a script, the replies, undo and redo |
 | generator | the command `gen` |
 | program | the command line and the table of endings |
 """

@@ -4,6 +4,7 @@ Inputs have one method: `open(name)` gives a binary stream, or raises OSError. W
 """
 
 from .generator import generated, seed_and_count
+from .history import History, depth_of
 from .json_text import NotJson, read_json
 from .layout import OutOfRange
 from .metrics_print import print_metrics
@@ -14,7 +15,15 @@ from .session import Session
 from .tree_print import print_tree
 from .tree_reading import TreeFault, tree_of
 
-USAGE_LINE = "usage: mathlay layout METRICS TREE | edit METRICS TREE SCRIPT | check METRICS TREE | gen METRICS SEED COUNT"
+USAGE_LINE = "usage: mathlay " + " | ".join(
+    [
+        "layout METRICS TREE",
+        "edit METRICS TREE SCRIPT",
+        "check METRICS TREE",
+        "gen METRICS SEED COUNT",
+        "history DEPTH METRICS TREE SCRIPT",
+    ]
+)
 LONGEST_TREE = 4194304
 
 DONE, USAGE, METRICS, TREE, READ_FAULT, RANGE, SCRIPT_LIMIT = 0, 2, 3, 4, 5, 8, 9
@@ -43,10 +52,9 @@ def run(words, inputs, write):
 
 
 def command_of(words):
-    """The function of a command, where the words after it are as many as it takes."""
-    commands = {("layout", 3): layout, ("check", 3): check, ("edit", 4): edit, ("gen", 4): generate}
-    command = commands.get((words[0], len(words))) if words else None
-    if command is None or (command is generate and not seed_and_count(*words[2:])):
+    """The function of a command, where the words after it are as many as it takes and have their forms."""
+    command, is_sound = COMMANDS.get((words[0], len(words)), (None, None)) if words else (None, None)
+    if command is None or not is_sound(*words[1:]):
         raise Ending(USAGE, USAGE_LINE)
     return command
 
@@ -64,7 +72,16 @@ def check(inputs, write, metrics_name, tree_name):
 
 def edit(inputs, write, metrics_name, tree_name, script_name):
     metrics = metrics_in(inputs, metrics_name)
-    session = Session(metrics, tree_in(inputs, tree_name))
+    answer_lines(inputs, write, Session(metrics, tree_in(inputs, tree_name)), script_name)
+
+
+def history(inputs, write, depth, metrics_name, tree_name, script_name):
+    metrics = metrics_in(inputs, metrics_name)
+    answer_lines(inputs, write, History(metrics, tree_in(inputs, tree_name), depth_of(depth)), script_name)
+
+
+def answer_lines(inputs, write, session, script_name):
+    """Replies to each line of a script, one after another."""
     try:
         with inputs.open(script_name) as stream:
             for line in lines_of(stream):
@@ -77,6 +94,21 @@ def edit(inputs, write, metrics_name, tree_name, script_name):
 
 def generate(inputs, write, metrics_name, seed, count):
     write(generated(metrics_in(inputs, metrics_name), *seed_and_count(seed, count)))
+
+
+def any_words(*names):
+    """File names may be any text."""
+    return True
+
+
+# By the first word and how many there are: what is done, and whether the other words have their form.
+COMMANDS = {
+    ("layout", 3): (layout, any_words),
+    ("edit", 4): (edit, any_words),
+    ("check", 3): (check, any_words),
+    ("gen", 4): (generate, lambda metrics, *numbers: seed_and_count(*numbers)),
+    ("history", 5): (history, lambda depth, *names: depth_of(depth)),
+}
 
 
 # ---- files

@@ -59,6 +59,9 @@ class Sentences(InFolder):
             status, written, errors = run(explain, *words)
             self.assertEqual((status, written, errors.count("\n")), (1, b"", 1))
 
+    def test_nothing_to_undo(self):
+        self.assertIn("there is nothing to undo, or to redo; right would be an edit", self.told("refused", "nothing"))
+
     def test_a_file_that_is_not_there_is_named(self):
         path = self.file("m", METRICS)
         self.assertEqual(self.told("status", 5, path, "nowhere"), "nowhere: the tree file isn't there\n")
@@ -83,7 +86,7 @@ class Runs(InFolder):
     def test_edits_of_a_seed(self):
         metrics = self.file("m", METRICS)
         for status, text, told in ((3, "metrics 5 4\n", f"{metrics}, line 5: too few or too many fields"),
-                                   (2, "usage\n", f"gen {metrics} 1 0: the words are none of the four lists"),
+                                   (2, "usage\n", f"gen {metrics} 1 0: the words are none of the five lists"),
                                    (8, "range\n", f"gen {metrics} 1 0: a number of the layout can't be stored")):
             outcome = run(explain, "gen", metrics, 1, 0, "--program", self.program(text, status))
             self.assertEqual(outcome[:2], (status, text.encode()))

@@ -14,7 +14,8 @@ from tests.common import TOP, InFolder
 
 PROGRAM = TOP / "crates" / "mathlay" / "out" / "mathlay"
 USAGE = (
-    b"usage: mathlay layout METRICS TREE | edit METRICS TREE SCRIPT | check METRICS TREE | gen METRICS SEED COUNT\n")
+    b"usage: mathlay layout METRICS TREE | edit METRICS TREE SCRIPT | check METRICS TREE | gen METRICS SEED COUNT"
+    b" | history DEPTH METRICS TREE SCRIPT\n")
 GENERATED = b"edits 1\nok 1\nwidth 5467264\nascent 19680\ndescent 10592\nboxes 833\n"
 FILES = {
     "m": "mathlay-metrics 1\nupem 1024\nline 900 300\nxheight 512\nglyph missing 512 600 0\n",
@@ -32,6 +33,9 @@ ROWS = [
     # every character is the glyph `missing`, 512 units of 1024 wide
     (["gen", "m", "1", "1"], 0, GENERATED),
     (["gen", "m", "1", "0"], 2, USAGE),
+    (["history", "1", "m", "t", "s"], 0, b"refused root\n"),
+    (["history", "00001", "m", "t", "s"], 2, USAGE),
+    (["history", "1001", "m", "t", "s"], 2, USAGE),
     ([], 2, USAGE),
     (["layout", "m"], 2, USAGE),
     (["layout", "m", "t", "t"], 2, USAGE),

@@ -45,6 +45,22 @@ class SecondEngine(unittest.TestCase):
         lines = b"box 1 math 0 0 8192 14400 4800 10880 0\nbox 2 mn 0 0 8192 14400 4800 10880 0\nglyph 0 0 16384 one\n"
         self.assertEqual(run("layout", "m", "t", m=SMALL, t=ONE), (0, lines))
 
+    def test_undo_and_redo(self):
+        undo, redo, show = (b'{"op":"%s"}\n' % op for op in (b"undo", b"redo", b"show"))
+        insert = b'{"op":"insert","node":1,"index":0,"element":{"name":"mn","text":"1"}}\n'
+
+        def replies(depth, *lines):
+            return run("history", depth, "m", "t", "s", m=SMALL, t=ONE, s=b"".join(lines))[1]
+
+        self.assertRegex(replies("5", insert, undo, redo, show), b"(?s)^ok\nok\nok\nshown\n.*\nbox 3 mn ")
+        self.assertRegex(replies("5", insert, undo, undo, insert, redo, show), b"(?s)^ok\nok\nrefused nothing\nok\nrefused nothing\nshown\n.*\nbox 4 mn ")
+        edits = [b'{"op":"text","node":2,"text":"%s"}\n' % (b"1" * count) for count in (2, 3)]
+        self.assertEqual(replies("1", *edits, undo, undo), b"ok\nok\nok\nrefused nothing\n")
+        self.assertEqual(replies("1", *edits, undo, show), b"ok\nok\nok\n" + run("edit", "m", "t", "s", m=SMALL, t=ONE, s=edits[0] + show)[1][3:])
+        self.assertEqual(run("edit", "m", "t", "s", m=SMALL, t=ONE, s=undo), (0, b"refused line\n"))
+        for depth in ("0", "1001", "00001", "-1"):
+            self.assertEqual(run("history", depth, "m", "t", "s", m=SMALL, t=ONE, s=b"")[0], 2)
+
     def test_every_sample_is_laid_out_with_its_own_font(self):
         font = read_metrics(FONT)
         for path in sorted(SAMPLES.glob("*.json")):
