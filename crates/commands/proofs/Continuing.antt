@@ -3,14 +3,14 @@ use Rattle.std.proofs.Common.{◌≡◌, ◌⊎◌, inl, inr, ◌∙◌, ap, sym
 use Rattle.std.proofs.Math.Seq.{take-append-add, take-append_seam}
 use Rattle.std.proofs.lemmas.List.{take-append-le}
 use Rattle.std.specs.Prelude.{Ok, Err}
-use Rattle.std.specs.List.{list_all, take_while}
+use Rattle.std.specs.List.{concat, list_all, take_while}
 use Rattle.std.proofs.lemmas.List.Sums.{take_while-cons}
 use Rattle.std.proofs.lemmas.Bool.Decides.{nat_tests}
 use Rattle.std.specs.Io.KnownBytes.{Appends}
 use Rattle.doc_io.specs.Causes.{InputsTold, Rose, SinkTold}
 use Rattle.doc_io.proofs.Known.{appends_both, kept_of_nothing}
 use Rattle.edit_session.specs.Session.{SessionValue}
-use Rattle.commands.specs.Replies.{told_of, after_line, replies}
+use Rattle.commands.specs.Replies.{told_of, after_line, each_reply, replies}
 use Rattle.doc_io.specs.LineReader.{is_short}
 use Rattle.commands.specs.Script.{within, is_within}
 use Rattle.commands.specs.Parts.{Tells, status_of_stop}
@@ -79,22 +79,25 @@ nothing_passes most = let few : nat_le 0 most ≡ true = grind (arith, nat_tests
 
 pub more_replies : (most : ℕ) (session : SessionValue) (line : List ℕ) (lines : List (List ℕ)) → is_short line ≡ true
     → replies_within (suc most) session (line ∷ lines)
-    ≡ record { bytes = told_of session line ++ (replies_within most (after_line session line) lines).bytes; whole = (replies_within most (after_line session line) lines).whole }
+    ≡ record { bytes = told_of session line ++ (replies_within most (after_line session line) lines).bytes; parts = told_of session line ∷ (replies_within most (after_line session line) lines).parts; whole = (replies_within most (after_line session line) lines).whole }
 more_replies most session line lines short = λ i. record {
   bytes = replies session (within_more most line lines short i);
+  parts = each_reply session (within_more most line lines short i);
   whole = is_within_more most line lines short i;
 }
 
 pub stopped_replies : (most : ℕ) (session : SessionValue) (line : List ℕ) (lines : List (List ℕ)) → (most ≡ 0) ⊎ (is_short line ≡ false)
-    → replies_within most session (line ∷ lines) ≡ record { bytes = []; whole = false }
+    → replies_within most session (line ∷ lines) ≡ record { bytes = []; parts = []; whole = false }
 stopped_replies most session line lines h = λ i. record {
   bytes = replies session (within_none most line lines h i);
+  parts = each_reply session (within_none most line lines h i);
   whole = is_within_none most line lines h i;
 }
 
-pub no_replies : (most : ℕ) (session : SessionValue) → replies_within most session [] ≡ record { bytes = []; whole = true }
+pub no_replies : (most : ℕ) (session : SessionValue) → replies_within most session [] ≡ record { bytes = []; parts = []; whole = true }
 no_replies most session = λ i. record {
   bytes = replies session (nothing_within most i);
+  parts = each_reply session (nothing_within most i);
   whole = nothing_passes most i;
 }
 
@@ -104,6 +107,10 @@ no_replies most session = λ i. record {
 pub record Continues (wanted left : Text) (first now : SinkTold) : Type 0 where
   pub sent : List ℕ
   pub together : sent ++ left.bytes ≡ wanted.bytes
+  -- in whole parts
+  pub parts : List (List ℕ)
+  pub split : sent ≡ concat parts
+  pub parts_together : parts ++ left.parts ≡ wanted.parts
   pub whole : left.whole ≡ wanted.whole
   pub appended : Appends first.written now.written sent
   pub later : first.faults ≤ now.faults
@@ -119,12 +126,19 @@ pub front_so_far : (wanted left : Text) (first now : SinkTold) → Continues wan
 front_so_far wanted left first now c =
     (length c.sent, subst (Appends first.written now.written) (sym (take-append_seam c.sent left.bytes) ∙ ap (take (length c.sent)) c.together) c.appended)
 
+-- of whole parts
+between_so_far : (wanted left : Text) (first now : SinkTold) → Continues wanted left first now
+    → (n : ℕ) × Appends first.written now.written (concat (take n wanted.parts))
+between_so_far wanted left first now c =
+    let fronts : c.parts ≡ take (length c.parts) wanted.parts = sym (take-append_seam c.parts left.parts) ∙ ap (take (length c.parts)) c.parts_together in
+    (length c.parts, subst (Appends first.written now.written) (c.split ∙ ap concat fronts) c.appended)
+
 no_write_fault : (whole : Bool) → ¬ (status_of_end whole ≡ WriteFault)
 no_write_fault true e = cc
 no_write_fault false e = cc
 
 -- nothing more is to be written
-pub closes : (wanted left : Text) (first now : SinkTold) (whole : Bool) → left ≡ record { bytes = []; whole = whole }
+pub closes : (wanted left : Text) (first now : SinkTold) (whole : Bool) → left ≡ record { bytes = []; parts = []; whole = whole }
     → Continues wanted left first now → Delivers wanted.bytes (status_of_end wanted.whole) first now (status_of_end whole)
 closes wanted left first now whole is c =
     let all : c.sent ≡ wanted.bytes = sym (append-nil c.sent) ∙ ap (λ (o : Text). c.sent ++ o.bytes) (sym is) ∙ c.together in
@@ -140,10 +154,11 @@ closes wanted left first now whole is c =
 
 -- a read failed before the next line
 pub breaks_at_read : (wanted left : Text) (before after : InputsTold) (first now : SinkTold) → Continues wanted left first now
-    → Rose before.faults after.faults → Breaks wanted.bytes before after first now ReadFault
+    → Rose before.faults after.faults → Breaks wanted.bytes wanted.parts before after first now ReadFault
 breaks_at_read wanted left before after first now c rose = record {
   cause = inr (refl, rose);
   front = front_so_far wanted left first now c;
+  between = between_so_far wanted left first now c;
   later = c.later;
 }
 
@@ -168,7 +183,7 @@ both_empty (x ∷ xs) ys h = absurd cc
 pub stops : (wanted left : Text) (before after : InputsTold) (first now later : SinkTold) (text others : List ℕ) (stop : Stop)
     → left.bytes ≡ text ++ others → Continues wanted left first now → Tells text now later (Err stop)
     → Delivers wanted.bytes (status_of_end wanted.whole) first later (status_of_stop stop)
-    ⊎ Breaks wanted.bytes before after first later (status_of_stop stop)
+    ⊎ Breaks wanted.bytes wanted.parts before after first later (status_of_stop stop)
 stops wanted left before after first now later text others stop.WriteFault is c told = inl (record {
   whole = inl refl;
   front = front_more wanted left first now later text others stop.WriteFault is c told;
@@ -182,6 +197,8 @@ stops wanted left before after first now later text others stop.WriteFault is c 
 stops wanted left before after first now later text others stop.Memory is c told = inr (record {
   cause = inl refl;
   front = front_more wanted left first now later text others stop.Memory is c told;
+  between = subst (λ (o : SinkTold). (n : ℕ) × Appends first.written o.written (concat (take n wanted.parts))) (sym (told.unmade refl))
+      (between_so_far wanted left first now c);
   later = omega (arith, c.later, told.later);
 })
 stops wanted left before after first now later text others stop.ReadFault is c told =

@@ -2,12 +2,13 @@
 use Rattle.std.proofs.Common.{◌≡◌, ◌⊎◌, inl, inr, ℕ, zero, suc, ◌≤◌, List, ◌∷◌, take, refl, ap, sym, ◌∙◌, subst, Option, Some, None, IfSome, arith}
 use Rattle.std.specs.Prelude.{Bool, true, false, [], Result, Ok, Err, IsErrOf, IsSomeAnd, IsNone}
 use Rattle.std.specs.Option.{option_map}
+use Rattle.std.specs.List.{concat}
 use Rattle.std.specs.Io.KnownBytes.{Appends, IsAtEnd, Keeps}
 use Rattle.doc_io.specs.Causes.{Files, InputsTold, Rose, SinkTold}
 use Rattle.doc_io.proofs.Known.{appends_kept, kept_of_nothing}
 use Rattle.commands.specs.Command.{Asked, usage_line}
 use Rattle.commands.specs.Refusals.{status_of}
-use Rattle.commands.specs.Answer.{answer, Output, Text, output_of, output, status_of_end}
+use Rattle.commands.specs.Answer.{answer, Output, Text, output_of, output, parts_of, status_of_end}
 use Rattle.commands.specs.Ends.{LacksFile, HasReadCause, IsCut, IsCutShort, IsDelivered, IsJobInParts, Answers, Delivers, Breaks, AnsweredJob, Ends}
 use Rattle.commands.specs.declared.status.Status.{Status}
 use Rattle.commands.specs.declared.status.Status.TheVariants as status
@@ -83,12 +84,12 @@ abbrev DeliversAnswer : Result Text Refusal → SinkTold → SinkTold → Status
 DeliversAnswer result old new s = Delivers (output_of result).bytes (output_of result).status old new s
 
 abbrev BreaksOff : Result Text Refusal → InputsTold → InputsTold → SinkTold → SinkTold → Status → Type 0
-BreaksOff result before after old new s = Breaks (output_of result).bytes before after old new s
+BreaksOff result before after old new s = Breaks (output_of result).bytes (parts_of result) before after old new s
 
 -- the status of what was cut short on the way
-cut_status : (text : List ℕ) (before after : InputsTold) (old new : SinkTold) (s : Status) → Breaks text before after old new s
+cut_status : (text : List ℕ) (parts : List (List ℕ)) (before after : InputsTold) (old new : SinkTold) (s : Status) → Breaks text parts before after old new s
     → (s ≡ status.ReadFault) ⊎ (s ≡ status.Memory)
-cut_status text before after old new s b = elim b.cause [ inl memory ↦ inr memory | inr read ↦ inl read.0 ]
+cut_status text parts before after old new s b = elim b.cause [ inl memory ↦ inr memory | inr read ↦ inl read.0 ]
 
 cut_not : (wanted s : Status) → ¬ (status.ReadFault ≡ wanted) → ¬ (status.Memory ≡ wanted) → (s ≡ status.ReadFault) ⊎ (s ≡ status.Memory)
     → s ≡ wanted → ⊥
@@ -113,15 +114,15 @@ no_front (suc n) [] none = refl
 no_front (suc n) (b ∷ bs) none = absurd cc
 
 -- of no text nothing was written
-nothing_of : (text : List ℕ) (before after : InputsTold) (old new : SinkTold) (s : Status) → text ≡ [] → Breaks text before after old new s
+nothing_of : (text : List ℕ) (parts : List (List ℕ)) (before after : InputsTold) (old new : SinkTold) (s : Status) → text ≡ [] → Breaks text parts before after old new s
     → Keeps old.written new.written
-nothing_of text before after old new s none out =
+nothing_of text parts before after old new s none out =
     kept_of_nothing old.written new.written (subst (Appends old.written new.written) (no_front out.front.0 text none) out.front.1)
 
 cut_breaks : (result : Result Text Refusal) (before after : InputsTold) (old new : SinkTold) (s : Status) → IsCut result
     → BreaksOff result before after old new s → Keeps old.written new.written
-cut_breaks result before after old new s (inl fault) out = nothing_of _ before after old new s (ap (λ r. (output_of r).bytes) fault) out
-cut_breaks result before after old new s (inr memory) out = nothing_of _ before after old new s (ap (λ r. (output_of r).bytes) memory) out
+cut_breaks result before after old new s (inl fault) out = nothing_of _ _ before after old new s (ap (λ r. (output_of r).bytes) fault) out
+cut_breaks result before after old new s (inr memory) out = nothing_of _ _ before after old new s (ap (λ r. (output_of r).bytes) memory) out
 
 told_fault : (result : Result Text Refusal) (old new : SinkTold) (s : Status) → DeliversAnswer result old new s
     → s ≡ status.ReadFault → IsErrOf result ReadFault
@@ -155,7 +156,7 @@ abbrev HasFront : Output → SinkTold → SinkTold → Type 0
 HasFront o old new = (n : ℕ) × Appends old.written new.written (take n o.bytes)
 
 told_output : (parts : Type 0) (result wanted : Result Text Refusal) (before after : InputsTold) (old new : SinkTold) (s : Status)
-    → IsDelivered parts (output_of result) before after old new s → IsCut result ⊎ (result ≡ wanted) → IsOutput (output_of wanted) old new s × HasFront (output_of wanted) old new
+    → IsDelivered parts result before after old new s → IsCut result ⊎ (result ≡ wanted) → IsOutput (output_of wanted) old new s × HasFront (output_of wanted) old new
 told_output parts result wanted before after old new s (inl d) (inl cut) =
     let end = cut_ends result old new s cut d in
     (inl (elim end.0 [ inl r ↦ inl r | inr m ↦ inr (inr m) ]), (0, appends_kept old.written new.written end.1))
@@ -163,10 +164,10 @@ told_output parts result wanted before after old new s (inl d) (inr same) =
     let whole = subst (λ r. DeliversAnswer r old new s) same d in
     (elim whole.whole [ inl w ↦ inl (inr (inl w)) | inr e ↦ inr e ], whole.front)
 told_output parts result wanted before after old new s (inr p) (inl cut) =
-    (inl (cut_short s (cut_status _ before after old new s p.1)), (0, appends_kept old.written new.written (cut_breaks result before after old new s cut p.1)))
+    (inl (cut_short s (cut_status _ _ before after old new s p.1)), (0, appends_kept old.written new.written (cut_breaks result before after old new s cut p.1)))
 told_output parts result wanted before after old new s (inr p) (inr same) =
     let out = subst (λ r. BreaksOff r before after old new s) same p.1 in
-    (inl (cut_short s (cut_status _ before after old new s out)), out.front)
+    (inl (cut_short s (cut_status _ _ before after old new s out)), out.front)
 
 IfSome-first : {X : Type 0} (o : Option X) (P Q : X → Type 0) → IfSome o (λ x. P x × Q x) → IfSome o P
 IfSome-first None P Q h = tt
@@ -186,13 +187,13 @@ no_cause lacks before after files is none still (inr (inr untold)) = let e = sub
 -- the whole ending of a command
 module _ (asked : Asked) (before after : InputsTold) (old new : SinkTold) (s : Status) (result : Result Text Refusal)
     (a : Answers (option_map (answer asked) before.files) (LacksFile (Some asked)) before after result) where
-  whole : IsDelivered (IsJobInParts asked.job) (output_of result) before after old new s
+  whole : IsDelivered (IsJobInParts asked.job) result before after old new s
       → (files : Option Files) → IfSome (option_map (answer asked) files) (λ wanted. IsCut result ⊎ (result ≡ wanted))
       → IfSome files (λ f. IsOutput (output (Some asked) f) old new s × HasFront (output (Some asked) f) old new)
   whole d None h = tt
   whole d (Some f) h = told_output (IsJobInParts asked.job) result (answer asked f) before after old new s d h
 
-  complete : IsDelivered (IsJobInParts asked.job) (output_of result) before after old new s → (files : Option Files) → before.files ≡ files
+  complete : IsDelivered (IsJobInParts asked.job) result before after old new s → (files : Option Files) → before.files ≡ files
       → IfSome (option_map (answer asked) files) (λ wanted. IsCut result ⊎ (result ≡ wanted))
       → IfSome files (λ f. ¬ LacksFile (Some asked) f → ¬ Rose before.faults after.faults → ¬ Rose old.faults new.faults
       → (s ≡ (output (Some asked) f).status) ⊎ (s ≡ status.Memory))
@@ -209,38 +210,54 @@ module _ (asked : Asked) (before after : InputsTold) (old new : SinkTold) (s : S
     ]
   ]
 
-  read_fault : IsDelivered (IsJobInParts asked.job) (output_of result) before after old new s → s ≡ status.ReadFault
+  read_fault : IsDelivered (IsJobInParts asked.job) result before after old new s → s ≡ status.ReadFault
       → HasReadCause (LacksFile (Some asked)) before after
   read_fault (inl d) is = a.fault (told_fault result old new s d is)
   read_fault (inr p) is = elim p.1.cause [ inl memory ↦ absurd cc | inr read ↦ inl read.1 ]
 
-  unread_cut : IsDelivered (IsJobInParts asked.job) (output_of result) before after old new s → s ≡ status.ReadFault → ¬ IsJobInParts asked.job
+  unread_cut : IsDelivered (IsJobInParts asked.job) result before after old new s → s ≡ status.ReadFault → ¬ IsJobInParts asked.job
       → Keeps old.written new.written
   unread_cut (inl d) is not = (cut_ends result old new s (inl (told_fault result old new s d is)) d).1
   unread_cut (inr p) is not = absurd (not p.0)
 
-  memory_cut : IsDelivered (IsJobInParts asked.job) (output_of result) before after old new s → s ≡ status.Memory → ¬ IsJobInParts asked.job → Keeps old.written new.written
+  memory_cut : IsDelivered (IsJobInParts asked.job) result before after old new s → s ≡ status.Memory → ¬ IsJobInParts asked.job → Keeps old.written new.written
   memory_cut (inl d) is not = (cut_ends result old new s (inr (told_memory result old new s d is)) d).1
   memory_cut (inr p) is not = absurd (not p.0)
 
-  lacking : IsDelivered (IsJobInParts asked.job) (output_of result) before after old new s → IsSomeAnd before.files (LacksFile (Some asked))
+  -- nothing was written, or whole replies
+  between : IsDelivered (IsJobInParts asked.job) result before after old new s
+      → (files : Option Files) → IfSome (option_map (answer asked) files) (λ wanted. IsCut result ⊎ (result ≡ wanted))
+      → (s ≡ status.ReadFault) ⊎ (s ≡ status.Memory)
+      → IfSome files (λ f. (n : ℕ) × Appends old.written new.written (concat (take n (parts_of (answer asked f)))))
+  between d None h cut = tt
+  between (inl d) (Some f) h cut =
+      let kept : Keeps old.written new.written = elim cut [
+        | inl is ↦ (cut_ends result old new s (inl (told_fault result old new s d is)) d).1
+        | inr is ↦ (cut_ends result old new s (inr (told_memory result old new s d is)) d).1
+      ] in
+      (0, appends_kept old.written new.written kept)
+  between (inr p) (Some f) (inl none) cut =
+      (0, appends_kept old.written new.written (cut_breaks result before after old new s none p.1))
+  between (inr p) (Some f) (inr same) cut = (subst (λ r. BreaksOff r before after old new s) same p.1).between
+
+  lacking : IsDelivered (IsJobInParts asked.job) result before after old new s → IsSomeAnd before.files (LacksFile (Some asked))
       → ((s ≡ status.ReadFault) ⊎ (s ≡ status.Memory)) × Keeps old.written new.written
   lacking (inl d) lack = cut_ends result old new s (a.lacking lack) d
-  lacking (inr p) lack = (cut_status _ before after old new s p.1, cut_breaks result before after old new s (a.lacking lack) p.1)
+  lacking (inr p) lack = (cut_status _ _ before after old new s p.1, cut_breaks result before after old new s (a.lacking lack) p.1)
 
-  write_fault : IsDelivered (IsJobInParts asked.job) (output_of result) before after old new s → s ≡ status.WriteFault → Rose old.faults new.faults
+  write_fault : IsDelivered (IsJobInParts asked.job) result before after old new s → s ≡ status.WriteFault → Rose old.faults new.faults
   write_fault (inl d) is = d.fault is
-  write_fault (inr p) is = absurd (cut_not status.WriteFault s (λ e. cc) (λ e. cc) (cut_status _ before after old new s p.1) is)
+  write_fault (inr p) is = absurd (cut_not status.WriteFault s (λ e. cc) (λ e. cc) (cut_status _ _ before after old new s p.1) is)
 
-  usage : IsDelivered (IsJobInParts asked.job) (output_of result) before after old new s → s ≡ status.Usage → ⊥
+  usage : IsDelivered (IsJobInParts asked.job) result before after old new s → s ≡ status.Usage → ⊥
   usage (inl d) is = never_usage result old new s d is
-  usage (inr p) is = cut_not status.Usage s (λ e. cc) (λ e. cc) (cut_status _ before after old new s p.1) is
+  usage (inr p) is = cut_not status.Usage s (λ e. cc) (λ e. cc) (cut_status _ _ before after old new s p.1) is
 
-  later : IsDelivered (IsJobInParts asked.job) (output_of result) before after old new s → old.faults ≤ new.faults
+  later : IsDelivered (IsJobInParts asked.job) result before after old new s → old.faults ≤ new.faults
   later (inl d) = d.later
   later (inr p) = p.1.later
 
-  pub ends : IsDelivered (IsJobInParts asked.job) (output_of result) before after old new s
+  pub ends : IsDelivered (IsJobInParts asked.job) result before after old new s
       → (s ≡ status.Done → IsJobInParts asked.job → IsAtEnd after.rest) → Ends (Some asked) before after old new s
   ends d at_end = record {
     outcome = IfSome-first _ _ _ (whole d before.files a.answer);
@@ -250,6 +267,7 @@ module _ (asked : Asked) (before after : InputsTold) (old new : SinkTold) (s : S
     lacking = lacking d;
     unread_cut = unread_cut d;
     memory_cut = memory_cut d;
+    between = between d before.files a.answer;
     complete = complete d before.files refl a.answer;
     read_to_end = at_end;
     usage = λ is. absurd (usage d is);
@@ -292,6 +310,7 @@ told_usage seen old new s d = record {
   lacking = λ lack. absurd (lacks_none seen.files lack);
   unread_cut = λ is not. absurd (usage_or_fault old new s d (inl is));
   memory_cut = λ is not. absurd (usage_or_fault old new s d (inr is));
+  between = λ cut. absurd (usage_or_fault old new s d cut);
   complete = IfSome-each seen.files _ (λ f there reads writes. elim d.whole [ inl w ↦ absurd (writes (d.fault w)) | inr e ↦ inl e.0 ]);
   usage = λ is. refl;
   no_command = λ none. elim d.whole [ inl w ↦ inr w | inr e ↦ inl e ];

@@ -3,7 +3,7 @@ use Rattle.std.proofs.Common.{◌≡◌, ◌⊎◌, inl, inr, ℕ, List, [], ref
 use Rattle.std.specs.Prelude.{Result, Ok, Err, IsErrOf, IsNone, IsSomeAnd}
 use Rattle.doc_io.specs.Causes.{Files, InputsTold, Rose, Selects, SinkTold}
 use Rattle.doc_io.specs.LineReader.{ReaderValue}
-use Rattle.commands.specs.Answer.{Output, Text, output_of_text, status_of_end}
+use Rattle.commands.specs.Answer.{Text, status_of_end}
 use Rattle.commands.specs.Command.{Edits}
 use Rattle.commands.specs.Ends.{Breaks, Delivers, IsDelivered, IsInParts}
 use Rattle.commands.specs.Parts.{OpensScript, SelectsScript}
@@ -13,27 +13,29 @@ use Rattle.commands.specs.declared.status.Status.{Status}
 
 -- the replies to a script may be cut short, also where a read failed since
 pub in_parts : (name : List ℕ) (text : Text) (before mid after : InputsTold) (old new : SinkTold) (status : Status) → before.faults ≤ mid.faults
-    → Delivers text.bytes (status_of_end text.whole) old new status ⊎ Breaks text.bytes mid after old new status
-    → IsDelivered (IsInParts (Edits name)) (output_of_text text) before after old new status
+    → Delivers text.bytes (status_of_end text.whole) old new status ⊎ Breaks text.bytes text.parts mid after old new status
+    → IsDelivered (IsInParts (Edits name)) (Ok text) before after old new status
 in_parts name text before mid after old new status f (inl whole) = inl whole
 in_parts name text before mid after old new status f (inr out) = inr (
   tt,
   record {
     cause = elim out.cause [ inl memory ↦ inl memory | inr read ↦ inr (read.0, omega (arith, read.1, f)) ];
     front = out.front;
+    between = out.between;
     later = out.later;
   },
 )
 
 -- the same, where a part before it had read
-pub since : (parts : Type 0) (output : Output) (before mid after : InputsTold) (old new : SinkTold) (status : Status) → before.faults ≤ mid.faults
-    → IsDelivered parts output mid after old new status → IsDelivered parts output before after old new status
-since parts output before mid after old new status f (inl d) = inl d
-since parts output before mid after old new status f (inr p) = inr (
+pub since : (parts : Type 0) (result : Result Text Refusal) (before mid after : InputsTold) (old new : SinkTold) (status : Status) → before.faults ≤ mid.faults
+    → IsDelivered parts result mid after old new status → IsDelivered parts result before after old new status
+since parts result before mid after old new status f (inl d) = inl d
+since parts result before mid after old new status f (inr p) = inr (
   p.0,
   record {
     cause = elim p.1.cause [ inl memory ↦ inl memory | inr read ↦ inr (read.0, omega (arith, read.1, f)) ];
     front = p.1.front;
+    between = p.1.between;
     later = p.1.later;
   },
 )

@@ -1,6 +1,7 @@
 -- How the lines that a reader gives are answered, where what is left is told and where it isn't.
 use Rattle.std.proofs.Common.{◌≡◌, ◌⊎◌, inl, inr, ◌∙◌, ap, sym, refl, subst, ℕ, ◌+◌, ◌-◌, zero, suc, ◌<◌, ◌≤◌, Bool, true, false, List, [], ◌∷◌, ◌++◌, length, take, append_assoc, append-nil, add-one, arith, Option, Some, None, IfSome}
 use Rattle.std.specs.Prelude.{Result, Ok, Err, IsErrOf, IsSomeAnd}
+use Rattle.std.specs.List.{concat}
 use Rattle.std.specs.Option.{option_map}
 use Rattle.std.specs.Io.KnownBytes.{Appends, IsAtEnd}
 use Rattle.doc_io.specs.Causes.{InputsTold, Rose, SinkTold}
@@ -21,32 +22,42 @@ use Rattle.commands.specs.declared.status.Status.{Status}
 use Rattle.commands.specs.declared.status.Status.TheVariants as status
 use Rattle.commands.proofs.Continuing.{Continues, appends_nothing, breaks_at_read, closes, more_replies, no_replies, stopped_replies, stops}
 
+-- one part more behind others
+concat_more : (parts : List (List ℕ)) (part : List ℕ) → concat (parts ++ part ∷ []) ≡ concat parts ++ part
+concat_more [] part = append-nil part
+concat_more (first ∷ parts) part = ap (λ bs. first ++ bs) (concat_more parts part) ∙ sym (append_assoc first (concat parts) part)
+
 -- what was written and the replies to what is left are those that are wanted, where both are told
 pub record Sends (wanted left : Option Text) (first now : SinkTold) : Type 0 where
   pub sent : List ℕ
   pub appended : Appends first.written now.written sent
   pub later : first.faults ≤ now.faults
-  pub together : IfSome wanted (λ w. IsSomeAnd left (λ l. (sent ++ l.bytes ≡ w.bytes) × (l.whole ≡ w.whole)))
+  -- in whole parts
+  pub parts : List (List ℕ)
+  pub split : sent ≡ concat parts
+  pub together : IfSome wanted (λ w. IsSomeAnd left (λ l. (sent ++ l.bytes ≡ w.bytes) × (l.whole ≡ w.whole) × (parts ++ l.parts ≡ w.parts)))
 
 pub nothing_sent : (wanted : Option Text) (now : SinkTold) → Sends wanted wanted now now
 nothing_sent wanted now = record {
   sent = [];
   appended = appends_nothing now.written;
   later = omega arith;
+  parts = [];
+  split = refl;
   together = by wanted;
 }
   where
-    by : (o : Option Text) → IfSome o (λ w. IsSomeAnd o (λ l. ([] ++ l.bytes ≡ w.bytes) × (l.whole ≡ w.whole)))
+    by : (o : Option Text) → IfSome o (λ w. IsSomeAnd o (λ l. ([] ++ l.bytes ≡ w.bytes) × (l.whole ≡ w.whole) × ([] ++ l.parts ≡ w.parts)))
     by None = tt
-    by (Some w) = (refl, refl)
+    by (Some w) = (refl, refl, refl)
 
 -- the whole text, where what is left is this one or isn't told
 pub whole_of : (wanted left : Option Text) (l : Text) (first now : SinkTold) → IfSome left (λ o. o ≡ l) → Sends wanted left first now
     → (w : Text) × IfSome wanted (λ o. w ≡ o) × Continues w l first now
 whole_of None left l first now is s = (
-  record { bytes = s.sent ++ l.bytes; whole = l.whole },
+  record { bytes = s.sent ++ l.bytes; parts = s.parts ++ l.parts; whole = l.whole },
   tt,
-  record { sent = s.sent; together = refl; whole = refl; appended = s.appended; later = s.later },
+  record { sent = s.sent; together = refl; parts = s.parts; split = s.split; parts_together = refl; whole = refl; appended = s.appended; later = s.later },
 )
 whole_of (Some w) None l first now is s = absurd s.together
 whole_of (Some w) (Some o) l first now is s = (
@@ -55,6 +66,9 @@ whole_of (Some w) (Some o) l first now is s = (
   record {
     sent = s.sent;
     together = ap (λ (o : Text). s.sent ++ o.bytes) (sym is) ∙ s.together.0;
+    parts = s.parts;
+    split = s.split;
+    parts_together = ap (λ (o : Text). s.parts ++ o.parts) (sym is) ∙ s.together.2;
     whole = ap (λ (o : Text). o.whole) (sym is) ∙ s.together.1;
     appended = s.appended;
     later = s.later;
@@ -63,12 +77,12 @@ whole_of (Some w) (Some o) l first now is s = (
 
 -- what is left, or no text where it isn't told
 pub some_text : (left : Option Text) → (l : Text) × IfSome left (λ o. o ≡ l)
-some_text None = (record { bytes = []; whole = true }, tt)
+some_text None = (record { bytes = []; parts = []; whole = true }, tt)
 some_text (Some l) = (l, refl)
 
 -- a reply comes before the replies to what is left behind it
 abbrev ComesBefore : List ℕ → Option Text → Option Text → Type 0
-ComesBefore reply left left' = IfSome left (λ l. IsSomeAnd left' (λ l'. (l.bytes ≡ reply ++ l'.bytes) × (l.whole ≡ l'.whole)))
+ComesBefore reply left left' = IfSome left (λ l. IsSomeAnd left' (λ l'. (l.bytes ≡ reply ++ l'.bytes) × (l.whole ≡ l'.whole) × (l.parts ≡ reply ∷ l'.parts)))
 
 sends_more : (wanted left left' : Option Text) (first now later : SinkTold) (reply : List ℕ) → ComesBefore reply left left'
     → Tells reply now later (Ok tt) → Sends wanted left first now → Sends wanted left' first later
@@ -76,23 +90,29 @@ sends_more wanted left left' first now later reply before told s = record {
   sent = s.sent ++ reply;
   appended = appends_both first.written now.written later.written s.sent reply s.appended told.whole;
   later = omega (arith, s.later, told.later);
+  parts = s.parts ++ reply ∷ [];
+  split = ap (λ bs. bs ++ reply) s.split ∙ sym (concat_more s.parts reply);
   together = by wanted left left' s.together before;
 }
   where
     by : (wanted left left' : Option Text)
-        → IfSome wanted (λ w. IsSomeAnd left (λ l. (s.sent ++ l.bytes ≡ w.bytes) × (l.whole ≡ w.whole)))
+        → IfSome wanted (λ w. IsSomeAnd left (λ l. (s.sent ++ l.bytes ≡ w.bytes) × (l.whole ≡ w.whole) × (s.parts ++ l.parts ≡ w.parts)))
         → ComesBefore reply left left'
-        → IfSome wanted (λ w. IsSomeAnd left' (λ l. ((s.sent ++ reply) ++ l.bytes ≡ w.bytes) × (l.whole ≡ w.whole)))
+        → IfSome wanted (λ w. IsSomeAnd left' (λ l. ((s.sent ++ reply) ++ l.bytes ≡ w.bytes) × (l.whole ≡ w.whole) × ((s.parts ++ reply ∷ []) ++ l.parts ≡ w.parts)))
     by None left left' t b = tt
     by (Some w) None left' t b = absurd t
     by (Some w) (Some l) None t b = absurd b
     by (Some w) (Some l) (Some m) t b =
-        (append_assoc s.sent reply m.bytes ∙ ap (λ bs. s.sent ++ bs) (sym b.0) ∙ t.0, sym b.1 ∙ t.1)
+        (
+          append_assoc s.sent reply m.bytes ∙ ap (λ bs. s.sent ++ bs) (sym b.0) ∙ t.0,
+          sym b.1 ∙ t.1,
+          append_assoc s.parts (reply ∷ []) m.parts ∙ ap (λ ps. s.parts ++ ps) (sym b.2) ∙ t.2,
+        )
 
 -- what is left, where a reply comes first
 reply_left : (left left' : Option Text) (reply : List ℕ) → ComesBefore reply left left'
     → (l : Text) × IfSome left (λ o. o ≡ l) × (others : List ℕ) × (l.bytes ≡ reply ++ others)
-reply_left None left' reply b = (record { bytes = reply; whole = true }, tt, [], sym (append-nil reply))
+reply_left None left' reply b = (record { bytes = reply; parts = reply ∷ []; whole = true }, tt, [], sym (append-nil reply))
 reply_left (Some l) None reply b = absurd b
 reply_left (Some l) (Some m) reply b = (l, refl, m.bytes, b.0)
 
@@ -118,23 +138,25 @@ module _ (session : SessionValue) (reader next : ReaderValue) (now after : Input
           let same : replies_within (most_lines - (reader.given + 1)) (after_line session next.line) lines ≡ replies_within (most_lines - next.given) session' lines =
           λ i. replies_within (most_lines - sym g.given i) (sym is i) lines in
           let more : replies_within (most_lines - reader.given) session (lines_of bytes)
-          ≡ record { bytes = told_of session next.line ++ (replies_within (most_lines - (reader.given + 1)) (after_line session next.line) lines).bytes; whole = (replies_within (most_lines - (reader.given + 1)) (after_line session next.line) lines).whole } =
+          ≡ record { bytes = told_of session next.line ++ (replies_within (most_lines - (reader.given + 1)) (after_line session next.line) lines).bytes; parts = told_of session next.line ∷ (replies_within (most_lines - (reader.given + 1)) (after_line session next.line) lines).parts; whole = (replies_within (most_lines - (reader.given + 1)) (after_line session next.line) lines).whole } =
           (λ i. replies_within (room i) session (given.0 i)) ∙ more_replies (most_lines - (reader.given + 1)) session next.line lines short in
           subst (λ (o : Option (List ℕ)). IsSomeAnd (option_map (λ bytes. replies_within (most_lines - next.given) session' (lines_of bytes)) o)
           (λ l'. ((replies_within (most_lines - reader.given) session (lines_of bytes)).bytes ≡ told_of session next.line ++ l'.bytes)
-          × ((replies_within (most_lines - reader.given) session (lines_of bytes)).whole ≡ l'.whole)))
+          × ((replies_within (most_lines - reader.given) session (lines_of bytes)).whole ≡ l'.whole)
+          × ((replies_within (most_lines - reader.given) session (lines_of bytes)).parts ≡ told_of session next.line ∷ l'.parts)))
           (sym given.1) (
             ap (λ (o : Text). o.bytes) more ∙ ap (λ (o : Text). told_of session next.line ++ o.bytes) same,
             ap (λ (o : Text). o.whole) more ∙ ap (λ (o : Text). o.whole) same,
+            ap (λ (o : Text). o.parts) more ∙ ap (λ (o : Text). told_of session next.line ∷ o.parts) same,
           )
 
   -- the end
   pub end_left : GivesLine reader next now after (Ok End)
-      → IfSome (replies_left session reader now) (λ o. o ≡ record { bytes = []; whole = true })
+      → IfSome (replies_left session reader now) (λ o. o ≡ record { bytes = []; parts = []; whole = true })
   end_left g = by (left_of reader now) refl
     where
       by : (left : Option (List ℕ)) → left_of reader now ≡ left
-          → IfSome (option_map (λ bytes. replies_within (most_lines - reader.given) session (lines_of bytes)) left) (λ o. o ≡ record { bytes = []; whole = true })
+          → IfSome (option_map (λ bytes. replies_within (most_lines - reader.given) session (lines_of bytes)) left) (λ o. o ≡ record { bytes = []; parts = []; whole = true })
       by None e = tt
       by (Some bytes) e =
           let none : bytes ≡ [] = given_end (record { reader = reader; inputs = now }) (record { reader = next; inputs = after }) bytes e g in
@@ -144,11 +166,11 @@ module _ (session : SessionValue) (reader next : ReaderValue) (now after : Input
 
   -- a limit
   pub limit_left : (e : LineRefusal) → ¬ (e ≡ reading.ReadFault) → GivesLine reader next now after (Err e)
-      → IfSome (replies_left session reader now) (λ o. o ≡ record { bytes = []; whole = false })
+      → IfSome (replies_left session reader now) (λ o. o ≡ record { bytes = []; parts = []; whole = false })
   limit_left refusal own g = by (left_of reader now) refl
     where
       by : (left : Option (List ℕ)) → left_of reader now ≡ left
-          → IfSome (option_map (λ bytes. replies_within (most_lines - reader.given) session (lines_of bytes)) left) (λ o. o ≡ record { bytes = []; whole = false })
+          → IfSome (option_map (λ bytes. replies_within (most_lines - reader.given) session (lines_of bytes)) left) (λ o. o ≡ record { bytes = []; parts = []; whole = false })
       by None e = tt
       by (Some bytes) e =
           let why = refused_line (record { reader = reader; inputs = now }) (record { reader = next; inputs = after }) bytes refusal e own g in
@@ -194,15 +216,15 @@ module _ (session : SessionValue) (reader : ReaderValue) (start : InputsTold) (f
 
     -- no line is left, or the next one passes a limit
     closed : (r : Result Line LineRefusal) (whole : Bool) → GivesLine reader' next now after r
-        → IfSome (replies_left session' reader' now) (λ o. o ≡ record { bytes = []; whole = whole })
+        → IfSome (replies_left session' reader' now) (λ o. o ≡ record { bytes = []; parts = []; whole = whole })
         → (status_of_end whole ≡ status.Done → IsAtEnd after.rest)
         → AnswersLines session reader start after first out (status_of_end whole)
     closed r whole g left end =
-        let w = whole_of Wanted (replies_left session' reader' now) (record { bytes = []; whole = whole }) first out left s.sends in
+        let w = whole_of Wanted (replies_left session' reader' now) (record { bytes = []; parts = []; whole = whole }) first out left s.sends in
         record {
           text = w.0;
           wanted = w.1;
-          delivers = inl (closes w.0 (record { bytes = []; whole = whole }) first out whole refl w.2);
+          delivers = inl (closes w.0 (record { bytes = []; parts = []; whole = whole }) first out whole refl w.2);
           read_to_end = end;
           files = g.files ∙ s.files;
           faults = omega (arith, g.faults, s.faults);

@@ -1,6 +1,7 @@
 -- What holds of the replies to all scripts.
 use Rattle.std.proofs.Common.{◌≡◌, ◌∙◌, ap, sym, refl, ℕ, Bool, true, false, List, [], ◌∷◌, ◌++◌, append_assoc, Option, Some, None}
-use Rattle.std.specs.Prelude.{if◌then◌else◌}
+use Rattle.std.specs.Prelude.{◌↔◌, ◌&&◌, if◌then◌else◌}
+use Rattle.std.specs.Option.{is_none}
 use Rattle.math_tree.specs.Forms.{is_white_space}
 use Rattle.tree_edits.specs.Commands.{command_in}
 use Rattle.tree_edits.specs.Edits.{refusal_of}
@@ -8,8 +9,9 @@ use Rattle.tree_edits.specs.declared.command.Command.{Command}
 use Rattle.tree_edits.specs.declared.command.Command.TheVariants.{Show, Change}
 use Rattle.tree_edits.specs.declared.edit.Edit.{Edit}
 use Rattle.tree_edits.specs.declared.edit.EditRefusal.{EditRefusal}
-use Rattle.edit_session.specs.Session.{SessionValue}
-use Rattle.commands.specs.Laws.{Accepts, AcceptedLaw, RepliesLaw, UnchangedLaw, after_lines}
+use Rattle.edit_session.specs.Session.{SessionValue, edited_session}
+use Rattle.generator.specs.Folded.{after_edit, is_accepted}
+use Rattle.commands.specs.Laws.{Accepts, AcceptedLaw, CountedLaw, RepliesLaw, UnchangedLaw, after_lines}
 use Rattle.commands.specs.Replies.{after_command, after_line, after_reply, is_edited_in_range, replies, reply_by, reply_to, reply_to_command, reply_to_edit, told_of}
 use Rattle.commands.specs.declared.reply.Reply.{Reply}
 use Rattle.commands.specs.declared.reply.Reply.TheVariants.{Nothing, Accepted, Refused, Shown}
@@ -83,3 +85,23 @@ one_by_one session (first ∷ before) line behind =
     ∙ sym (append_assoc (told_of session first) (replies (after_line session first) before ++ told_of (after_lines (after_line session first) before) line) _)
     ∙ ap (λ text. text ++ replies (after_line (after_lines (after_line session first) before) line) behind)
     (sym (append_assoc (told_of session first) (replies (after_line session first) before) (told_of (after_lines (after_line session first) before) line)))
+
+-- ---- edits that are drawn from a seed
+
+counted_by : (refused : Option EditRefusal) (fits : Bool) → ((is_none refused && fits) ≡ true) ↔ (reply_by refused fits ≡ Accepted)
+counted_by (Some reason) fits = (λ e. absurd cc, λ e. absurd cc)
+counted_by None false = (λ e. absurd cc, λ e. absurd cc)
+counted_by None true = (λ e. refl, λ e. refl)
+
+after_by : (refused : Option EditRefusal) (fits : Bool) (session : SessionValue) (edit : Edit)
+    → (if is_none refused && fits then edited_session session edit else session) ≡ after_reply (reply_by refused fits) session edit
+after_by (Some reason) fits session edit = refl
+after_by None false session edit = refl
+after_by None true session edit = refl
+
+pub counts_as_replied : CountedLaw
+unfolding is_accepted
+counts_as_replied session edit = record {
+  counted = counted_by (refusal_of session.tree edit) (is_edited_in_range session edit);
+  after = after_by (refusal_of session.tree edit) (is_edited_in_range session edit) session edit;
+}

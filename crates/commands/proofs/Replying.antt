@@ -71,6 +71,7 @@ told {E} a b text u w = record {
   front = w.part;
   fault = λ e. absurd cc;
   later = w.faults;
+  unmade = λ e. absurd cc;
   silent = λ none e. absurd cc;
   causes = tt;
 }
@@ -81,6 +82,7 @@ not_told {E} a b text e w = record {
   front = w.part;
   fault = λ is. w.failed;
   later = w.faults;
+  unmade = λ is. absurd cc;
   silent = λ none is. absurd (let ok = (w.empty none).0 in cc);
   causes = inl refl;
 }

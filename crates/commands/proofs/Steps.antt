@@ -33,7 +33,7 @@ not_before false e = e
 
 -- replies to a script
 pub replied_later : (text : Text) (before after : InputsTold) (old new : SinkTold) (s : Status)
-    → Delivers text.bytes (status_of_end text.whole) old new s ⊎ Breaks text.bytes before after old new s → ¬ EndsBeforeTree s
+    → Delivers text.bytes (status_of_end text.whole) old new s ⊎ Breaks text.bytes text.parts before after old new s → ¬ EndsBeforeTree s
 replied_later text before after old new s (inl d) = later text.bytes (status_of_end text.whole) s old new (not_before text.whole) d
 replied_later text before after old new s (inr out) = λ unread. elim out.cause [
   | inl memory ↦ subst EndsBeforeTree memory unread

@@ -20,8 +20,8 @@ use Rattle.generator.specs.Start.{start_tree}
 use Rattle.generator.specs.Summary.{lines_of as lines_of_summary}
 use Rattle.commands.specs.Command.{Asked, Job, OverTree, Generates, Work, LaysOut, Edits, Checks, Remembers, usage_line}
 use Rattle.commands.specs.Script.{within, is_within}
-use Rattle.commands.specs.History.{Remembered, remembered, replies as history_replies}
-use Rattle.commands.specs.Replies.{replies}
+use Rattle.commands.specs.History.{Remembered, remembered}
+use Rattle.commands.specs.Replies.{each_reply, replies}
 use Rattle.commands.specs.Refusals.{line_of, status_of}
 use Rattle.commands.specs.declared.status.Status.{Status}
 use Rattle.commands.specs.declared.status.Status.TheVariants.{Done, Usage, ScriptLimit}
@@ -66,19 +66,24 @@ tree_in bytes =
 
 -- ---- the text of an answer
 
--- a text, and whether it is all that was asked for: not, where a script passes a limit
 pub record Text : Type 0 where
   pub bytes : List ℕ
+  -- the parts in which it is written, one behind the other; none, where it is written at once
+  pub parts : List (List ℕ)
+  -- whether it is all that was asked for: not, where a script passes a limit
   pub whole : Bool
 
 abbrev pub whole_text : List ℕ → Text
-whole_text bytes = record { bytes = bytes; whole = true }
+whole_text bytes = record { bytes = bytes; parts = []; whole = true }
 
 -- the replies to lines, or to those before the first line that passes a limit, where at most so
 -- many are answered
 abbrev pub replies_within : ℕ → SessionValue → List (List ℕ) → Text
-replies_within most session lines =
-    record { bytes = replies session (within most lines); whole = is_within most lines }
+replies_within most session lines = record {
+  bytes = replies session (within most lines);
+  parts = each_reply session (within most lines);
+  whole = is_within most lines;
+}
 
 -- the replies to the lines of a script
 abbrev pub answers_to : SessionValue → List ℕ → Text
@@ -161,6 +166,16 @@ unfoldable pub answer : Asked → Files → Result Text Refusal
 answer asked files = do
   metrics ← metrics_in (content files asked.metrics)
   answer_with asked.job metrics files
+
+-- the parts in which an answer is written; the line of a refusal is written at once
+abbrev pub parts_of : Result Text Refusal → List (List ℕ)
+parts_of (Ok text) = text.parts
+parts_of (Err refusal) = []
+
+-- those of the answer to what is asked for
+abbrev pub parts_asked : Option Asked → Files → List (List ℕ)
+parts_asked None files = []
+parts_asked (Some asked) files = parts_of (answer asked files)
 
 -- ---- what is written, and the status
 

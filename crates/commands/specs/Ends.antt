@@ -1,10 +1,11 @@
 -- How a run ends, and why.
 use Rattle.std.specs.Prelude.{◌≡◌, ◌⊎◌, ℕ, ◌≤◌, List, [], take, Option, Some, None, IsNone, IfSome, IsSomeAnd, Result, IsOk, IsErrOf}
+use Rattle.std.specs.List.{concat}
 use Rattle.std.specs.Io.KnownBytes.{Appends, IsAtEnd, Keeps}
 use Rattle.doc_io.specs.Causes.{Files, InputsTold, Rose, SinkTold}
 use Rattle.edit_session.specs.Session.{SessionValue}
 use Rattle.commands.specs.Command.{Asked, Job, OverTree, Generates, Work, LaysOut, Edits, Checks, Remembers, usage_line}
-use Rattle.commands.specs.Answer.{Output, Text, ◌>>=◌, content, metrics_in, tree_in, started, output, output_of}
+use Rattle.commands.specs.Answer.{Text, ◌>>=◌, content, metrics_in, tree_in, started, output, output_of, parts_asked, parts_of}
 use Rattle.commands.specs.declared.status.Status.{Status}
 use Rattle.commands.specs.declared.status.Status.TheVariants.{Done, Usage, Metrics, Tree, ReadFault, WriteFault, Memory}
 use Rattle.commands.specs.declared.refusal.Refusal.{Refusal}
@@ -82,10 +83,12 @@ pub record Delivers (text : List ℕ) (wanted : Status) (old new : SinkTold)
   pub silent : text ≡ [] → (status ≡ wanted) × Keeps old.written new.written
 
 -- a read failed or memory was refused on the way, and a front of the text was written
-pub record Breaks (text : List ℕ) (before after : InputsTold) (old new : SinkTold)
-    (status : Status) : Type 0 where
+pub record Breaks (text : List ℕ) (parts : List (List ℕ)) (before after : InputsTold)
+    (old new : SinkTold) (status : Status) : Type 0 where
   pub cause : (status ≡ Memory) ⊎ ((status ≡ ReadFault) × Rose before.faults after.faults)
   pub front : (n : ℕ) × Appends old.written new.written (take n text)
+  -- between two parts
+  pub between : (n : ℕ) × Appends old.written new.written (concat (take n parts))
   pub later : old.faults ≤ new.faults
 
 -- only the replies to a script are written while there is more to do
@@ -99,12 +102,12 @@ abbrev pub IsJobInParts : Job → Type 0
 IsJobInParts (OverTree work tree) = IsInParts work
 IsJobInParts (Generates seed count) = ⊥
 
--- the output was delivered, or what is written in parts was cut short on the way
-abbrev pub IsDelivered : Type 0 → Output → InputsTold → InputsTold → SinkTold → SinkTold →
-    Status → Type 0
-IsDelivered parts output before after old new status =
-    Delivers output.bytes output.status old new status
-    ⊎ (parts × Breaks output.bytes before after old new status)
+-- the answer was delivered, or what is written in parts was cut short on the way
+abbrev pub IsDelivered : Type 0 → Result Text Refusal → InputsTold → InputsTold → SinkTold →
+    SinkTold → Status → Type 0
+IsDelivered parts result before after old new status =
+    Delivers (output_of result).bytes (output_of result).status old new status
+    ⊎ (parts × Breaks (output_of result).bytes (parts_of result) before after old new status)
 
 -- the wanted answer, or want of memory, was delivered
 pub record Written (wanted : Result Text Refusal) (old new : SinkTold)
@@ -119,7 +122,7 @@ pub record AnsweredJob (parts : Type 0) (wanted : Option (Result Text Refusal))
     (status : Status) : Type 0 where
   pub result : Result Text Refusal
   pub answers : Answers wanted lacks before after result
-  pub delivers : IsDelivered parts (output_of result) before after old new status
+  pub delivers : IsDelivered parts result before after old new status
   -- what was answered line by line was read to its end
   pub read_to_end : status ≡ Done → parts → IsAtEnd after.rest
 
@@ -158,6 +161,10 @@ pub record Ends (asked : Option Asked) (before after : InputsTold) (old new : Si
   -- a failed read writes nothing, and nor does want of memory, but for the replies before it
   pub unread_cut : status ≡ ReadFault → ¬ AsksParts asked → Keeps old.written new.written
   pub memory_cut : status ≡ Memory → ¬ AsksParts asked → Keeps old.written new.written
+  -- neither cuts a reply: what was written is the replies to the first lines of the script, and
+  -- nothing of what is written at once
+  pub between : (status ≡ ReadFault) ⊎ (status ≡ Memory) → IfSome before.files (λ files.
+      (n : ℕ) × Appends old.written new.written (concat (take n (parts_asked asked files))))
   -- where every reached file is there and no count rose, only want of memory stands between
   pub complete : IfSome before.files (λ files.
       ¬ LacksFile asked files → ¬ Rose before.faults after.faults → ¬ Rose old.faults new.faults →

@@ -1,11 +1,12 @@
 -- What holds of the replies to all scripts.
-use Rattle.std.specs.Prelude.{◌≡◌, ℕ, true, List, [], ◌∷◌, ◌++◌, Some, None}
+use Rattle.std.specs.Prelude.{◌≡◌, ◌↔◌, ℕ, true, List, [], ◌∷◌, ◌++◌, Some, None}
 use Rattle.tree_edits.specs.Commands.{command_in}
 use Rattle.tree_edits.specs.Edits.{refusal_of}
 use Rattle.tree_edits.specs.declared.command.Command.TheVariants.{Change}
 use Rattle.tree_edits.specs.declared.edit.Edit.{Edit}
 use Rattle.edit_session.specs.Session.{SessionValue, edited_session}
-use Rattle.commands.specs.Replies.{after_line, is_edited_in_range, replies, reply_to, told_of}
+use Rattle.generator.specs.Folded.{after_edit, is_accepted}
+use Rattle.commands.specs.Replies.{after_line, after_reply, is_edited_in_range, replies, reply_to, reply_to_edit, told_of}
 use Rattle.commands.specs.declared.reply.Reply.TheVariants.{Accepted}
 
 -- a line that isn't answered by `ok` leaves the session as it was
@@ -37,3 +38,12 @@ RepliesLaw = (session : SessionValue) (before : List (List ℕ)) (line : List �
     → replies session (before ++ line ∷ behind)
     ≡ replies session before ++ told_of (after_lines session before) line
     ++ replies (after_line (after_lines session before) line) behind
+
+-- an edit that is drawn from a seed is counted where `ok` would answer it, and changes the session
+-- as that would
+pub record CountsAsReplied (session : SessionValue) (edit : Edit) : Type 0 where
+  pub counted : (is_accepted session edit ≡ true) ↔ (reply_to_edit session edit ≡ Accepted)
+  pub after : after_edit session edit ≡ after_reply (reply_to_edit session edit) session edit
+
+abbrev pub CountedLaw : Type 0
+CountedLaw = (session : SessionValue) (edit : Edit) → CountsAsReplied session edit

@@ -99,6 +99,8 @@ pub record Tells (text : List ℕ) (old new : SinkTold)
   pub front : (n : ℕ) × (n ≤ length text) × Appends old.written new.written (take n text)
   pub fault : IsErrOf result stop.WriteFault → Rose old.faults new.faults
   pub later : old.faults ≤ new.faults
+  -- of a reply for which memory was refused nothing is written
+  pub unmade : IsErrOf result stop.Memory → new ≡ old
   -- where there is no text, no write is made
   pub silent : text ≡ [] → ¬ IsErrOf result stop.WriteFault
   -- no line is read for it
@@ -134,7 +136,7 @@ pub record AnswersLines (session : SessionValue) (reader : ReaderValue)
   -- where what is left isn't told, nor is the text
   pub wanted : IfSome (replies_left session reader before) (λ replies. text ≡ replies)
   pub delivers : Delivers text.bytes (status_of_end text.whole) old new status
-      ⊎ Breaks text.bytes before after old new status
+      ⊎ Breaks text.bytes text.parts before after old new status
   pub read_to_end : status ≡ ending.Done → IsAtEnd after.rest
   pub files : after.files ≡ before.files
   pub faults : before.faults ≤ after.faults

@@ -112,3 +112,9 @@ told_of session line = text_of_reply session.metrics (reply_to session line)
 abbrev pub replies : SessionValue → List (List ℕ) → List ℕ
 replies session [] = []
 replies session (line ∷ lines) = told_of session line ++ replies (after_line session line) lines
+
+-- the same replies, one by one
+abbrev pub each_reply : SessionValue → List (List ℕ) → List (List ℕ)
+each_reply session [] = []
+each_reply session (line ∷ lines) =
+    told_of session line ∷ each_reply (after_line session line) lines

@@ -1,7 +1,7 @@
 //! What holds of the replies to all scripts.
 //!
 //! A law is proved where it is a contract, so each function here has one and computes nothing.
-ghost use Rattle.commands.specs.Laws.{AcceptedLaw, RepliesLaw, UnchangedLaw};
+ghost use Rattle.commands.specs.Laws.{AcceptedLaw, CountedLaw, RepliesLaw, UnchangedLaw};
 
 /// A line that isn't answered by `ok` leaves the tree, its next id and the metrics as they were.
 pub fn only_an_accepted_line_changes_the_tree()
@@ -17,4 +17,9 @@ pub fn an_accepted_line_edits_the_tree()
 /// The reply to each line is the one over the tree as edited by all lines before it.
 pub fn each_reply_is_over_the_tree_as_edited_so_far()
     ensures { RepliesLaw }
+{}
+
+/// `gen` counts an edit exactly where `edit` would answer it by `ok`, and its tree changes as there.
+pub fn gen_counts_what_ok_would_answer()
+    ensures { CountedLaw }
 {}

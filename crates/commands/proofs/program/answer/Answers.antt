@@ -1,7 +1,6 @@
 use Rattle.std.proofs.Common.{inl, refl, Err}
 use Rattle.commands.specs.Command.{asked_of}
 use Rattle.commands.proofs.Answering.{without_metrics, with_metrics}
-use Rattle.commands.specs.Answer.{output_of}
 use Rattle.commands.specs.Ends.{IsJobInParts}
 use Rattle.commands.proofs.Parts.{since}
 use Rattle.commands.proofs.Ending.{told_not_done}
@@ -14,7 +13,7 @@ returns-in-Ok-clause-answered g c =
     record {
       result = a.result;
       answers = with_metrics (asked_of c.args.request) _ _ _ c.in-Ok.metrics a.result c.in-Ok.ensures a.answers;
-      delivers = since (IsJobInParts (asked_of c.args.request).job) (output_of a.result) (g.I.Inputs.told c.args.inputs.now) (g.I.Inputs.told c.load_metrics.new.inputs) (g.I.Inputs.told c.answer_with.new.inputs)
+      delivers = since (IsJobInParts (asked_of c.args.request).job) a.result (g.I.Inputs.told c.args.inputs.now) (g.I.Inputs.told c.load_metrics.new.inputs) (g.I.Inputs.told c.answer_with.new.inputs)
           (g.O.Sink.told c.args.out.now) (g.O.Sink.told c.answer_with.new.out) _ c.in-Ok.ensures.faults a.delivers;
       read_to_end = a.read_to_end;
     }

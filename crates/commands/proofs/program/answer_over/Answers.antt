@@ -1,7 +1,6 @@
 use Rattle.std.proofs.Common.{inl, refl, Err}
 use Rattle.commands.specs.Command.{work_of}
 use Rattle.commands.proofs.Answering.{without_tree, with_tree}
-use Rattle.commands.specs.Answer.{output_of}
 use Rattle.commands.specs.Ends.{IsInParts}
 use Rattle.commands.proofs.Parts.{since}
 use Rattle.commands.proofs.Ending.{told_not_done}
@@ -14,7 +13,7 @@ returns-in-Ok-clause-answered g c =
     record {
       result = a.result;
       answers = with_tree (work_of c.args.task) c.args.metrics c.args.name.now _ _ _ c.in-Ok.tree a.result c.in-Ok.ensures a.answers;
-      delivers = since (IsInParts (work_of c.args.task)) (output_of a.result) (g.I.Inputs.told c.args.inputs.now) (g.I.Inputs.told c.load_tree.new.inputs) (g.I.Inputs.told c.do_task.new.inputs)
+      delivers = since (IsInParts (work_of c.args.task)) a.result (g.I.Inputs.told c.args.inputs.now) (g.I.Inputs.told c.load_tree.new.inputs) (g.I.Inputs.told c.do_task.new.inputs)
           (g.O.Sink.told c.args.out.now) (g.O.Sink.told c.do_task.new.out) _ c.in-Ok.ensures.faults a.delivers;
       read_to_end = a.read_to_end;
     }
