@@ -9,4 +9,5 @@ mod Parts
 mod Replying
 mod RepliesLaws
 mod DigitWords
+mod Histories
 mod Worked

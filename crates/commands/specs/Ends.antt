@@ -25,6 +25,7 @@ abbrev pub IsScript : Work → List ℕ → Type 0
 IsScript LaysOut name = ⊥
 IsScript (Edits script) name = name ≡ script
 IsScript Checks name = ⊥
+IsScript (Remembers depth script) name = name ≡ script
 
 -- behind a metrics file of that name: the tree file where that one gives metrics, and the script
 -- where both give a session; edits from a seed need no file more

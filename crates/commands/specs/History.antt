@@ -1,10 +1,9 @@
 -- What is answered to the lines of a script whose edits can be undone.
-use Rattle.std.specs.Prelude.{ℕ, List, [], ◌∷◌, ◌++◌, if◌then◌else◌, Option, Some, None}
-use Rattle.std.specs.Option.{option_and_then}
+use Rattle.std.specs.Prelude.{ℕ, List, [], if◌then◌else◌, Option, Some, None}
 use Rattle.font_metrics.specs.Metrics.{MetricsValue}
 use Rattle.math_tree.specs.Forms.{is_white_space}
 use Rattle.math_tree.specs.Trees.{TreeValue}
-use Rattle.tree_edits.specs.Commands.{command_of, json_in}
+use Rattle.tree_edits.specs.Commands.{command_in}
 use Rattle.tree_edits.specs.Edits.{edited}
 use Rattle.tree_edits.specs.declared.command.Command.{Command}
 use Rattle.tree_edits.specs.declared.command.Command.TheVariants.{Show, Change}
@@ -65,7 +64,7 @@ reply_by_move Other kept asked = reply_to_command (session_in kept) asked
 unfoldable pub reply_to : Remembered → List ℕ → Reply
 reply_to kept line =
     if is_white_space line then Nothing
-    else reply_by_move (move_in line) kept (option_and_then command_of (json_in line))
+    else reply_by_move (move_in line) kept (command_in line)
 
 abbrev pub moved_to : Option History → Remembered → Remembered
 moved_to (Some history) kept = record kept { history = history }
@@ -90,15 +89,8 @@ after_move Other kept asked = after_command kept asked
 unfoldable pub after_line : Remembered → List ℕ → Remembered
 after_line kept line =
     if is_white_space line then kept
-    else after_move (move_in line) kept (option_and_then command_of (json_in line))
+    else after_move (move_in line) kept (command_in line)
 
--- ---- all lines
-
--- what is written for one line
+-- what is written for a line
 abbrev pub told_of : Remembered → List ℕ → List ℕ
 told_of kept line = text_of_reply kept.metrics (reply_to kept line)
-
--- the replies to lines, each over the history as it is by then
-abbrev pub replies : Remembered → List (List ℕ) → List ℕ
-replies kept [] = []
-replies kept (line ∷ lines) = told_of kept line ++ replies (after_line kept line) lines

@@ -1,67 +1,42 @@
--- What becomes of the next line of a script whose edits can be undone, and of all of them.
-use Rattle.std.specs.Prelude.{◌≡◌, ◌⊎◌, ℕ, ◌-◌, ◌≤◌, Bool, true, false, List, Option, Result, Ok, Err, IfSome, IfErr}
-use Rattle.std.specs.Option.{option_map}
-use Rattle.std.specs.Io.KnownBytes.{IsAtEnd}
-use Rattle.doc_io.specs.Causes.{InputsTold, SinkTold}
-use Rattle.doc_io.specs.LineReader.{GivesLine, ReaderValue, left_of, lines_of, most_lines}
-use Rattle.doc_io.specs.declared.line_reader.Line.TheVariants.{Whole, End}
-use Rattle.edit_ring.specs.Rings.{RingState, RingValue, history_of, state_of}
-use Rattle.commands.specs.Answer.{Text, history_within, status_of_end}
-use Rattle.commands.specs.Ends.{Breaks, Delivers}
-use Rattle.commands.specs.History.{Remembered, after_line, told_of}
-use Rattle.commands.specs.Parts.{ComesToLine, Tells, status_of_lines}
-use Rattle.session_ring.specs.Undoable.{told}
-use Rattle.commands.specs.declared.replies.Stop.{Stop}
-use Rattle.commands.specs.declared.status.Status.{Status}
-use Rattle.commands.specs.declared.status.Status.TheVariants as ending
-use Rattle.session_ring.specs.declared.undoable.Undoable.{Undoable}
+-- What becomes of a ring where a line of a script is answered, and what is answered.
+use Rattle.std.specs.Prelude.{◌≡◌, Option, Result, Ok, Err, IfOk, OnOk, IsErr}
+use Rattle.tree_edits.specs.declared.command.Command.{Command}
+use Rattle.edit_ring.specs.Rings.{RingState}
+use Rattle.edit_ring.specs.declared.ground.GroundRefusal.{GroundRefusal}
+use Rattle.edit_ring.specs.declared.ground.GroundRefusal.TheVariants.{Edit as Refuses, Range as PassesRange, Memory as LacksMemory}
+use Rattle.edit_ring.specs.declared.ring.RingRefusal.{RingRefusal}
+use Rattle.edit_ring.specs.declared.ring.RingRefusal.TheVariants.{Nothing as HoldsNone, Memory as HasNoMemory}
+use Rattle.session_ring.specs.declared.moves.Move.{Move}
+use Rattle.commands.specs.History.{after_move}
+use Rattle.commands.specs.HistorySteps.{Kept, kept_by, ring_after_move}
+use Rattle.commands.specs.Replies.{IsReplyOfFont}
+use Rattle.commands.specs.declared.reply.Cause.TheVariants.{Unmade, OutOfRange, NoneHeld}
+use Rattle.commands.specs.declared.reply.Reply.{Reply}
+use Rattle.commands.specs.declared.reply.Reply.TheVariants.{Accepted, Refused}
 
--- what a ring over a session tells
-abbrev pub ring_of : RingValue Undoable → RingState
-ring_of ring = state_of (λ undoable. told undoable.session.held) ring
-
--- the history that it keeps
-abbrev pub kept_by : RingState → Remembered
-kept_by ring = record {
-  history = history_of ring;
-  next_id = ring.told.tree.next_id;
-  metrics = ring.told.metrics;
-  depth = ring.depth;
+-- what is kept behind a move, or behind what else is asked for
+abbrev pub kept_after_move : Move → Kept → Option Command → Kept
+kept_after_move move kept asked = record {
+  history = after_move move kept.history asked;
+  ring = ring_after_move move kept.ring asked;
 }
 
--- one line is read, and its reply is written before another is
-pub record AnswersNext (kept kept' : Remembered) (reader reader' : ReaderValue)
-    (before after : InputsTold) (old new : SinkTold) (result : Result Bool Stop) : Type 0 where
-  pub line : result ≡ Ok true → GivesLine reader reader' before after (Ok Whole)
-      × Tells (told_of kept reader'.line) old new (Ok tt)
-      × (kept' ≡ after_line kept reader'.line)
-  -- nothing is written where no line was read
-  pub end : result ≡ Ok false → GivesLine reader reader' before after (Ok End) × (new ≡ old)
-  pub stop : IfErr result (λ why.
-      (ComesToLine reader reader' before after (Err why) × (new ≡ old))
-      ⊎ (GivesLine reader reader' before after (Ok Whole)
-      × Tells (told_of kept reader'.line) old new (Err why)))
+-- the reply was made, and that is kept then; or memory was refused
+pub record Makes {E : Type 0} (wanted : Reply) (kept : Kept) (old new : RingState)
+    (result : Result Reply E) : Type 0 where
+  pub reply : IfOk result (λ reply. reply ≡ wanted)
+  pub glyphs : IfOk result (IsReplyOfFont old.told.metrics)
+  pub after : OnOk result (kept_by new ≡ kept)
 
--- the replies to the lines that are left to a reader, where they are told
-abbrev pub replies_left : Remembered → ReaderValue → InputsTold → Option Text
-replies_left kept reader inputs = option_map
-    (λ bytes. history_within (most_lines - reader.given) kept (lines_of bytes))
-    (left_of reader inputs)
+-- how a move is told; want of memory ends the script
+abbrev pub TellsMove : {E : Type 0} → Result (Unit {0}) RingRefusal → Result Reply E → Type 0
+TellsMove (Ok done) result = result ≡ Ok Accepted
+TellsMove (Err HoldsNone) result = result ≡ Ok (Refused NoneHeld)
+TellsMove (Err HasNoMemory) result = IsErr result
 
--- the replies to the lines that are left were delivered, or a front of them
-pub record AnswersLines (kept : Remembered) (reader : ReaderValue)
-    (before after : InputsTold) (old new : SinkTold) (status : Status) : Type 0 where
-  pub text : Text
-  -- where what is left isn't told, nor is the text
-  pub wanted : IfSome (replies_left kept reader before) (λ replies. text ≡ replies)
-  pub delivers : Delivers text.bytes (status_of_end text.whole) old new status
-      ⊎ Breaks text.bytes before after old new status
-  pub read_to_end : status ≡ ending.Done → IsAtEnd after.rest
-  pub files : after.files ≡ before.files
-  pub faults : before.faults ≤ after.faults
-  pub missing : after.missing ≡ before.missing
-
-abbrev pub AnswersEach : Remembered → ReaderValue → InputsTold → InputsTold → SinkTold →
-    SinkTold → Result (Unit {0}) Stop → Type 0
-AnswersEach kept reader before after old new result =
-    AnswersLines kept reader before after old new (status_of_lines result)
+-- the same of an edit
+abbrev pub TellsEdit : {E : Type 0} → Result (Unit {0}) GroundRefusal → Result Reply E → Type 0
+TellsEdit (Ok done) result = result ≡ Ok Accepted
+TellsEdit (Err (Refuses reason)) result = result ≡ Ok (Refused (Unmade reason))
+TellsEdit (Err PassesRange) result = result ≡ Ok (Refused OutOfRange)
+TellsEdit (Err LacksMemory) result = IsErr result

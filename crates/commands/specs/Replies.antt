@@ -15,6 +15,7 @@ use Rattle.box_writer.specs.Items.{IsOfFont}
 use Rattle.box_writer.specs.Lines.{text_of}
 use Rattle.box_writer.specs.declared.placed.PlacedItem.{PlacedItem}
 use Rattle.edit_session.specs.Session.{SessionValue, edited_session, page}
+use Rattle.commands.specs.Responders.{Responder, all_replies}
 use Rattle.commands.specs.declared.reply.Cause.{Cause}
 use Rattle.commands.specs.declared.reply.Cause.TheVariants.{NoCommand, Unmade, OutOfRange, NoneHeld}
 use Rattle.commands.specs.declared.reply.Reply.{Reply}
@@ -108,13 +109,9 @@ IsReplyOfFont metrics (Shown items) = All (IsOfFont metrics) items
 abbrev pub told_of : SessionValue → List ℕ → List ℕ
 told_of session line = text_of_reply session.metrics (reply_to session line)
 
--- the replies to lines, each over the tree as edited so far
-abbrev pub replies : SessionValue → List (List ℕ) → List ℕ
-replies session [] = []
-replies session (line ∷ lines) = told_of session line ++ replies (after_line session line) lines
+-- a session answers lines, each over the tree as edited so far
+abbrev pub by_session : Responder
+by_session = record { Known = SessionValue; told_of = told_of; after_line = after_line }
 
--- the same replies, one by one
-abbrev pub each_reply : SessionValue → List (List ℕ) → List (List ℕ)
-each_reply session [] = []
-each_reply session (line ∷ lines) =
-    told_of session line ∷ each_reply (after_line session line) lines
+abbrev pub replies : SessionValue → List (List ℕ) → List ℕ
+replies session lines = all_replies by_session session lines

@@ -1,20 +1,17 @@
-//! The lines of a script whose edits can be undone, one after another.
-ghost use Rattle.std.specs.Prelude.{◌≡◌, IfOk, OnOk, Some};
+//! The lines of a script whose edits can be undone.
+ghost use Rattle.std.specs.Prelude.{Some, None};
 ghost use Rattle.tree_edits.specs.Applying.{IsProperEdit};
-ghost use Rattle.tree_edits.specs.Commands.{IsProperCommand};
-ghost use Rattle.tree_edits.specs.Edits.{refusal_of};
-ghost use Rattle.commands.specs.History.{after_command, after_line, after_reply, reply_to, told_of};
-ghost use Rattle.commands.specs.HistoryParts.{AnswersEach, AnswersLines, AnswersNext, kept_by, ring_of};
-ghost use Rattle.commands.specs.HistorySteps.{TakesForHistory, TakesForLine, TakesForNext, ring_after, session_under};
-ghost use Rattle.commands.specs.Parts.{Tells};
-ghost use Rattle.commands.specs.Replies.{IsReplyOfFont, reply_to_command, reply_to_edit};
-ghost use Rattle.commands.specs.Steps.{TakesForEdit, accepted_by, lines_left, unless_refused};
+ghost use Rattle.tree_edits.specs.Commands.{command_in};
+ghost use Rattle.tree_edits.specs.declared.command.Command.TheVariants.{Show, Change};
+ghost use Rattle.session_ring.specs.declared.moves.Move.TheVariants.{Undo, Redo, Other};
+ghost use Rattle.commands.specs.History.{reply_by_move, reply_to};
+ghost use Rattle.commands.specs.HistoryParts.{Makes, TellsEdit, TellsMove, kept_after_move};
+ghost use Rattle.commands.specs.HistorySteps.{TakesForLine, TakesForMove, kept_after, kept_by, ring_of};
 
-use crate::replies::{Stop, next_line};
+use crate::replies::{Respond, Stop};
 use crate::reply::{Cause, Reply};
 use crate::script::is_white_space;
-use crate::status::Status;
-use doc_io::{Inputs, LineReader, Sink};
+use doc_io::Sink;
 use edit_ring::{GroundRefusal, Ring, RingRefusal};
 use fixed_units::{Memory, Steps};
 use session_ring::{Move, Undoable, move_in};
@@ -22,120 +19,83 @@ use std::alloc::Global;
 use std::sync::ledger::Ledger;
 use tree_edits::{Command, CommandRefusal, Edit, read_command};
 
-/// Answers the lines of a script, each before the next is read: to its end, or to the first line
-/// that passes a limit.
-pub fn answer_history<I: Inputs, O: Sink, L: Ledger>(
-    alloc: Global,
-    ring: &mut Ring<Undoable>,
-    reader: &mut LineReader,
-    inputs: &mut I,
-    out: &mut O,
-    steps: &mut Steps<L>,
-) -> Status
-    ensures answers { AnswersLines (kept_by (ring_of ring.old)) reader.old
-        (I.told inputs.old) (I.told inputs.new) (O.told out.old) (O.told out.new) result }
-    ensures taken { TakesForHistory (ring_of ring.old) (lines_left reader.old (I.told inputs.old))
-        steps.old steps.new }
-{
-    match answer_each(alloc, ring, reader, inputs, out, steps) {
-        Ok(()) => Status::Done,
-        Err(stop) => stop.status(),
+impl Respond for Ring<Undoable> {
+    ghost use Rattle.commands.specs.HistorySteps.{TakesForKept, by_history, kept_by, ring_of};
+
+    ghost responder = { by_history };
+
+    ghost takes = { TakesForKept };
+
+    ghost known = { λ ring. kept_by (ring_of ring) };
+
+    fn answer_line<O: Sink, L: Ledger>(
+        &mut self,
+        alloc: Global,
+        line: &[u8],
+        out: &mut O,
+        steps: &mut Steps<L>,
+    ) -> Result<(), Stop> {
+        let reply = reply_to(alloc, self, line, steps)?;
+        reply.write(out, self.metrics())?;
+        Ok(())
     }
-}
-
-/// Answers the lines of a script, each before the next is read.
-fn answer_each<I: Inputs, O: Sink, L: Ledger>(
-    alloc: Global,
-    ring: &mut Ring<Undoable>,
-    reader: &mut LineReader,
-    inputs: &mut I,
-    out: &mut O,
-    steps: &mut Steps<L>,
-) -> Result<(), Stop>
-    ensures answers { AnswersEach (kept_by (ring_of ring.old)) reader.old
-        (I.told inputs.old) (I.told inputs.new) (O.told out.old) (O.told out.new) result }
-    ensures taken { TakesForHistory (ring_of ring.old) (lines_left reader.old (I.told inputs.old))
-        steps.old steps.new }
-{
-    while answer_next(alloc, ring, reader, inputs, out, steps)? {}
-    Ok(())
-}
-
-/// Reads the next line of a script and answers it, and says whether there was one. When it returns,
-/// the reply to the line that was read is written.
-fn answer_next<I: Inputs, O: Sink, L: Ledger>(
-    alloc: Global,
-    ring: &mut Ring<Undoable>,
-    reader: &mut LineReader,
-    inputs: &mut I,
-    out: &mut O,
-    steps: &mut Steps<L>,
-) -> Result<bool, Stop>
-    ensures answers { AnswersNext (kept_by (ring_of ring.old)) (kept_by (ring_of ring.new))
-        reader.old reader.new (I.told inputs.old) (I.told inputs.new)
-        (O.told out.old) (O.told out.new) result }
-    ensures taken { TakesForNext (ring_of ring.old) reader.old reader.new
-        (I.told inputs.old) (I.told inputs.new) steps.old steps.new result }
-{
-    if !next_line(reader, inputs)? {
-        return Ok(false);
-    }
-    answer_line(alloc, ring, reader.line(), out, steps)?;
-    Ok(true)
-}
-
-/// Does what a line asks for, and writes the reply.
-fn answer_line<O: Sink, L: Ledger>(
-    alloc: Global,
-    ring: &mut Ring<Undoable>,
-    line: &[u8],
-    out: &mut O,
-    steps: &mut Steps<L>,
-) -> Result<(), Stop>
-    ensures told { Tells (told_of (kept_by (ring_of ring.old)) line.now)
-        (O.told out.old) (O.told out.new) result }
-    ensures kept { OnOk result (kept_by (ring_of ring.new)
-        ≡ after_line (kept_by (ring_of ring.old)) line.now) }
-    ensures ring { OnOk result (ring_of ring.new ≡ ring_after (ring_of ring.old) line.now) }
-    ensures taken { TakesForLine (ring_of ring.old) line.now steps.old steps.new }
-{
-    let reply = reply_to(alloc, ring, line, steps)?;
-    reply.write(out, ring.metrics())?;
-    Ok(())
 }
 
 /// Does what a line of a script asks for, and says what is answered.
-#[tactic(auto, unfolding(crate::specs::History::reply_to, crate::specs::History::after_line, crate::specs::HistorySteps::ring_after))]
 fn reply_to<L: Ledger>(
     alloc: Global,
     ring: &mut Ring<Undoable>,
     line: &[u8],
     steps: &mut Steps<L>,
 ) -> Result<Reply, Memory>
-    ensures reply { IfOk result
-        (λ reply. reply ≡ reply_to (kept_by (ring_of ring.old)) line.now) }
-    ensures glyphs { IfOk result (IsReplyOfFont (ring_of ring.old).told.metrics) }
-    ensures kept { OnOk result (kept_by (ring_of ring.new)
-        ≡ after_line (kept_by (ring_of ring.old)) line.now) }
-    ensures ring { OnOk result (ring_of ring.new ≡ ring_after (ring_of ring.old) line.now) }
+    ensures made { Makes (reply_to (kept_by (ring_of ring.old)).history line.now)
+        (kept_after (kept_by (ring_of ring.old)) line.now)
+        (ring_of ring.old) (ring_of ring.new) result }
     ensures taken { TakesForLine (ring_of ring.old) line.now steps.old steps.new }
 {
     if is_white_space(line) {
         return Ok(Reply::Nothing);
     }
-    match move_in(alloc, line)? {
-        Move::Undo => reply_to_move(ring.undo(alloc, steps)),
-        Move::Redo => reply_to_move(ring.redo(alloc, steps)),
-        Move::Other => match read_command(alloc, line) {
-            Ok(command) => carry_out(alloc, ring, command, steps),
-            Err(CommandRefusal::BadLine) => Ok(Reply::Refused(Cause::NoCommand)),
-            Err(CommandRefusal::Memory) => Err(Memory),
-        },
+    match move_in(alloc, line) {
+        Ok(Move::Undo) => undo(alloc, ring, steps),
+        Ok(Move::Redo) => redo(alloc, ring, steps),
+        Ok(Move::Other) => carry_out(alloc, ring, line, steps),
+        Err(Memory) => Err(Memory),
     }
 }
 
+/// Undoes the last edit, or says that there is none.
+fn undo<L: Ledger>(
+    alloc: Global,
+    ring: &mut Ring<Undoable>,
+    steps: &mut Steps<L>,
+) -> Result<Reply, Memory>
+    ensures made { Makes (reply_by_move Undo (kept_by (ring_of ring.old)).history None)
+        (kept_after_move Undo (kept_by (ring_of ring.old)) None)
+        (ring_of ring.old) (ring_of ring.new) result }
+    ensures taken { TakesForMove Undo (ring_of ring.old) None steps.old steps.new }
+{
+    told_move(ring.undo(alloc, steps))
+}
+
+/// Makes the edit again that was undone last, or says that there is none.
+fn redo<L: Ledger>(
+    alloc: Global,
+    ring: &mut Ring<Undoable>,
+    steps: &mut Steps<L>,
+) -> Result<Reply, Memory>
+    ensures made { Makes (reply_by_move Redo (kept_by (ring_of ring.old)).history None)
+        (kept_after_move Redo (kept_by (ring_of ring.old)) None)
+        (ring_of ring.old) (ring_of ring.new) result }
+    ensures taken { TakesForMove Redo (ring_of ring.old) None steps.old steps.new }
+{
+    told_move(ring.redo(alloc, steps))
+}
+
 /// What is answered to a line that goes through the history.
-fn reply_to_move(moved: Result<(), RingRefusal>) -> Result<Reply, Memory> {
+fn told_move(moved: Result<(), RingRefusal>) -> Result<Reply, Memory>
+    ensures { TellsMove moved result }
+{
     match moved {
         Ok(()) => Ok(Reply::Accepted),
         Err(RingRefusal::Nothing) => Ok(Reply::Refused(Cause::NoneHeld)),
@@ -143,16 +103,41 @@ fn reply_to_move(moved: Result<(), RingRefusal>) -> Result<Reply, Memory> {
     }
 }
 
-/// Does what a command asks for.
+/// Does what the command of a line asks for, or says that it is none.
 fn carry_out<L: Ledger>(
     alloc: Global,
     ring: &mut Ring<Undoable>,
-    command: Command,
+    line: &[u8],
     steps: &mut Steps<L>,
-) -> Result<Reply, Memory> {
-    match command {
-        Command::Show => Ok(Reply::Shown(ring.show(alloc)?)),
-        Command::Change(edit) => change(alloc, ring, edit, steps),
+) -> Result<Reply, Memory>
+    ensures made { Makes
+        (reply_by_move Other (kept_by (ring_of ring.old)).history (command_in line.now))
+        (kept_after_move Other (kept_by (ring_of ring.old)) (command_in line.now))
+        (ring_of ring.old) (ring_of ring.new) result }
+    ensures taken { TakesForMove Other (ring_of ring.old) (command_in line.now)
+        steps.old steps.new }
+{
+    match read_command(alloc, line) {
+        Ok(Command::Show) => show(alloc, ring),
+        Ok(Command::Change(edit)) => change(alloc, ring, edit, steps),
+        Err(CommandRefusal::BadLine) => Ok(Reply::Refused(Cause::NoCommand)),
+        Err(CommandRefusal::Memory) => Err(Memory),
+    }
+}
+
+/// Shows the tree.
+fn show(alloc: Global, ring: &mut Ring<Undoable>) -> Result<Reply, Memory>
+    ensures { Makes (reply_by_move Other (kept_by (ring_of ring.old)).history (Some Show))
+        (kept_after_move Other (kept_by (ring_of ring.old)) (Some Show))
+        (ring_of ring.old) (ring_of ring.new) result }
+{
+    match ring.show(alloc) {
+        Ok(placed) => {
+            // What writing needs to know of the metrics: the call does nothing.
+            ring.metrics().is_taken();
+            Ok(Reply::Shown(placed))
+        }
+        Err(Memory) => Err(Memory),
     }
 }
 
@@ -162,8 +147,23 @@ fn change<L: Ledger>(
     ring: &mut Ring<Undoable>,
     edit: Edit,
     steps: &mut Steps<L>,
-) -> Result<Reply, Memory> {
-    match ring.edit(alloc, edit, steps) {
+) -> Result<Reply, Memory>
+    requires { IsProperEdit edit }
+    ensures made { Makes
+        (reply_by_move Other (kept_by (ring_of ring.old)).history (Some (Change edit)))
+        (kept_after_move Other (kept_by (ring_of ring.old)) (Some (Change edit)))
+        (ring_of ring.old) (ring_of ring.new) result }
+    ensures taken { TakesForMove Other (ring_of ring.old) (Some (Change edit))
+        steps.old steps.new }
+{
+    told_edit(ring.edit(alloc, edit, steps))
+}
+
+/// What is answered to an edit.
+fn told_edit(made: Result<(), GroundRefusal>) -> Result<Reply, Memory>
+    ensures { TellsEdit made result }
+{
+    match made {
         Ok(()) => Ok(Reply::Accepted),
         Err(GroundRefusal::Edit(reason)) => Ok(Reply::Refused(Cause::Unmade(reason))),
         Err(GroundRefusal::Range) => Ok(Reply::Refused(Cause::OutOfRange)),

@@ -6,20 +6,19 @@ ghost use Rattle.box_writer.specs.Lines.{text_of};
 ghost use Rattle.generator.specs.Steps.{TakesForRun as TakesForGenerated};
 ghost use Rattle.generator.specs.Summary.{lines_of};
 ghost use Rattle.commands.specs.Command.{asked_by, asked_of, job_of, work_of, LaysOut, Edits, Remembers};
-ghost use Rattle.commands.specs.Answer.{answer, answer_over, answer_with, checked, done, generates, laid_out, lines_of_page, remembered_to, scripted, started, whole_text};
+ghost use Rattle.commands.specs.Answer.{answer, answer_over, answer_with, checked, done, generates, laid_out, lines_of_page, scripted, started, whole_text};
 ghost use Rattle.commands.specs.Ends.{Answered, AnsweredJob, Delivers, Ends, EndsBeforeTree, EndsUnlaid, GivesOr, IsJobInParts, JobStepsStand, LacksFile, StepsStand, TakesNoSteps, Written};
 ghost use Rattle.commands.specs.Parts.{LacksNext, LacksScript, LacksTree};
-ghost use Rattle.commands.specs.Steps.{TakesForEdits, TakesForJob, TakesForRun, TakesForScript, TakesForWork, TakesOverMetrics, script_lines};
-ghost use Rattle.commands.specs.HistoryParts.{kept_by, ring_of};
-ghost use Rattle.commands.specs.HistorySteps.{TakesForHistory, TakesForRemembered, new_ring};
+ghost use Rattle.commands.specs.Steps.{TakesForEdits, TakesForJob, TakesForLine, TakesForRun, TakesForScript, TakesForWork, TakesOverMetrics, script_lines};
+ghost use Rattle.commands.specs.HistorySteps.{TakesForKept, by_history, kept_at_first, new_ring, ring_of};
+ghost use Rattle.commands.specs.Replies.{by_session};
 ghost use Rattle.commands.specs.Refusals.{line_of, status_of};
 ghost use Rattle.edit_session.specs.Session.{SessionValue};
 
 use crate::command::{Job, NoCommand, Request, Task, USAGE};
-use crate::history::answer_history;
 use crate::load::{load_metrics, load_tree, open_script};
 use crate::refusal::Refusal;
-use crate::replies::answer_lines;
+use crate::replies::{Respond, answer_lines};
 use crate::status::Status;
 use box_writer::{Placed, write_placed};
 use doc_io::{Inputs, Sink, write_all};
@@ -236,8 +235,8 @@ fn edit<I: Inputs, O: Sink, L: Ledger>(
         (I.told inputs.old) (I.told inputs.new)
         (O.told out.old) (O.told out.new) result }
     ensures late { ¬ EndsBeforeTree result }
-    ensures taken { TakesForEdits metrics tree (script_lines script.now (I.told inputs.old).files)
-        steps.old steps.new }
+    ensures taken { TakesForEdits by_session TakesForLine (λ session. session) metrics tree
+        (script_lines script.now (I.told inputs.old).files) steps.old steps.new }
 {
     match start(alloc, metrics, tree, steps) {
         Ok(mut session) => {
@@ -269,12 +268,12 @@ fn remember<I: Inputs, O: Sink, L: Ledger>(
         (I.told inputs.old) (I.told inputs.new)
         (O.told out.old) (O.told out.new) result }
     ensures late { ¬ EndsBeforeTree result }
-    ensures taken { TakesForRemembered depth metrics tree
+    ensures taken { TakesForEdits by_history TakesForKept (kept_at_first depth) metrics tree
         (script_lines script.now (I.told inputs.old).files) steps.old steps.new }
 {
     match start_ring(alloc, metrics, tree, depth, steps) {
         Ok(mut ring) => {
-            let status = remember_script(alloc, &mut ring, script, inputs, out, steps);
+            let status = answer_script(alloc, &mut ring, script, inputs, out, steps);
             drop(ring);
             status
         }
@@ -302,34 +301,6 @@ fn start_ring<L: Ledger>(
     match Ring::make(alloc, Undoable { session }, depth as usize) {
         Ok(ring) => Ok(ring),
         Err(Memory) => Err(Refusal::Memory),
-    }
-}
-
-/// Answers the lines of a script over a ring, or tells why it doesn't.
-fn remember_script<I: Inputs, O: Sink, L: Ledger>(
-    alloc: Global,
-    ring: &mut Ring<Undoable>,
-    name: &str,
-    inputs: &mut I,
-    out: &mut O,
-    steps: &mut Steps<L>,
-) -> Status
-    ensures answered { Answered (Remembers (ring_of ring.old).depth name.now)
-        (option_map (remembered_to name.now (kept_by (ring_of ring.old))) (I.told inputs.old).files)
-        (λ files. files name.now ≡ None)
-        (I.told inputs.old) (I.told inputs.new)
-        (O.told out.old) (O.told out.new) result }
-    ensures late { ¬ EndsBeforeTree result }
-    ensures taken { TakesForHistory (ring_of ring.old)
-        (script_lines name.now (I.told inputs.old).files) steps.old steps.new }
-{
-    match open_script(alloc, name, inputs) {
-        Ok(mut reader) => {
-            let status = answer_history(alloc, ring, &mut reader, inputs, out, steps);
-            drop(reader);
-            status
-        }
-        Err(refusal) => tell(out, refusal),
     }
 }
 
@@ -363,27 +334,27 @@ fn show<O: Sink>(alloc: Global, session: &mut Session, out: &mut O) -> Status
     }
 }
 
-/// Answers the lines of a script over a session, or tells why it doesn't.
-fn answer_script<I: Inputs, O: Sink, L: Ledger>(
+/// Answers the lines of a script, or tells why it doesn't.
+fn answer_script<A: Respond, I: Inputs, O: Sink, L: Ledger>(
     alloc: Global,
-    session: &mut Session,
+    answerer: &mut A,
     name: &str,
     inputs: &mut I,
     out: &mut O,
     steps: &mut Steps<L>,
 ) -> Status
-    ensures answered { Answered (Edits name.now)
-        (option_map (scripted name.now session.old.held) (I.told inputs.old).files)
+    ensures answered { AnsweredJob (Unit {0})
+        (option_map (scripted A.responder name.now (A.known answerer.old)) (I.told inputs.old).files)
         (λ files. files name.now ≡ None)
         (I.told inputs.old) (I.told inputs.new)
         (O.told out.old) (O.told out.new) result }
     ensures late { ¬ EndsBeforeTree result }
-    ensures taken { TakesForScript session.old.held
+    ensures taken { TakesForScript A.responder A.takes (A.known answerer.old)
         (script_lines name.now (I.told inputs.old).files) steps.old steps.new }
 {
     match open_script(alloc, name, inputs) {
         Ok(mut reader) => {
-            let status = answer_lines(alloc, session, &mut reader, inputs, out, steps);
+            let status = answer_lines(alloc, answerer, &mut reader, inputs, out, steps);
             drop(reader);
             status
         }

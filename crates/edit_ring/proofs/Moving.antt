@@ -154,6 +154,7 @@ edited_ring Takes before told edit back room s t ring proper changes =
       };
       edits = record {
         accepted = changes.accepted;
+        good = ap (λ (told : GroundTold). told.is_good told.tree.root) (sym same_told) ∙ changes.stands.good;
         told = same_told;
         past = same_list;
         future = refl;

@@ -172,6 +172,7 @@ pub record Moves (Takes : StepBound) (before after : GroundTold)
 pub record RingEdits (Takes : StepBound) (before after : RingState) (edit : Edit)
     (steps_before steps_after : ℕ) (result : Result (Unit {0}) GroundRefusal) : Type 0 where
   pub accepted : OnOk result (refusal_of before.told.tree edit ≡ None)
+  pub good : OnOk result (before.told.is_good (edited before.told.tree edit).root ≡ true)
   pub told : OnOk result (after.told ≡ with_tree (edited before.told.tree edit) before.told)
   pub past : OnOk result
       (after.past ≡ take before.depth (inverse before.told.tree edit ∷ before.past))

@@ -17,7 +17,7 @@ pub with_head : (level : ℕ) (head : Head) (nodes : List Node) → IsInOrder he
 with_head level head nodes own below =
     let layer : Node-F Node = record { head = head; children = nodes } in
     let P : Node-F Node → Type 0 =
-        λ l. AreOrdered (record { level = level; head = l.head; children = length l.children } ∷ flat_map (listed (level + 1)) l.children) in
+    λ l. AreOrdered (record { level = level; head = l.head; children = length l.children } ∷ flat_map (listed (level + 1)) l.children) in
     subst AreOrdered (sym (listed_element level (roll-Node layer))) (subst P (sym (out-roll-Node layer)) (own, below))
 
 joined : (xs ys : List Listed) → AreOrdered xs → AreOrdered ys → AreOrdered (xs ++ ys)

@@ -166,8 +166,7 @@ pub still_free : (ids : List ℕ) (i next n : ℕ) (keys after : List ℕ) (r : 
     → (is_bad (take (i + 1) ids) next ≡ false) × (after ≡ take (i + 1) ids)
 still_free ids i next n keys after r within is good held low added once now =
     let none = was_absent r (list_any (nat_eq n) keys) added once in
-    let more : take (i + 1) ids ≡ take i ids ++ n ∷ [] = take_more ids i n within ∙ ap (λ m. take i ids ++ (m ∷ [])) (sym is) in
-    (
+    let more : take (i + 1) ids ≡ take i ids ++ n ∷ [] = take_more ids i n within ∙ ap (λ m. take i ids ++ (m ∷ [])) (sym is) in (
       ap (λ l. is_bad l next) more ∙ still_good (take i ids) n next good (lt-leb next n low) (ap (list_any (nat_eq n)) (sym held) ∙ none),
       now ∙ ap (λ b. cond b keys (keys ++ n ∷ [])) none ∙ ap (λ l. l ++ n ∷ []) held ∙ sym more,
     )

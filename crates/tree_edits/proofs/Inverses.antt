@@ -75,8 +75,7 @@ module _ (before after : TreeValue) (whole : IsWhole before) (whole_after : IsWh
       let found = found_at after (named back) path element whole_after at has in
       let tests = all_fail (own_reasons back here) own in
       let same = ap (λ n. listed 1 n) root in
-      let bound : after.next_id + added back ≤ 2 ^ 32 = omega (arith, settled, whole_after.next) in
-      (
+      let bound : after.next_id + added back ≤ 2 ^ 32 = omega (arith, settled, whole_after.next) in (
         record {
           proper = proper;
           settled = settled;
@@ -96,7 +95,7 @@ module _ (before after : TreeValue) (whole : IsWhole before) (whole_after : IsWh
           });
         },
         ap (λ (n : Node). record { root = n; next_id = after.next_id + added back }) root
-        ∙ ap (λ (n : ℕ). record { root = before.root; next_id = n }) (ap (λ n. after.next_id + n) settled ∙ add-zero after.next_id),
+            ∙ ap (λ (n : ℕ). record { root = before.root; next_id = n }) (ap (λ n. after.next_id + n) settled ∙ add-zero after.next_id),
       )
 
 -- a change, and another of what it makes that leaves the element as it was, leave the root
@@ -166,9 +165,9 @@ module _ (tree : TreeValue) (whole : IsWhole tree) where
       let on_text : not (is_text_kind (head_of element).kind) ≡ false = sym (ap (at_target (is_not_text edit)) found) ∙ passes.on_text in
       let kind : (head_of now).kind ≡ (head_of element).kind = ap (λ (h : Head). h.kind) (head_rolled (with_text text (head_of element)) (children_of element)) in
       let reasons = none_holds (own_reasons back (shown (1 + length way.path) now))
-          (ap (λ k. not (is_text_kind k)) kind ∙ on_text, (refl, (refl, (refl, (refl, (refl, (not_not (is_short_enough old) own.text, tt))))))) in
+      (ap (λ k. not (is_text_kind k)) kind ∙ on_text, (refl, (refl, (refl, (refl, (refl, (not_not (is_short_enough old) own.text, tt))))))) in
       let root = own_change_law after back way.path now whole_after tt at has
-          ∙ led_back tree.root after.root element way.path (changed change) (changed (SetText old)) way.at made (undone element change 0 tt tt) in
+      ∙ led_back tree.root after.root element way.path (changed change) (changed (SetText old)) way.at made (undone element change 0 tt tt) in
       let is : back ≡ inverse tree edit = sym (ap (λ o. Text id (option_map_or (λ e. (head_of e).text) o [])) (element_is tree id.0 way.path element whole way.at way.has)) in
       subst (GivesBefore tree after) is (gives_before tree after whole whole_after back way.path now at has reasons refl tt root refl)
 
@@ -192,9 +191,9 @@ module _ (tree : TreeValue) (whole : IsWhole tree) where
       let exchange = attribute_exchanged tree way.path element whole way.at id name value way.has in
       let own = own_of_all exchange IsProper (recursion_from_All IsProper (listed 1 tree.root) whole.proper) in
       let reasons = none_holds (own_reasons back (shown (1 + length way.path) now))
-          (refl, (refl, (refl, (refl, (passes.named, (rtl_none name attributes own.left_to_right, (value_short name attributes (recursion_from_All IsProperAttribute attributes own.attributes), tt))))))) in
+      (refl, (refl, (refl, (refl, (passes.named, (rtl_none name attributes own.left_to_right, (value_short name attributes (recursion_from_All IsProperAttribute attributes own.attributes), tt))))))) in
       let root = own_change_law after back way.path now whole_after tt at has
-          ∙ led_back tree.root after.root element way.path (changed change) (changed (SetValue name old 0)) way.at made (undone element change 0 (omega arith) own.order) in
+      ∙ led_back tree.root after.root element way.path (changed change) (changed (SetValue name old 0)) way.at made (undone element change 0 (omega arith) own.order) in
       let is : back ≡ inverse tree edit =
       sym (ap (λ o. Attr id name (option_and_then (λ e. value_of name (head_of e).attributes) o)) (element_is tree id.0 way.path element whole way.at way.has)) in
       subst (GivesBefore tree after) is (gives_before tree after whole whole_after back way.path now at has reasons refl tt root refl)
@@ -216,7 +215,7 @@ module _ (tree : TreeValue) (whole : IsWhole tree) where
       let below : nat_eq (1 + length (path ++ (index ∷ []))) 1 ≡ false = ne_eqb (1 + length (path ++ (index ∷ []))) 1 (λ same. omega (arith, same, length_end path index)) in
       let reasons = none_holds (own_reasons back (shown (1 + length (path ++ (index ∷ []))) child)) (refl, (refl, (refl, (below, (refl, (refl, (refl, tt))))))) in
       let root = parent_change_law after back path now index child whole_after tt over there has
-          ∙ led_back tree.root after.root element path (changed change) (changed (Children (Take index))) at made (undone element change 0 (within, omega arith) tt) in
+      ∙ led_back tree.root after.root element path (changed change) (changed (Children (Take index))) at made (undone element change 0 (within, omega arith) tt) in
       gives_before tree after whole whole_after back (path ++ (index ∷ [])) child down has reasons refl tt root refl
 
   within : (edit : Edit) (path : List ℕ) (element : Node) (index : ℕ) → node_at path tree.root ≡ Some element → has_id (named edit) (head_of element) ≡ true
@@ -300,7 +299,7 @@ module _ (tree : TreeValue) (whole : IsWhole tree) where
       let again : changed (Children (splice_back (TakeAt place) (slice_get nodes place) 0)) now ≡ changed (Children (Put place child 0)) now =
       ap (λ o. changed (Children (splice_back (TakeAt place) o 0)) now) over.there in
       let root = own_change_law after back over.path now whole_after tt at has
-          ∙ led_back tree.root after.root parent over.path (changed change) (changed (Children (Put place child 0))) over.at made (sym again ∙ undone parent change 0 near tt) in
+      ∙ led_back tree.root after.root parent over.path (changed change) (changed (Children (Put place child 0))) over.at made (sym again ∙ undone parent change 0 near tt) in
       let unused = free_again after child (shown (1 + length over.path) parent) _ level [] after.next_id exchange refl tt (omega arith) in
       let is : back ≡ inverse tree edit =
       sym (ap (λ o. option_map_or (λ c. Graft c.over c.place c.element) o (Remove id))
@@ -330,7 +329,7 @@ module _ (tree : TreeValue) (whole : IsWhole tree) where
       let again : changed (Children (splice_back (ExchangeAt place) (slice_get nodes place) 0)) now ≡ changed (Children (Exchange place child)) now =
       ap (λ o. changed (Children (splice_back (ExchangeAt place) o 0)) now) there in
       let root = parent_change_law after back path now place other whole_after tt over here has
-          ∙ led_back tree.root after.root parent path (changed change) (changed (Children (Exchange place child))) at made (sym again ∙ undone parent change 0 near tt) in
+      ∙ led_back tree.root after.root parent path (changed change) (changed (Children (Exchange place child))) at made (sym again ∙ undone parent change 0 near tt) in
       gives_before tree after whole whole_after back (path ++ (place ∷ [])) other down has reasons refl proper root free
 
   replace_law : (id : NodeId) (new : Node) → All IsProper (listed 1 new) → refusal_of tree (Replace id new) ≡ None

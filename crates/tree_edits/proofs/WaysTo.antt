@@ -133,6 +133,6 @@ few_children tree path element whole at =
     let frame = framed 1 path tree.root element at in
     let here = listed (1 + length path) element in
     let all = ap length (before_change 1 path tree.root element at frame)
-        ∙ length-append frame.front (here ++ frame.back) ∙ ap (λ n. length frame.front + n) (length-append here frame.back) in
+    ∙ length-append frame.front (here ++ frame.back) ∙ ap (λ n. length frame.front + n) (length-append here frame.back) in
     let count = (counted element).few in
     omega (arith, all, length_at (1 + length path) element, count, whole.few)

@@ -94,7 +94,7 @@ read_elements-loop-value-preserved t c =
     let list = ReadParts.taken values at value c.loop-value-test.true c.value-item.is in
     rw (list, c.in_ok-push.ensures.ok) (
       ReadParts.one_more c.args.portion c.args.seen.now c.args.level (map view (take at values)) (view value) []
-      c.loop-value.seen c.read_element.new.seen c.loop-value.nodes c.in_ok-read_element.field-0
-      c.loop-value.invariant.0 c.in_ok-read_element.ensures.reads,
+          c.loop-value.seen c.read_element.new.seen c.loop-value.nodes c.in_ok-read_element.field-0
+          c.loop-value.invariant.0 c.in_ok-read_element.ensures.reads,
       Ordered.one_more c.args.level c.loop-value.nodes c.in_ok-read_element.field-0 c.loop-value.invariant.1 c.in_ok-read_element.ensures.order,
     )
