@@ -27,7 +27,7 @@ use Rattle.session_ring.specs.Undoable.{told}
 use Rattle.session_ring.specs.declared.moves.Move.{Move}
 use Rattle.session_ring.specs.declared.moves.Move.TheVariants.{Undo, Redo, Other}
 use Rattle.commands.specs.EditSteps.{TakesForEdit, accepted_by, unless_refused}
-use Rattle.commands.specs.History.{after_line, after_move, after_reply, moved_to, reply_by_move, reply_to, reply_to_move, session_in}
+use Rattle.commands.specs.History.{Remembered, after_command, after_line, after_move, after_reply, moved_to, reply_by_move, reply_to, reply_to_move, session_in}
 use Rattle.commands.specs.HistoryParts.{Makes, TellsEdit, TellsMove, kept_after_move}
 use Rattle.commands.specs.HistorySteps.{Kept, TakesForLine, TakesForMove, TakesUnlessWhite, kept_after, kept_by, ring_after, ring_after_move, ring_after_reply, session_under}
 use Rattle.commands.specs.Replies.{reply_by, reply_to_command, reply_to_edit}
@@ -225,3 +225,33 @@ pub line_takes : (ring : RingState) (line : List ℕ) (move : Move) (from to : �
 line_takes ring line move from to black is steps =
     subst (λ (white : Bool). TakesUnlessWhite white ring line from to) (sym black)
     (subst (λ (w : Move). TakesForMove w ring (command_in line) from to) is steps)
+
+-- ---- no line changes the metrics
+
+moved_keeps : (moved : Option History) (kept : Remembered) → (moved_to moved kept).metrics ≡ kept.metrics
+moved_keeps None kept = refl
+moved_keeps (Some history) kept = refl
+
+reply_keeps : (reply : Reply) (kept : Remembered) (edit : Edit) → (after_reply reply kept edit).metrics ≡ kept.metrics
+reply_keeps Nothing kept edit = refl
+reply_keeps Accepted kept edit = refl
+reply_keeps (Refused cause) kept edit = refl
+reply_keeps (Shown items) kept edit = refl
+
+command_keeps : (kept : Remembered) (asked : Option Command) → (after_command kept asked).metrics ≡ kept.metrics
+command_keeps kept None = refl
+command_keeps kept (Some Show) = refl
+command_keeps kept (Some (Change edit)) = reply_keeps (reply_to_edit (session_in kept) edit) kept edit
+
+move_keeps : (move : Move) (kept : Remembered) (asked : Option Command) → (after_move move kept asked).metrics ≡ kept.metrics
+move_keeps Undo kept asked = moved_keeps (after_undo kept.history) kept
+move_keeps Redo kept asked = moved_keeps (after_redo kept.history) kept
+move_keeps Other kept asked = command_keeps kept asked
+
+pub history_keeps : (kept : Remembered) (line : List ℕ) → (after_line kept line).metrics ≡ kept.metrics
+unfolding after_line
+history_keeps kept line = by (is_white_space line)
+  where
+    by : (white : Bool) → (if white then kept else after_move (move_in line) kept (command_in line)).metrics ≡ kept.metrics
+    by true = refl
+    by false = move_keeps (move_in line) kept (command_in line)
