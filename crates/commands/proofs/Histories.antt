@@ -226,6 +226,23 @@ line_takes ring line move from to black is steps =
     subst (λ (white : Bool). TakesUnlessWhite white ring line from to) (sym black)
     (subst (λ (w : Move). TakesForMove w ring (command_in line) from to) is steps)
 
+-- ---- what a line asks for otherwise
+
+module _ {E : Type 0} (old new : RingState) (line : List ℕ) (result : Result Reply E) where
+  pub asked_makes : (asked : Option Command) → command_in line ≡ asked
+      → Makes (reply_by_move Other (kept_by old).history asked) (kept_after_move Other (kept_by old) asked) old new result
+      → Makes (reply_by_move Other (kept_by old).history (command_in line)) (kept_after_move Other (kept_by old) (command_in line)) old new result
+  asked_makes asked is m =
+      subst (λ (a : Option Command). Makes (reply_by_move Other (kept_by old).history a) (kept_after_move Other (kept_by old) a) old new result) (sym is) m
+
+pub nothing_asked : {E : Type 0} (old : RingState)
+    → Makes {E = E} (reply_by_move Other (kept_by old).history None) (kept_after_move Other (kept_by old) None) old old (Ok (Refused NoCommand))
+nothing_asked old = record { reply = refl; glyphs = tt; after = refl }
+
+pub asked_takes : (ring : RingState) (line : List ℕ) (asked : Option Command) (from to : ℕ) → command_in line ≡ asked
+    → TakesForMove Other ring asked from to → TakesForMove Other ring (command_in line) from to
+asked_takes ring line asked from to is steps = subst (λ (a : Option Command). TakesForMove Other ring a from to) (sym is) steps
+
 -- ---- no line changes the metrics
 
 moved_keeps : (moved : Option History) (kept : Remembered) → (moved_to moved kept).metrics ≡ kept.metrics
