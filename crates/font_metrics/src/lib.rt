@@ -26,11 +26,15 @@ mod characters; // CharacterMap
 mod choices; // words of a small choice: FIX, prefix, block, A
 mod constant_table; // ConstantTable
 mod constants; // ConstName
+mod corner; // Corner
 mod fault; // LineFault
 mod given; // Given: what lines have given so far
 mod glyph; // GlyphId, Glyph
 mod glyphs; // GlyphTable
 mod growth; // Variant, Part
+mod kern; // Kern: the kern of a glyph at a corner
+mod kern_lines; // their lines
+mod kern_tables; // KernTables: kerns by corner and glyph
 mod keyword; // the first word of a line
 pub mod laws; // of all files: what their lines say, their first fault, their print
 mod lines; // the fields of each kind of line
@@ -50,6 +54,7 @@ mod texts; // the texts of a choice
 mod words; // numbers, codes and names
 
 pub use constants::ConstName;
+pub use corner::Corner;
 pub use fault::LineFault;
 pub use glyph::{Glyph, GlyphId};
 pub use growth::{Part, Variant};
