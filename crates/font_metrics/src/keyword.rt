@@ -54,7 +54,10 @@ const KEYWORDS: [(&str, Keyword); 13] = [
 pub fn keyword_of(word: &[u8]) -> Keyword
     ensures { result ≡ keyword_of word.now }
 {
-    choice_of(word, &KEYWORDS).unwrap_or(Keyword::Unknown)
+    match choice_of(word, &KEYWORDS) {
+        Some(keyword) => keyword,
+        None => Keyword::Unknown,
+    }
 }
 
 impl Keyword {

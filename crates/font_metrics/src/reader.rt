@@ -147,7 +147,10 @@ fn take_first(line: &[u8]) -> Result<u8, LineFault>
     }
     let mut words = LineWords::new();
     cut(line, &mut words);
-    version_in(words.as_slice()).ok_or(LineFault::WrongFirstLine)
+    match version_in(words.as_slice()) {
+        Some(version) => Ok(version),
+        None => Err(LineFault::WrongFirstLine),
+    }
 }
 
 /// The version of the words `mathlay-metrics` and `1` or `2`.

@@ -66,6 +66,7 @@ use Rattle.font_metrics.specs.declared.mark.Mark.{Mark}
 
 abbrev sample : MetricsValue
 sample = record {
+  version = 1;
   upem = 1024;
   line_ascent = 900;
   line_descent = 300;

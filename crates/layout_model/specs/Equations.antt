@@ -164,7 +164,7 @@ sup_outcome e =
 abbrev pub sub_sup_outcome : Element → Outcome
 sub_sup_outcome e =
     let scripted = sub_sup_of e.metrics (frame_at e 0) (has_large_base e) e.context.style.cramped (frame_at e 1) (frame_at e 2)
-        (sub_sup_corners e) (font e) in
+    (sub_sup_corners e) (font e) in
     outcome e scripted.frame
     (offset 0 (pos 0) (pos 0) ∷ offset 1 scripted.sub.x scripted.sub.y ∷ offset 2 scripted.sup.x scripted.sup.y ∷ []) []
 

@@ -109,7 +109,16 @@ fn sub_sup_in<V: View>(alloc: Global, e: &Element<V>) -> Result<Scripted, Memory
     let cramped = e.context().style.cramped;
     let (base, below, above) = (e.frame(0), e.frame(1), e.frame(2));
     let size = e.size();
-    Ok(sub_sup(&base, large, cramped, &below, &above, &from, size, e.metrics()))
+    Ok(sub_sup(
+        &base,
+        large,
+        cramped,
+        &below,
+        &above,
+        &from,
+        size,
+        e.metrics(),
+    ))
 }
 
 fn with_both<V: View>(alloc: Global, e: &Element<V>, scripted: &Scripted) -> Result<Outcome, Memory>

@@ -1,7 +1,7 @@
-ghost use Rattle.std.specs.Prelude.{◌≡◌, ◌^◌, pos, ◌≤ℤ◌, length};
+ghost use Rattle.std.specs.Prelude.{◌≡◌, ◌^◌, pos, ◌+ℤ◌, ◌≤ℤ◌, length};
 ghost use Rattle.fixed_units.specs.Boxes.{IsStored};
 ghost use Rattle.fixed_units.specs.Numbers.{IsWithin};
-ghost use Rattle.scripts.specs.Kerns.{AreInked};
+ghost use Rattle.scripts.specs.Kerns.{AreInked, sub_kern_of, sup_kern_of};
 ghost use Rattle.scripts.specs.Beside.{sub_x_of, sup_x_of, ending_at_of, sub_of, sup_of, sub_sup_of};
 
 use crate::kerns::{sub_kern, sup_kern};
@@ -31,7 +31,7 @@ pub fn sub(
     ensures { result ≡ sub_of metrics.now base.now large script.now from.now size }
 {
     let down = sub_shift(&SubLengths::at(metrics, size), base, script);
-    let x = sub_x(base, large) + sub_kern(from, base, script, down, metrics);
+    let x = sub_start(base, large, script, down, from, metrics);
     let parts = join(base, &raise(script, -down));
     Scripted {
         frame: ending_at(&parts, x + script.width, size, metrics),
@@ -59,7 +59,7 @@ pub fn sup(
     ensures { result ≡ sup_of metrics.now base.now large cramped script.now from.now size }
 {
     let up = sup_shift(&SupLengths::at(metrics, size, cramped), base, script);
-    let x = sup_x(base, large) + sup_kern(from, base, script, up, metrics);
+    let x = sup_start(base, large, script, up, from, metrics);
     let parts = join(base, &raise(script, up));
     Scripted {
         frame: ending_at(&parts, x + script.width, size, metrics),
@@ -88,8 +88,8 @@ pub fn sub_sup(
     ensures { result ≡ sub_sup_of metrics.now base.now large cramped sub.now sup.now from.now size }
 {
     let shifts = pair_shifts(base, cramped, sub, sup, size, metrics);
-    let below = sub_x(base, large) + sub_kern(from, base, sub, shifts.down, metrics);
-    let above = sup_x(base, large) + sup_kern(from, base, sup, shifts.up, metrics);
+    let below = sub_start(base, large, sub, shifts.down, from, metrics);
+    let above = sup_start(base, large, sup, shifts.up, from, metrics);
     let parts = join(
         &join(base, &raise(sub, -shifts.down)),
         &raise(sup, shifts.up),
@@ -111,7 +111,45 @@ pub fn sub_sup(
 /// The place of a script that isn't there.
 const ORIGIN: Spot = Spot { x: 0, y: 0 };
 
-/// Where a subscript begins: behind the base, or under the lean of a large operator.
+/// Where a subscript begins that is lowered so far, with the kerns of its corner.
+fn sub_start(
+    base: &MathBox,
+    large: bool,
+    sub: &MathBox,
+    down: i64,
+    from: &KernFrom,
+    metrics: &Metrics,
+) -> i64
+    requires base_fits { IsStored base.now }
+    requires sub_fits { IsStored sub.now }
+    requires down_in { IsWithin (2 ^ 40) down }
+    requires from { AreInked (length metrics.now.glyphs) from.now }
+    ensures value { result ≡ sub_x_of base.now large +ℤ sub_kern_of metrics.now from.now base.now sub.now down }
+    ensures within { IsWithin (2 ^ 34) result }
+{
+    sub_x(base, large) + sub_kern(from, base, sub, down, metrics)
+}
+
+/// Where a superscript begins that is raised so far, with the kerns of its corner.
+fn sup_start(
+    base: &MathBox,
+    large: bool,
+    sup: &MathBox,
+    up: i64,
+    from: &KernFrom,
+    metrics: &Metrics,
+) -> i64
+    requires base_fits { IsStored base.now }
+    requires sup_fits { IsStored sup.now }
+    requires up_in { IsWithin (2 ^ 40) up }
+    requires from { AreInked (length metrics.now.glyphs) from.now }
+    ensures value { result ≡ sup_x_of base.now large +ℤ sup_kern_of metrics.now from.now base.now sup.now up }
+    ensures within { IsWithin (2 ^ 34) result }
+{
+    sup_x(base, large) + sup_kern(from, base, sup, up, metrics)
+}
+
+/// Where a subscript begins without kerns: behind the base, or under the lean of a large operator.
 #[tactic(auto, using(fixed_units::proofs::Signed::from_bits), unfolding(crate::specs::Beside::sub_x_of))]
 fn sub_x(base: &MathBox, large: bool) -> i64
     requires { IsStored base.now }
@@ -125,7 +163,7 @@ fn sub_x(base: &MathBox, large: bool) -> i64
     }
 }
 
-/// Where a superscript begins: behind the base and what it leans, which the width of a large operator
+/// Where a superscript begins without kerns: behind the base and what it leans, which the width of a large operator
 /// holds already.
 #[tactic(auto, using(fixed_units::proofs::Signed::from_bits), unfolding(crate::specs::Beside::sup_x_of))]
 fn sup_x(base: &MathBox, large: bool) -> i64

@@ -35,7 +35,13 @@ pub fn sub_kern(from: &KernFrom, base: &MathBox, sub: &MathBox, down: i64, metri
     ensures within { IsWithin (2 ^ 33) result }
 {
     let raised = -down;
-    let at_sub = kerns_meeting(from.base_sub, from.sub, raised, sub.ink_ascent - down, metrics);
+    let at_sub = kerns_meeting(
+        from.base_sub,
+        from.sub,
+        raised,
+        sub.ink_ascent - down,
+        metrics,
+    );
     let at_base = kerns_meeting(from.base_sub, from.sub, raised, -base.ink_descent, metrics);
     at_sub.max(at_base)
 }
