@@ -4,6 +4,7 @@ pub mod Asked
 pub mod Carried
 pub mod Cells
 pub mod Children
+pub mod Cornerless
 pub mod Counted
 pub mod Drawn
 pub mod Fits

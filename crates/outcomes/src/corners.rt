@@ -13,6 +13,15 @@ use scripts::{Inked, KernFrom, NO_CORNERS};
 use std::alloc::Global;
 use token_boxes::token_glyph;
 
+/// The corners at which a subscript meets its base, and a superscript its.
+const BASE_OF_SUB: Corner = Corner::BottomRight;
+
+const SUB: Corner = Corner::TopLeft;
+
+const BASE_OF_SUP: Corner = Corner::TopRight;
+
+const SUP: Corner = Corner::BottomLeft;
+
 /// The only glyph that a child shows, at the child's font size in units.
 #[derive(Clone, Copy, Debug, PartialEq, Eq)]
 pub struct Alone {
@@ -31,8 +40,8 @@ pub fn sub_corners<V: View>(alloc: Global, e: &Element<V>) -> Result<KernFrom, M
     let base = alone_at(alloc, e, 0)?;
     let sub = alone_at(alloc, e, 1)?;
     Ok(KernFrom {
-        base_sub: corner_of(base, Corner::BottomRight),
-        sub: corner_of(sub, Corner::TopLeft),
+        base_sub: corner_of(base, BASE_OF_SUB),
+        sub: corner_of(sub, SUB),
         base_sup: None,
         sup: None,
     })
@@ -51,8 +60,8 @@ pub fn sup_corners<V: View>(alloc: Global, e: &Element<V>) -> Result<KernFrom, M
     Ok(KernFrom {
         base_sub: None,
         sub: None,
-        base_sup: corner_of(base, Corner::TopRight),
-        sup: corner_of(sup, Corner::BottomLeft),
+        base_sup: corner_of(base, BASE_OF_SUP),
+        sup: corner_of(sup, SUP),
     })
 }
 
@@ -68,10 +77,10 @@ pub fn sub_sup_corners<V: View>(alloc: Global, e: &Element<V>) -> Result<KernFro
     let sub = alone_at(alloc, e, 1)?;
     let sup = alone_at(alloc, e, 2)?;
     Ok(KernFrom {
-        base_sub: corner_of(base, Corner::BottomRight),
-        sub: corner_of(sub, Corner::TopLeft),
-        base_sup: corner_of(base, Corner::TopRight),
-        sup: corner_of(sup, Corner::BottomLeft),
+        base_sub: corner_of(base, BASE_OF_SUB),
+        sub: corner_of(sub, SUB),
+        base_sup: corner_of(base, BASE_OF_SUP),
+        sup: corner_of(sup, SUP),
     })
 }
 
