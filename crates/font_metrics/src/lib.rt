@@ -16,7 +16,7 @@
 //! - Change a line of the format: `specs/Fields.antt`, `specs/Reading.antt` and `specs/Print.antt`,
 //!   then `src/lines.rt`, `src/said.rt`, `src/taking.rt` and the mirror `src/print.rt`.
 //! - Add a table by glyph: a case of `Table` and a field of `Tables` (`src/table.rt`), its `Slot` in
-//!   `specs/Tables.antt`, how its lines are taken and printed (`Given::take_entry`, `print_table`), and
+//!   `specs/Tables.antt`, how its lines are taken and printed (`take_fields`, `print_table`), and
 //!   what is proved of its kind (`IsKind`, `proofs/TableKinds`). The rest is proved of all tables.
 #![tactic(auto)]
 
