@@ -215,9 +215,10 @@ module _ (node : Node) (place : ℕ) (child other : Node) (at : slice_get (child
               let told = slice_get-map (answer_of m node) (questions_in entry.one) index ∙ ap (option_map (answer_of m node)) q_at in
               let is : reply.answer ≡ answer_of m node question =
               sym (same_Some (answer_of m node question) reply.answer
-              (sym told ∙ ap (λ (l : List Answer). slice_get l index) (sym s.one) ∙ answer_there entry.one index reply at)) in
-              (is ∙ answer_made entry.context (questions_in entry.one) r index question q_at apart n,
-              named_made entry.context (questions_in entry.one) r index question q_at apart n);
+              (sym told ∙ ap (λ (l : List Answer). slice_get l index) (sym s.one) ∙ answer_there entry.one index reply at)) in (
+                is ∙ answer_made entry.context (questions_in entry.one) r index question q_at apart n,
+                named_made entry.context (questions_in entry.one) r index question q_at apart n,
+              );
         }
 
 -- what the regular entries of an unmarked memo tell after a change of one child

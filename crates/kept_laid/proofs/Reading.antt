@@ -23,7 +23,7 @@ use Rattle.layout_model.specs.declared.laid.Laid.TheViews.{roll-Laid}
 use Rattle.layout_model.specs.declared.outcome.Outcome.{Outcome}
 use Rattle.layout_model.proofs.Places.{first_below, second_below}
 use Rattle.layout_model.proofs.Trees.{laid_is}
-use Rattle.kept_results.specs.Kept.{Agrees, HasEntry, IsKept, IsSound, NamesKept}
+use Rattle.kept_results.specs.Kept.{Agrees, HasEntry, IsKept, IsSound, NamesKept, Stores}
 use Rattle.kept_results.specs.declared.memo.Entry.{Entry}
 use Rattle.kept_results.specs.declared.memo.Memo.{Memo}
 use Rattle.kept_results.specs.declared.memo.Memo.TheViews.{out-Memo}
@@ -50,8 +50,11 @@ module _ (m : MetricsValue) (node : Node) (memo : Memo) (entry : Entry) (agrees 
   pub all_named : AllByRecursion (NamesKept node (out-Memo memo).below) (asks_in entry)
   all_named = all_both (NamesKept node (out-Memo memo).below) (questions_in entry.one) (questions_in entry.two) sound.ones_kept sound.twos_kept
 
-  pub outcome_is : (context : Context) → entry.context ≡ context → entry.outcome ≡ lay m node context
-  outcome_is context is = sound.stores ∙ ap (lay m node) is
+  pub keeps_layout : (context : Context) → entry.context ≡ context → Stores entry (lay m node context)
+  keeps_layout context is = sound.stores ∙ ap (lay m node) is
+
+  pub outcome_is : (context : Context) → entry.context ≡ context → (outcome : Outcome) → Stores entry outcome → outcome ≡ lay m node context
+  outcome_is context is outcome stores = sym stores ∙ keeps_layout context is
 
   pub asks_are : (context : Context) → entry.context ≡ context → asks_in entry ≡ questions m (seen_of node) context (answer_of m node)
   unfolding questions
@@ -61,11 +64,11 @@ module _ (m : MetricsValue) (node : Node) (memo : Memo) (entry : Entry) (agrees 
       ∙ ap (λ (c : Context). questions m (seen_of node) c (answer_of m node)) is
 
   -- the head of the element, its outcome, and the children as they were asked last
-  pub laid_read : (context : Context) → entry.context ≡ context → (head : Head) (outcome : Outcome) (kids : List Laid) → head ≡ (out-Node node).head → outcome ≡ entry.outcome
+  pub laid_read : (context : Context) → entry.context ≡ context → (head : Head) (outcome stored : Outcome) (kids : List Laid) → head ≡ (out-Node node).head → outcome ≡ stored → Stores entry stored
       → kids ≡ kids_laid m node (asks_in entry) → roll-Laid record { head = head; outcome = outcome; kids = kids } ≡ laid m node context
-  laid_read context is head outcome kids h o k =
+  laid_read context is head outcome stored kids h o s k =
       ap (λ (x : Head). roll-Laid record { head = x; outcome = outcome; kids = kids }) h
-      ∙ ap (λ (x : Outcome). roll-Laid record { head = (out-Node node).head; outcome = x; kids = kids }) (o ∙ outcome_is context is)
+      ∙ ap (λ (x : Outcome). roll-Laid record { head = (out-Node node).head; outcome = x; kids = kids }) (o ∙ outcome_is context is stored s)
       ∙ ap (λ (x : List Laid). roll-Laid record { head = (out-Node node).head; outcome = lay m node context; kids = x }) (k ∙ ap (kids_laid m node) (asks_are context is))
       ∙ sym (laid_is m node context)
 

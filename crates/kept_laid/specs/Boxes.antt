@@ -14,7 +14,8 @@ pub record ElementBox : Type 0 where
   pub frame : MathBox
 
 abbrev pub boxes_over : Laid-F (List ElementBox) → List ElementBox
-boxes_over layer = record { id = layer.head.id; frame = layer.outcome.answer.frame } ∷ flat_map (λ kid. kid) layer.kids
+boxes_over layer = record { id = layer.head.id; frame = layer.outcome.answer.frame }
+    ∷ flat_map (λ kid. kid) layer.kids
 
 -- all elements in flow of a tree that is laid out, in document order
 unfoldable pub boxes : Laid → List ElementBox
@@ -22,7 +23,8 @@ boxes laid = fold-Laid (List ElementBox) boxes_over laid
 
 -- the box of the first of them with an id, where there is one
 abbrev pub first_box : NodeId → List ElementBox → Option MathBox
-first_box id elements = option_map (λ element. element.frame) (find (λ element. nat_eq element.id.0 id.0) elements)
+first_box id elements =
+    option_map (λ element. element.frame) (find (λ element. nat_eq element.id.0 id.0) elements)
 
 abbrev pub box_in : NodeId → Laid → Option MathBox
 box_in id laid = first_box id (boxes laid)

@@ -16,10 +16,12 @@ KeepsNoOther m node context memo = (pair : Pair) → IsPairKept memo pair → Ne
 
 -- there are then at most twice as many as there are elements
 abbrev pub FewLaw : Type 0
-FewLaw = (m : MetricsValue) (node : Node) (context : Context) (memo : Memo) → MayBeAsked m node context → Agrees m node memo →
+FewLaw = (m : MetricsValue) (node : Node) (context : Context) (memo : Memo)
+    → MayBeAsked m node context → Agrees m node memo →
     KeepsNoOther m node context memo → kept_count memo ≤ 2 * element_count node
 
 -- and no more than this, where there are no more elements than a tree may have
 abbrev pub LimitLaw : Type 0
-LimitLaw = (m : MetricsValue) (node : Node) (context : Context) (memo : Memo) → MayBeAsked m node context → Agrees m node memo →
+LimitLaw = (m : MetricsValue) (node : Node) (context : Context) (memo : Memo)
+    → MayBeAsked m node context → Agrees m node memo →
     KeepsNoOther m node context memo → element_count node ≤ 65_536 → kept_count memo ≤ 131_072

@@ -35,4 +35,5 @@ pub record IsKid (node : Node) (memo : Memo) (kid : KeptLayout) : Type 0 where
   pub kept : IsKept (out-Memo kid.memo.now) kid.context.now
 
 abbrev pub AreKids : Node → Memo → List KeptLayout → Type 0
-AreKids node memo kids = (index : ℕ) (kid : KeptLayout) → slice_get kids index ≡ Some kid → IsKid node memo kid
+AreKids node memo kids = (index : ℕ) (kid : KeptLayout) → slice_get kids index ≡ Some kid
+    → IsKid node memo kid

@@ -11,4 +11,5 @@ all_children node = children_from 0 (out-Node node).children
 
 -- so many of the children before a place may be in flow
 abbrev pub shown_before : Node → ℕ → ℕ
-shown_before node place = length (shown_by laid_child (facts node).laid (take place (all_children node)))
+shown_before node place =
+    length (shown_by laid_child (facts node).laid (take place (all_children node)))

@@ -28,7 +28,8 @@ pub fn count_or_most(memo: &Memo) -> usize
 
 /// How many of them are the element's own.
 fn count_here(memo: &Memo) -> usize
-    ensures { result ≡ length (filter (is_no_older_one (is_marked (out-Memo memo.now))) (out-Memo memo.now).entries) }
+    ensures { result ≡ length (filter (is_no_older_one (is_marked (out-Memo memo.now)))
+        (out-Memo memo.now).entries) }
 {
     memo.entries
         .as_slice()

@@ -18,17 +18,18 @@ use kept_results::{Entry, Memo};
 use layout_model::Context;
 use math_tree::{Node, NodeId};
 
-/// The box of the element with an id in the layout of an element in a context, from what is kept; none
-/// where no element in flow there has that id. It takes no memory.
+/// The box of the element with an id in the layout of an element in a context, from what is kept;
+/// none where no element in flow there has that id. It takes no memory.
 #[cycle(boxes)]
 pub fn box_of(node: &Node, memo: &Memo, context: &Context, id: NodeId) -> Option<MathBox>
     requires agrees { AgreesWithSome node.now memo.now }
     requires kept { IsKept (out-Memo memo.now) context.now }
-    ensures { (m : MetricsValue) → Agrees m node.now memo.now → result ≡ box_in id (laid m node.now context.now) }
+    ensures { (m : MetricsValue) → Agrees m node.now memo.now →
+        result ≡ box_in id (laid m node.now context.now) }
 {
     let entry = kept_entry(memo, context);
     if node.head.id.0 == id.0 {
-        return Some(entry.outcome.answer.frame);
+        return Some(entry.answer().frame);
     }
     box_of_kids(node, memo, entry, id)
 }
@@ -39,7 +40,8 @@ fn box_of_kids(node: &Node, memo: &Memo, entry: &Entry, id: NodeId) -> Option<Ma
     requires agrees { AgreesWithSome node.now memo.now }
     requires has { HasEntry (out-Memo memo.now) entry.now }
     ensures { (m : MetricsValue) → Agrees m node.now memo.now →
-        result ≡ box_below id (kids_laid m node.now (questions_in entry.now.one ++ questions_in entry.now.two)) }
+        result ≡ box_below id
+        (kids_laid m node.now (questions_in entry.now.one ++ questions_in entry.now.two)) }
 {
     let mut index = 0;
     for place in 0..memo.below.len() {
@@ -66,7 +68,8 @@ fn box_of_kid(
 ) -> Option<MathBox>
     requires agrees { AgreesWithSome child.now below.now }
     requires kept { (context : ContextValue) →
-        last_context (questions_in entry.now.one ++ questions_in entry.now.two) index ≡ Some context → IsKept (out-Memo below.now) context }
+        last_context (questions_in entry.now.one ++ questions_in entry.now.two) index ≡ Some context
+        → IsKept (out-Memo below.now) context }
     ensures { (m : MetricsValue) → Agrees m child.now below.now →
         result ≡ option_and_then (λ context. box_in id (laid m child.now context))
         (last_context (questions_in entry.now.one ++ questions_in entry.now.two) index) }

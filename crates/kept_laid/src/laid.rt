@@ -7,9 +7,9 @@ ghost use Rattle.kept_results.specs.Kept.{Agrees, HasEntry, IsKept};
 ghost use Rattle.kept_results.specs.declared.memo.Memo.TheViews.{out-Memo};
 ghost use Rattle.kept_laid.specs.Laid.{AgreesWithSome, AreKids, kids_laid, laid_kid};
 
+use crate::copies::copy_of;
 use crate::last::last_contexts;
 use crate::lookup::kept_entry;
-use crate::outcomes::copy_of;
 use embellished::{NodeView, View};
 use fixed_units::{List, Memory};
 use kept_results::{Entry, Memo, facts_below};
@@ -25,20 +25,21 @@ pub struct KeptLayout<'a> {
     pub context: &'a Context,
 }
 
-/// The layout of an element in a context, with all elements in flow below it, from what is kept: its
-/// heads are those of the tree, its outcomes those of entries. With any metrics with which the memo
-/// agrees, it is what a fresh layout gives.
+/// The layout of an element in a context, with all elements in flow below it, from what is kept:
+/// its heads are those of the tree, its outcomes those of entries. With any metrics with which the
+/// memo agrees, it is what a fresh layout gives.
 #[cycle(read)]
 pub fn laid_of(alloc: Global, node: &Node, memo: &Memo, context: &Context) -> Result<Laid, Memory>
     requires agrees { AgreesWithSome node.now memo.now }
     requires few { element_count node.now ≤ 65_536 }
     requires kept { IsKept (out-Memo memo.now) context.now }
-    ensures { IfOk result (λ all. (m : MetricsValue) → Agrees m node.now memo.now → all ≡ laid m node.now context.now) }
+    ensures { IfOk result (λ all. (m : MetricsValue) → Agrees m node.now memo.now →
+        all ≡ laid m node.now context.now) }
 {
     let entry = kept_entry(memo, context);
     Ok(Laid {
         head: node.head.copy(alloc)?,
-        outcome: copy_of(alloc, &entry.outcome)?,
+        outcome: copy_of(alloc, entry.outcome())?,
         kids: laid_kids(alloc, node, memo, entry)?,
     })
 }
@@ -60,7 +61,8 @@ fn laid_kids(alloc: Global, node: &Node, memo: &Memo, entry: &Entry) -> Result<L
     Ok(all)
 }
 
-/// The children in flow that an element asked for an entry, each in the context of the last question to it.
+/// The children in flow that an element asked for an entry, each in the context of the last
+/// question to it.
 pub fn kept_kids<'a>(
     alloc: Global,
     node: &'a Node,
@@ -72,7 +74,8 @@ pub fn kept_kids<'a>(
     requires has { HasEntry (out-Memo memo.now) entry.now }
     ensures kept { IfOk result (λ kids. AreKids node.now memo.now kids.items) }
     ensures laid { IfOk result (λ kids. (m : MetricsValue) → Agrees m node.now memo.now →
-        map (laid_kid m) kids.items ≡ kids_laid m node.now (questions_in entry.now.one ++ questions_in entry.now.two)) }
+        map (laid_kid m) kids.items ≡ kids_laid m node.now (questions_in entry.now.one ++
+        questions_in entry.now.two)) }
 {
     let facts = facts_below(alloc, memo.below.as_slice())?;
     let view = NodeView::make(alloc, node, memo.facts, &facts)?;

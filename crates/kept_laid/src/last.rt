@@ -20,7 +20,9 @@ pub fn last_contexts<'a>(
     requires ones { All (IsBelow count) (questions_in entry.now.one) }
     requires twos { All (IsBelow count) (questions_in entry.now.two) }
     ensures as_many { IfOk result (λ places. length places.items ≡ count) }
-    ensures last { IfOk result (λ places. AreLast (questions_in entry.now.one ++ questions_in entry.now.two) (seen_contexts places.items)) }
+    ensures last { IfOk result
+        (λ places. AreLast (questions_in entry.now.one ++ questions_in entry.now.two)
+        (seen_contexts places.items)) }
 {
     let mut places = none_asked(alloc, count)?;
     put_all(&entry.one, &mut places);
@@ -52,10 +54,11 @@ fn put_all<'a>(replies: &'a List<Reply>, places: &mut Vec<Option<&'a Context>>)
     }
 }
 
-/// The context of the last question to a child in flow for an entry, where there is one. It takes no
-/// memory.
+/// The context of the last question to a child in flow for an entry, where there is one. It takes
+/// no memory.
 pub fn last_asked<'a>(entry: &'a Entry, kid: usize) -> Option<&'a Context>
-    ensures { seen_context result ≡ last_context (questions_in entry.now.one ++ questions_in entry.now.two) kid }
+    ensures { seen_context result ≡ last_context (questions_in entry.now.one ++
+        questions_in entry.now.two) kid }
 {
     let first = last_among(None, &entry.one, kid);
     last_among(first, &entry.two, kid)

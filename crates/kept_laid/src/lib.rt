@@ -13,12 +13,12 @@
 
 mod amount; // how many entries there are
 mod boxes; // the box of an element by its id
+mod copies; // outcomes once more
 mod ids; // which elements have an id
 mod last; // the last question to each child
 pub mod laws; // what holds of all kept layouts
 mod laid; // a tree of kept layouts
 mod lookup; // one entry of an element
-mod outcomes; // outcomes once more
 mod places; // which children may be in flow
 
 pub use amount::{count, count_or_most};

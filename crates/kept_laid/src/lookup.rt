@@ -12,15 +12,17 @@ use layout_model::{Answer, Context};
 /// The answer that is kept of the root of a tree in a context. It takes no memory.
 pub fn root_answer<'a>(memo: &'a Memo, context: &Context) -> &'a Answer
     requires kept { IsKept (out-Memo memo.now) context.now }
-    ensures { (m : MetricsValue) (node : Node) → Agrees m node memo.now → result.now ≡ (lay m node context.now).answer }
+    ensures { (m : MetricsValue) (node : Node) → Agrees m node memo.now →
+        result.now ≡ (lay m node context.now).answer }
 {
-    &kept_entry(memo, context).outcome.answer
+    kept_entry(memo, context).answer()
 }
 
 /// The box that is kept of the root of a tree in a context. It takes no memory.
 pub fn root_box(memo: &Memo, context: &Context) -> MathBox
     requires kept { IsKept (out-Memo memo.now) context.now }
-    ensures { (m : MetricsValue) (node : Node) → Agrees m node memo.now → result ≡ (lay m node context.now).answer.frame }
+    ensures { (m : MetricsValue) (node : Node) → Agrees m node memo.now →
+        result ≡ (lay m node context.now).answer.frame }
 {
     root_answer(memo, context).frame
 }
@@ -41,8 +43,10 @@ pub fn kept_entry<'a>(memo: &'a Memo, context: &Context) -> &'a Entry
 
 /// Is this an entry in a context, and no older one?
 fn serves(memo: &Memo, entry: &Entry, context: &Context) -> bool
-    ensures yes { result ≡ true → (is_live (is_marked (out-Memo memo.now)) entry.now ≡ true) × (entry.now.context ≡ context.now) }
-    ensures no { result ≡ false → is_live (is_marked (out-Memo memo.now)) entry.now ≡ true → entry.now.context ≡ context.now → ⊥ }
+    ensures yes { result ≡ true → (is_live (is_marked (out-Memo memo.now)) entry.now ≡ true) ×
+        (entry.now.context ≡ context.now) }
+    ensures no { result ≡ false → is_live (is_marked (out-Memo memo.now)) entry.now ≡ true →
+        entry.now.context ≡ context.now → ⊥ }
 {
     is_live(memo, entry) && entry.context.is_same(context)
 }

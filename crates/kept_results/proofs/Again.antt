@@ -1,24 +1,23 @@
 -- A regular element again, of which layout sees the same but for one child.
-use Rattle.std.proofs.Common.{◌≡◌, ◌∙◌, ◌⊎◌, inl, inr, refl, sym, ap, subst, ℕ, zero, suc, ◌+◌, ◌<◌, ◌≤◌, arith, Bool, true, false, cond, ◌&&◌, List, [], ◌∷◌, get_or, length, map, length-set, set, All, Option, None, Some, is_some, slice_get, nat_eq}
-use Rattle.std.proofs.lemmas.Bool.{eq-eqb, ne_eqb}
+use Rattle.std.proofs.Common.{◌≡◌, ◌∙◌, ◌⊎◌, inl, inr, refl, sym, ap, subst, ℕ, ◌+◌, ◌<◌, ◌≤◌, arith, Bool, true, false, cond, List, [], ◌∷◌, get_or, length, map, length-set, set, All, Option, None, Some, is_some, slice_get}
+use Rattle.std.proofs.lemmas.Bool.{eq-eqb}
 use Rattle.std.proofs.lemmas.Bool.Decides.{eqb_tells}
 use Rattle.std.proofs.lemmas.List.{length-map}
-use Rattle.std.proofs.lemmas.List.Elements.{All-nil, All-set}
-use Rattle.std.proofs.lemmas.List.Folds.{list_all-append}
-use Rattle.std.proofs.lemmas.Option.{get_or_from_slice_get, none-some, same_Some, slice_get-map, slice_get_within}
-use Rattle.std.specs.List.{AllByRecursion, flat_map, list_all}
-use Rattle.std.specs.Option.{option_and_then, option_map, option_map_or}
+use Rattle.std.proofs.lemmas.List.Elements.{All-set}
+use Rattle.std.proofs.lemmas.Option.{get_or_from_slice_get, none-some, same_Some, slice_get_within}
+use Rattle.std.specs.List.{AllByRecursion}
+use Rattle.std.specs.Option.{option_and_then, option_map_or}
 use Rattle.font_metrics.specs.Metrics.{MetricsValue}
 use Rattle.math_tree.specs.Trees.{element_count}
 use Rattle.math_tree.specs.declared.node.Node.{Node}
 use Rattle.math_tree.specs.declared.node.Node.TheViews.{out-Node}
-use Rattle.embellished.specs.Seen.{Child, HasChild, Seen, flow_children, flow_nodes, seen_of}
+use Rattle.embellished.specs.Seen.{Child, HasChild, flow_children, seen_of}
 use Rattle.style_scope.specs.Sizes.{size_of}
 use Rattle.embellished.proofs.InFlow.{among, shown}
 use Rattle.layout_model.specs.Answers.{answers_in, questions_in}
-use Rattle.layout_model.specs.Laws.{answer_of, visits_below}
+use Rattle.layout_model.specs.Laws.{answer_of}
 use Rattle.layout_model.specs.Fits.{AreAnswers, HasStyle}
-use Rattle.layout_model.specs.Layout.{equation, in_range, lay, visit_fits}
+use Rattle.layout_model.specs.Layout.{equation, in_range, lay}
 use Rattle.layout_model.specs.Questions.{IsBelow, first}
 use Rattle.layout_model.specs.Range.{is_font_size, outcome_fits}
 use Rattle.layout_model.specs.declared.context.Context.{Context}
@@ -31,7 +30,7 @@ use Rattle.layout_model.proofs.Places.{first_below}
 use Rattle.layout_model.proofs.Replies.{answer_there, answers_set, as_many, asked_within, question_there, question_was, questions_set}
 use Rattle.layout_model.proofs.Children.{few_children, in_flow}
 use Rattle.layout_model.proofs.Fits.{answers_are as answers_are_stored}
-use Rattle.layout_model.proofs.Waves.{all_fit, broken, fits_below}
+use Rattle.layout_model.proofs.Waves.{all_fit, broken}
 use Rattle.layout_model.proofs.Whole.{ones_false, range_waves}
 use Rattle.child_questions.proofs.Unstretched.{one_wave}
 use Rattle.kept_results.specs.Contexts.{IsProper, Suits}
@@ -49,67 +48,15 @@ use Rattle.kept_results.specs.declared.memo.Origin.{Origin}
 use Rattle.kept_results.specs.declared.memo.Origin.TheVariants.{Standing}
 use Rattle.kept_results.specs.declared.memo.Memo.TheOpen.{Memo-F}
 use Rattle.kept_results.specs.declared.memo.Memo.TheViews.{out-Memo, out-roll-Memo, roll-Memo}
-use Rattle.kept_results.proofs.Agreement.{agrees_child, has_put, names_renewed, renewed}
+use Rattle.kept_results.proofs.Agreement.{has_put, names_renewed, renewed}
 use Rattle.kept_results.proofs.Lists.{set_back, set_here, set_other}
 use Rattle.kept_results.proofs.Passing.{fresh_live, pair_at, passes_both, passes_put, passes_step, passes_under, under}
+use Rattle.kept_results.proofs.Restyling.{all_at, all_named_fit, kid_stays, map_was, mapped_at, other_stays}
 use Rattle.kept_results.proofs.Shown.{as_many_kids, flow_at, read_at, there_is}
 use Rattle.kept_results.proofs.Tidying.{stands, tidy_again}
 use Rattle.kept_results.proofs.Turns.{Waves, facts_known, missing_same, needed_below, ones_proper, own_entries, own_mark, pass_ones, sound_made, waves_fit, waves_lay, waves_unfit}
 
--- ---- lists by their places
-
-map_was : {A B : Type 0} (f : A → B) (xs : List A) (i : ℕ) (y : B) → slice_get (map f xs) i ≡ Some y → (x : A) × (slice_get xs i ≡ Some x) × (y ≡ f x)
-map_was f [] i y h = absurd (none-some y h)
-map_was f (x ∷ xs) zero y h = (x, refl, sym (same_Some (f x) y h))
-map_was f (x ∷ xs) (suc i) y h = map_was f xs i y h
-
-mapped_at : {A B : Type 0} (f : A → B) (ys : List B) (xs : List A) → length ys ≡ length xs
-    → ((i : ℕ) (y : B) (x : A) → slice_get ys i ≡ Some y → slice_get xs i ≡ Some x → y ≡ f x) → ys ≡ map f xs
-mapped_at f [] [] l h = refl
-mapped_at f [] (x ∷ xs) l h = absurd (omega (arith, l))
-mapped_at f (y ∷ ys) [] l h = absurd (omega (arith, l))
-mapped_at {A} {B} f (y ∷ ys) (x ∷ xs) l h =
-    ap (λ (z : B). z ∷ ys) (h 0 y x refl refl) ∙ ap (λ (rest : List B). f x ∷ rest) (mapped_at f ys xs (omega (arith, l)) (λ i. h (suc i)))
-
-all_at : {A : Type 0} (P : A → Type 0) (xs : List A) → ((i : ℕ) (x : A) → slice_get xs i ≡ Some x → P x) → AllByRecursion P xs
-all_at P [] h = tt
-all_at P (x ∷ xs) h = (h 0 x refl, all_at P xs (λ i. h (suc i)))
-
-pub no_answers : (answers : List Answer) → answers ≡ [] → AreAnswers answers
-no_answers answers e =
-    let none : AreAnswers [] = record { fit = All-nil _; few = All-nil _ } in
-    subst AreAnswers (sym e) none
-
--- ---- what is kept is in range
-
-module _ (m : MetricsValue) (node : Node) where
-  named_fits : (memo : Memo) (question : Question) → Agrees m node memo → NamesKept node (out-Memo memo).below question
-      → list_all (visit_fits m) (visits_below m node question) ≡ true
-  named_fits memo question h n =
-      let child : Child = n.child in
-      let node_at : slice_get (flow_nodes node) question.kid ≡ Some child.node =
-      slice_get-map (λ (c : Child). c.node) (flow_children node) question.kid ∙ ap (option_map (λ (c : Child). c.node)) n.to in
-      let below = agrees_child m node memo child.place child.node n.memo h (among node question.kid child n.to) n.at in
-      let sound = (below.at [] child.node n.memo (refl, refl)).sound n.kept.entry n.kept.has in
-      fits_below m node question child.node node_at ∙ ap (in_range m child.node) (sym n.kept.in_context) ∙ sound.fits
-
-  pub all_named_fit : (memo : Memo) (asks : List Question) → Agrees m node memo → AllByRecursion (NamesKept node (out-Memo memo).below) asks → all_fit m node asks ≡ true
-  all_named_fit memo [] h k = refl
-  all_named_fit memo (question ∷ asks) h k =
-      list_all-append (visit_fits m) (visits_below m node question) (flat_map (visits_below m node) asks)
-      ∙ ap (λ (b : Bool). b && all_fit m node asks) (named_fits memo question h k.0) ∙ all_named_fit memo asks h k.1
-
 -- ---- what the element asks
-
-kid_stays : (m : MetricsValue) (seen : Seen) (context : Context) (place : ℕ) (question : Question) → (restyled_at m seen context place question).kid ≡ question.kid
-kid_stays m seen context place question = by (nat_eq question.kid place)
-  where
-    by : (b : Bool) → (cond b (restyled m seen context question) question).kid ≡ question.kid
-    by true = refl
-    by false = refl
-
-other_stays : (m : MetricsValue) (seen : Seen) (context : Context) (place : ℕ) (question : Question) → (question.kid ≡ place → ⊥) → restyled_at m seen context place question ≡ question
-other_stays m seen context place question other = ap (λ (b : Bool). cond b (restyled m seen context question) question) (ne_eqb question.kid place other)
 
 module _ (m : MetricsValue) (node : Node) (memo : Memo) (context : Context) (before : Earlier) (h : Agrees m node memo) (b : IsEarlier (out-Memo memo) context before) where
   abbrev restyle : Question → Question

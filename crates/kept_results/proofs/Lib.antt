@@ -9,6 +9,7 @@ pub mod Made
 pub mod Passing
 pub mod Renewing
 mod Replacing
+pub mod Restyling
 pub mod Sealing
 pub mod Shown
 pub mod Tidying

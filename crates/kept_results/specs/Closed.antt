@@ -16,14 +16,16 @@ use Rattle.kept_results.specs.declared.memo.Memo.{Memo}
 use Rattle.kept_results.specs.declared.memo.Memo.TheViews.{out-Memo}
 
 -- a question of an element names this entry of the child to which it goes
-pub record Names (node : Node) (below : List Memo) (question : Question) (child : Child) (memo : Memo) (entry : Entry) : Type 0 where
+pub record Names (node : Node) (below : List Memo) (question : Question) (child : Child)
+    (memo : Memo) (entry : Entry) : Type 0 where
   pub to : slice_get (flow_children node) question.kid ≡ Some child
   pub at : slice_get below child.place ≡ Some memo
   pub has : HasEntry (out-Memo memo) entry
   pub in_context : entry.context ≡ question.context
 
 -- it names an entry that keeps this answer
-pub record NamesAnswer (node : Node) (below : List Memo) (question : Question) (answer : Answer) : Type 0 where
+pub record NamesAnswer (node : Node) (below : List Memo) (question : Question) (answer : Answer)
+    : Type 0 where
   pub child : Child
   pub memo : Memo
   pub entry : Entry
@@ -32,9 +34,10 @@ pub record NamesAnswer (node : Node) (below : List Memo) (question : Question) (
   pub stores : Stores entry outcome
   pub answers : outcome.answer ≡ answer
 
--- the entries that it names are those of exactly what its element asks in both waves, and its outcome is the
--- equation of its element over their answers
-pub record IsClosed (m : MetricsValue) (node : Node) (below : List Memo) (entry : Entry) : Type 0 where
+-- the entries that it names are those of exactly what its element asks in both waves, and its
+-- outcome is the equation of its element over their answers
+pub record IsClosed (m : MetricsValue) (node : Node) (below : List Memo) (entry : Entry)
+    : Type 0 where
   pub one : List Answer
   pub two : List Answer
   pub ones : questions_in entry.one ≡ first m (seen_of node) entry.context
@@ -48,12 +51,14 @@ abbrev pub IsReached : List ℕ → Node → Memo → Entry → Node → Memo �
 IsReached [] node memo entry element kept other = (element ≡ node) × (kept ≡ memo) × (other ≡ entry)
 IsReached (place ∷ path) node memo entry element kept other =
     (question : Question) × (child : Child) × (below : Memo) × (next : Entry)
-    × Contains (questions_in entry.one ++ questions_in entry.two) question × Names node (out-Memo memo).below question child below next
+    × Contains (questions_in entry.one ++ questions_in entry.two) question
+    × Names node (out-Memo memo).below question child below next
     × (child.place ≡ place) × IsReached path child.node below next element kept other
 
 -- where an entry and all that are reached from it are closed, it keeps the layout of its element
 abbrev pub ClosedLaw : Type 0
 ClosedLaw = (m : MetricsValue) (node : Node) (memo : Memo) (entry : Entry) →
-    ((path : List ℕ) (element : Node) (kept : Memo) (other : Entry) → IsReached path node memo entry element kept other →
+    ((path : List ℕ) (element : Node) (kept : Memo) (other : Entry)
+    → IsReached path node memo entry element kept other →
     IsClosed m element (out-Memo kept).below other) →
     Stores entry (lay m node entry.context)

@@ -9,8 +9,9 @@ use Rattle.layout_model.specs.Waves.{MayAsk, MayBeAsked}
 use Rattle.layout_model.specs.declared.context.Context.{Context}
 use Rattle.layout_model.specs.declared.context.Question.{Question}
 
--- an element may be laid out in a context: its style keeps the bounds of styles, what stretches can be stored, and
--- only an operator is stretched, along its own axis, and only a row of a table has columns
+-- an element may be laid out in a context: its style keeps the bounds of styles, what stretches can
+-- be stored, and only an operator is stretched, along its own axis, and only a row of a table has
+-- columns
 pub record Suits (m : MetricsValue) (node : Node) (context : Context) : Type 0 where
   pub style : IsStyle context.style
   pub stretch : IsStretch context.stretch

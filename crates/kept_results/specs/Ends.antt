@@ -25,12 +25,14 @@ restored entry before = record {
   origin = Standing;
 }
 
--- what there was of an entry before the present pass, by how it stands to that: nothing where the pass made it. Where it was made
--- anew there is one thing that it was before, since a pass does so once; nothing would stand for none
+-- what there was of an entry before the present pass, by how it stands to that: nothing where the
+-- pass made it. Where it was made anew there is one thing that it was before, since a pass does so
+-- once; nothing would stand for none
 abbrev pub undone_from : Origin → Entry → List Entry
 undone_from Standing entry = entry ∷ []
 undone_from Made entry = []
-undone_from (Remade was) entry = option_map_or (λ before. restored entry before ∷ []) (slice_get was 0) []
+undone_from (Remade was) entry =
+    option_map_or (λ before. restored entry before ∷ []) (slice_get was 0) []
 
 abbrev pub undone : Entry → List Entry
 undone entry = undone_from entry.origin entry

@@ -18,7 +18,8 @@ AllKept m node context memo = (pair : Pair) → Needs m node context pair → Is
 
 -- where the layout of the root is kept, so is all that it needs
 abbrev pub KeptLaw : Type 0
-KeptLaw = (m : MetricsValue) (node : Node) (memo : Memo) (context : Context) → Agrees m node memo → HoldsOne [] memo context → AllKept m node context memo
+KeptLaw = (m : MetricsValue) (node : Node) (memo : Memo) (context : Context) → Agrees m node memo
+    → HoldsOne [] memo context → AllKept m node context memo
 
 abbrev pub unmarked_layer : Memo-F Bool → Bool
 unmarked_layer layer = not (is_marked layer) && list_all (λ below. below) layer.below
@@ -33,12 +34,14 @@ pub record WasHeld (path : List ℕ) (memo : Memo) (entry : Entry) : Type 0 wher
   pub held : Holds path memo former
   pub is : entry ≡ settled former
 
--- after the seal the state is as before, just the entries that are no older ones are there, there are no marks,
--- and nothing is fresh
+-- after the seal the state is as before, just the entries that are no older ones are there, there
+-- are no marks, and nothing is fresh
 pub record Seals (m : MetricsValue) (node : Node) (memo : Memo) : Type 0 where
   pub agrees : Agrees m node (sealed memo)
-  pub stays : (path : List ℕ) (entry : Entry) → Holds path memo entry → Holds path (sealed memo) (settled entry)
-  pub was : (path : List ℕ) (entry : Entry) → Holds path (sealed memo) entry → WasHeld path memo entry
+  pub stays : (path : List ℕ) (entry : Entry) → Holds path memo entry
+      → Holds path (sealed memo) (settled entry)
+  pub was : (path : List ℕ) (entry : Entry) → Holds path (sealed memo) entry
+      → WasHeld path memo entry
   pub unmarked : is_unmarked (sealed memo) ≡ true
   pub plain : stripped (sealed memo) ≡ sealed memo
 

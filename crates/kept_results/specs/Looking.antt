@@ -24,14 +24,16 @@ pub record HasAnswer (layer : Memo-F Memo) (context : Context) (answer : Answer)
   pub stores : Stores entry outcome
   pub answers : outcome.answer ≡ answer
 
--- an entry of before the present edit, in a context, of a regular element that asked the child at a place
+-- an entry of before the present edit, in a context, of a regular element that asked the child at a
+-- place
 pub record CanServe (entry : Entry) (context : Context) (child : ℕ) : Type 0 where
   pub older : is_fresh entry ≡ false
   pub regular : entry.regular ≡ true
   pub within : child < length entry.one
   pub in_context : entry.context ≡ context
 
--- this names such an entry, and the place of a child but for which layout sees the same of the element
+-- this names such an entry, and the place of a child but for which layout sees the same of the
+-- element
 pub record IsEarlier (layer : Memo-F Memo) (context : Context) (before : Earlier) : Type 0 where
   pub entry : Entry
   pub at : slice_get layer.entries before.entry ≡ Some entry
@@ -40,12 +42,14 @@ pub record IsEarlier (layer : Memo-F Memo) (context : Context) (before : Earlier
 
 -- no entry can serve
 abbrev pub HasNoEarlier : Memo-F Memo → Context → Type 0
-HasNoEarlier layer context = (child : ℕ) → alike_but layer ≡ Some child → (place : ℕ) (entry : Entry)
+HasNoEarlier layer context = (child : ℕ) → alike_but layer ≡ Some child
+    → (place : ℕ) (entry : Entry)
     → slice_get layer.entries place ≡ Some entry → CanServe entry context child → ⊥
 
--- an entry in a context has this outcome; these are the replies for it, and this is said of whether its element is
--- regular
-pub record IsEntryOf (entry : Entry) (context : Context) (outcome : Outcome) (asked : Asked) : Type 0 where
+-- an entry in a context has this outcome; these are the replies for it, and this is said of whether
+-- its element is regular
+pub record IsEntryOf (entry : Entry) (context : Context) (outcome : Outcome) (asked : Asked)
+    : Type 0 where
   pub stores : Stores entry outcome
   pub in_context : entry.context ≡ context
   pub one_is : entry.one ≡ asked.one
@@ -53,7 +57,8 @@ pub record IsEntryOf (entry : Entry) (context : Context) (outcome : Outcome) (as
   pub regular_is : entry.regular ≡ asked.regular
 
 -- one entry that the pass made was added, in a context, with an outcome and what was asked for it
-pub record IsKeptNow (before after : Memo) (context : Context) (outcome : Outcome) (asked : Asked) : Type 0 where
+pub record IsKeptNow (before after : Memo) (context : Context) (outcome : Outcome) (asked : Asked)
+    : Type 0 where
   pub entry : Entry
   pub holds : IsEntryOf entry context outcome asked
   pub made : entry.origin ≡ Made
@@ -85,7 +90,8 @@ turned entry child reply = record {
   origin = entry.origin;
 }
 
--- an entry with another outcome: it holds the one that it had, and the reply of a child before that child was asked again
+-- an entry with another outcome: it holds the one that it had, and the reply of a child before that
+-- child was asked again
 abbrev pub remade : Entry → Outcome → ℕ → Reply → Entry
 remade entry outcome child had = record {
   context = entry.context;
@@ -105,13 +111,17 @@ with_entry memo place entry = record {
   below = (out-Memo memo).below;
 }
 
--- an entry was made anew: this is the reply of the child on the way since, and so it has this outcome
-pub record IsMadeAgain (before after : Memo) (earlier : Earlier) (outcome : Outcome) (reply : Reply) : Type 0 where
+-- an entry was made anew: this is the reply of the child on the way since, and so it has this
+-- outcome
+pub record IsMadeAgain (before after : Memo) (earlier : Earlier) (outcome : Outcome) (reply : Reply)
+    : Type 0 where
   pub entry : Entry
   pub at : slice_get (out-Memo before).entries earlier.entry ≡ Some entry
   pub had : Reply
   pub has : slice_get entry.one earlier.child ≡ Some had
-  pub changed : after ≡ roll-Memo (with_entry before earlier.entry (remade (turned entry earlier.child reply) outcome earlier.child had))
+  pub changed : after ≡ roll-Memo
+      (with_entry before earlier.entry
+      (remade (turned entry earlier.child reply) outcome earlier.child had))
 
 -- what the element of a memo is among operators
 abbrev pub own_facts : Memo → Facts

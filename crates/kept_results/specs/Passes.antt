@@ -24,7 +24,8 @@ pub record Needs (m : MetricsValue) (node : Node) (context : Context) (pair : Pa
   pub made : IsMade m pair.path node context element pair.context
 
 -- the answers to some questions of a node need it
-pub record AnswersNeed (m : MetricsValue) (node : Node) (asks : List Question) (pair : Pair) : Type 0 where
+pub record AnswersNeed (m : MetricsValue) (node : Node) (asks : List Question) (pair : Pair)
+    : Type 0 where
   pub question : Question
   pub asked : Contains asks question
   pub child : Child
@@ -45,10 +46,12 @@ abbrev pub HasNoRepeat : List Pair → Type 0
 HasNoRepeat [] = ⊤
 HasNoRepeat (pair ∷ pairs) = AllByRecursion (λ other. pair ≡ other → ⊥) pairs × HasNoRepeat pairs
 
--- a pass, with the steps that were counted before it and after it, where what it was for needs some pairs. It keeps
--- the state and all that was kept, and undone it leaves no trace. Its steps are pairs that are needed and weren't kept, none
--- twice. Where it is done they are kept, and nothing more is kept
-pub record Passes (m : MetricsValue) (node : Node) (needed : Pair → Type 0) (before after : Memo) (from to : ℕ) (done : Bool) : Type 0 where
+-- a pass, with the steps that were counted before it and after it, where what it was for needs some
+-- pairs. It keeps the state and all that was kept, and undone it leaves no trace. Its steps are
+-- pairs that are needed and weren't kept, none twice. Where it is done they are kept, and nothing
+-- more is kept
+pub record Passes (m : MetricsValue) (node : Node) (needed : Pair → Type 0) (before after : Memo)
+    (from to : ℕ) (done : Bool) : Type 0 where
   pub agrees : Agrees m node after
   pub same : stripped after ≡ stripped before
   pub keeps : Keeps before after

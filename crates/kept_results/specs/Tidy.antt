@@ -27,21 +27,26 @@ is_new (Remade was) = false
 abbrev pub has_none_new : List Entry → Bool
 has_none_new entries = list_all (λ entry. not (is_new entry.origin)) entries
 
--- the child that an element's mark names, where the pass made no entry of the element but out of others. In a tidy memo (below)
--- the edit and the pass left its other children alone
+-- the child that an element's mark names, where the pass made no entry of the element but out of
+-- others. In a tidy memo (below) the edit and the pass left its other children alone
 abbrev pub only_touched : {X : Type 0} → Memo-F X → Option ℕ
-only_touched layer = option_and_then (λ child. cond (has_none_new layer.entries) (Some child) None) (alike_but layer)
+only_touched layer =
+    option_and_then (λ child. cond (has_none_new layer.entries) (Some child) None) (alike_but layer)
 
--- where an element is calm, so are its children; and where but one of them may be touched, so are the others
+-- where an element is calm, so are its children; and where but one of them may be touched, so are
+-- the others
 pub record StaysCalm (layer : Memo-F Memo) : Type 0 where
-  pub all : is_calm layer ≡ true → (place : ℕ) (below : Memo) → slice_get layer.below place ≡ Some below → is_calm (out-Memo below) ≡ true
-  pub others : (child : ℕ) → only_touched layer ≡ Some child → (place : ℕ) (below : Memo) → slice_get layer.below place ≡ Some below → (place ≡ child → ⊥)
+  pub all : is_calm layer ≡ true → (place : ℕ) (below : Memo)
+      → slice_get layer.below place ≡ Some below → is_calm (out-Memo below) ≡ true
+  pub others : (child : ℕ) → only_touched layer ≡ Some child → (place : ℕ) (below : Memo)
+      → slice_get layer.below place ≡ Some below → (place ≡ child → ⊥)
       → is_calm (out-Memo below) ≡ true
 
 -- an element's memo, by the places of children down to it
 abbrev pub IsMemoAt : List ℕ → Memo → Memo → Type 0
 IsMemoAt [] memo kept = kept ≡ memo
-IsMemoAt (place ∷ path) memo kept = (below : Memo) × (slice_get (out-Memo memo).below place ≡ Some below) × IsMemoAt path below kept
+IsMemoAt (place ∷ path) memo kept =
+    (below : Memo) × (slice_get (out-Memo memo).below place ≡ Some below) × IsMemoAt path below kept
 
 -- this holds of each element: so nothing below a calm one is marked or fresh
 pub record IsTidy (memo : Memo) : Type 0 where

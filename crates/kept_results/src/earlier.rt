@@ -33,9 +33,9 @@ pub struct Earlier {
     pub child: usize,
 }
 
-/// The entry of an element in a context from which a pass may take over what it asks, where there is one:
-/// it is of before the present edit, the element was regular, and it is known that layout sees the same of
-/// it as then, but for a child.
+/// The entry of an element in a context from which a pass may take over what it asks, where there
+/// is one: it is of before the present edit, the element was regular, and it is known that layout
+/// sees the same of it as then, but for a child.
 pub fn find_earlier(memo: &Memo, context: &Context) -> Option<Earlier>
     ensures some { IfSome result (IsEarlier (out-Memo memo.now) context.now) }
     ensures none { IfNone result (HasNoEarlier (out-Memo memo.now) context.now) }
@@ -49,7 +49,8 @@ pub fn find_earlier(memo: &Memo, context: &Context) -> Option<Earlier>
     None
 }
 
-/// Is this an entry of before the edit, in a context, of a regular element that asked the child at a place?
+/// Is this an entry of before the edit, in a context, of a regular element that asked the child at
+/// a place?
 fn can_serve(entry: &Entry, context: &Context, child: usize) -> bool
     ensures yes { result ≡ true → CanServe entry.now context.now child }
     ensures no { result ≡ false → CanServe entry.now context.now child → ⊥ }
@@ -68,7 +69,8 @@ pub fn asked_again(
     requires within { asked.now.kid < length (seen_of view.now.node.now).kids }
     requires style { IsStyle context.now.style }
     requires size { size_of metrics.now context.now.style ≤ℤ pos (2 ^ 20) }
-    ensures ok { IfOk result (λ again. again ≡ restyled metrics.now (seen_of view.now.node.now) context.now asked.now) }
+    ensures ok { IfOk result (λ again. again ≡ restyled metrics.now (seen_of view.now.node.now)
+        context.now asked.now) }
     ensures style { IfOk result HasStyle }
 {
     let style = style_of_kid(view, context, metrics, asked.kid as usize);
@@ -95,22 +97,28 @@ pub fn outcome_of<L: Ledger>(
 ) -> Result<Outcome, LayRefusal>
     requires fits { IsContext context.now }
     requires size { size_of metrics.now context.now.style ≤ℤ pos (2 ^ 20) }
-    requires one_wave { has_one_wave (survey_of metrics.now (seen_of view.now.node.now) context.now) ≡ true }
-    requires ones { questions_in one.now ≡ first metrics.now (seen_of view.now.node.now) context.now }
+    requires one_wave { has_one_wave (survey_of metrics.now (seen_of view.now.node.now) context.now)
+        ≡ true }
+    requires ones { questions_in one.now ≡ first metrics.now (seen_of view.now.node.now)
+        context.now }
     requires stored { AreAnswers (answers_in one.now) }
     requires fonts { All (HasFont metrics.now) (questions_in one.now) }
-    ensures ok { IfOk result (λ outcome. outcome ≡ equation metrics.now (seen_of view.now.node.now) context.now (answers_in one.now) []) }
-    ensures fit { OnOk result (outcome_fits (equation metrics.now (seen_of view.now.node.now) context.now (answers_in one.now) []) ≡ true) }
+    ensures ok { IfOk result (λ outcome. outcome ≡ equation metrics.now (seen_of view.now.node.now)
+        context.now (answers_in one.now) []) }
+    ensures fit { OnOk result
+        (outcome_fits (equation metrics.now (seen_of view.now.node.now) context.now
+        (answers_in one.now) []) ≡ true) }
     ensures range { result ≡ Err Range →
-        outcome_fits (equation metrics.now (seen_of view.now.node.now) context.now (answers_in one.now) []) ≡ false }
+        outcome_fits (equation metrics.now (seen_of view.now.node.now) context.now
+        (answers_in one.now) []) ≡ false }
     ensures step { steps.new ≡ steps.old + 1 }
 {
     let two = List::make(alloc);
     finish_replies(alloc, view, context, metrics, one, &two, steps)
 }
 
-/// Whether an element has all its children in flow, and no prescripts, and asks each child once, in order,
-/// in the first wave, whatever is answered.
+/// Whether an element has all its children in flow, and no prescripts, and asks each child once, in
+/// order, in the first wave, whatever is answered.
 pub fn is_regular(
     view: &NodeView,
     survey: &Survey,
@@ -119,7 +127,8 @@ pub fn is_regular(
     one: &List<Reply>,
 ) -> bool
     requires { survey.now ≡ survey_of metrics.now (seen_of view.now.node.now) context.now }
-    ensures { result ≡ true → IsRegular metrics.now view.now.node.now context.now (questions_in one.now) }
+    ensures { result ≡ true →
+        IsRegular metrics.now view.now.node.now context.now (questions_in one.now) }
 {
     let all = view.node().children.len();
     if (view.kids() != all) | (view.prescripts() != all) | !survey.has_one_wave() {

@@ -10,8 +10,8 @@ use crate::remaking::restore;
 use fixed_units::List;
 use std::mem;
 
-/// Undoes a pass: what it made is dropped, what it made anew is what it was, and all else is as before it.
-/// It takes no memory.
+/// Undoes a pass: what it made is dropped, what it made anew is what it was, and all else is as
+/// before it. It takes no memory.
 pub fn undo_pass(memo: &mut Memo)
     ensures { memo.new ≡ stripped memo.old }
 {
@@ -21,9 +21,9 @@ pub fn undo_pass(memo: &mut Memo)
     undo_entries(&mut memo.entries);
 }
 
-/// Ends a pass that was done: older entries are dropped, marks are cleared, and what the pass made stands
-/// from then on. It goes only where the edit and the pass went, and takes no memory. It says how many
-/// entries the pass made, out of others too, and 2^64 - 1 where there are more.
+/// Ends a pass that was done: older entries are dropped, marks are cleared, and what the pass made
+/// stands from then on. It goes only where the edit and the pass went, and takes no memory. It says
+/// how many entries the pass made, out of others too, and 2^64 - 1 where there are more.
 #[cycle(seal)]
 pub fn seal(memo: &mut Memo) -> usize
     requires tidy { IsTidy memo.old }
@@ -33,8 +33,8 @@ pub fn seal(memo: &mut Memo) -> usize
     if is_calm(memo) { 0 } else { seal_through(memo) }
 }
 
-/// The same, whatever the edit and the pass did. It stands apart, so that an element that they left alone
-/// is passed by without the frame of this call: most were.
+/// The same, whatever the edit and the pass did. It stands apart, so that an element that they left
+/// alone is passed by without the frame of this call: most were.
 #[cycle(seal)]
 #[inline(never)]
 fn seal_through(memo: &mut Memo) -> usize
@@ -50,7 +50,8 @@ fn seal_through(memo: &mut Memo) -> usize
     own.saturating_add(below)
 }
 
-/// Seals what is below an element: of its children the one alone that the pass asked, where that is known.
+/// Seals what is below an element: of its children the one alone that the pass asked, where that is
+/// known.
 #[cycle(seal)]
 fn seal_below(memo: &mut Memo) -> usize
     requires tidy { IsTidy memo.old }
@@ -105,7 +106,8 @@ fn count_fresh(entries: &[Entry]) -> usize
     made
 }
 
-/// Drops the entries that the present pass made, and makes those that it made out of others what they were.
+/// Drops the entries that the present pass made, and makes those that it made out of others what
+/// they were.
 fn undo_entries(entries: &mut List<Entry>)
     ensures { entries.new ≡ all_undone entries.old }
 {

@@ -49,8 +49,8 @@ fn has_none_new(entries: &[Entry]) -> bool
     true
 }
 
-/// The child that an element's mark names, where the present pass made no entry of the element but out of
-/// others: in a tidy memo the present edit and the pass left its other children alone.
+/// The child that an element's mark names, where the present pass made no entry of the element but
+/// out of others: in a tidy memo the present edit and the pass left its other children alone.
 pub fn only_touched(memo: &Memo) -> Option<usize>
     ensures { result ≡ only_touched (out-Memo memo.now) }
 {
@@ -71,8 +71,10 @@ pub fn is_live(marked: bool, entry: &Entry) -> bool
 
 /// Is this an entry in a context, and no older one?
 fn serves(marked: bool, entry: &Entry, context: &Context) -> bool
-    ensures yes { result ≡ true → (is_live marked entry.now ≡ true) × (entry.now.context ≡ context.now) }
-    ensures no { result ≡ false → is_live marked entry.now ≡ true → entry.now.context ≡ context.now → ⊥ }
+    ensures yes { result ≡ true → (is_live marked entry.now ≡ true) ×
+        (entry.now.context ≡ context.now) }
+    ensures no { result ≡ false → is_live marked entry.now ≡ true → entry.now.context ≡ context.now
+        → ⊥ }
 {
     is_live(marked, entry) && entry.context.is_same(context)
 }
@@ -80,18 +82,21 @@ fn serves(marked: bool, entry: &Entry, context: &Context) -> bool
 /// The answer that is kept of an element in a context, where one is.
 pub fn kept_answer(alloc: Global, memo: &Memo, context: &Context) -> Result<Option<Answer>, Memory>
     ensures some { IfOk result (λ found. IfSome found (HasAnswer (out-Memo memo.now) context.now)) }
-    ensures none { IfOk result (λ found. IfNone found (IsMissing (is_marked (out-Memo memo.now)) context.now (out-Memo memo.now).entries)) }
+    ensures none { IfOk result
+        (λ found. IfNone found (IsMissing (is_marked (out-Memo memo.now)) context.now
+        (out-Memo memo.now).entries)) }
 {
     let marked = is_marked(memo);
     for entry in memo.entries.as_slice() {
         if serves(marked, entry, context) {
-            return Ok(Some(entry.outcome.answer.copy(alloc)?));
+            return Ok(Some(entry.answer().copy(alloc)?));
         }
     }
     Ok(None)
 }
 
-/// What the elements of some memos are, in order: of those below an element, as a view of it takes them.
+/// What the elements of some memos are, in order: of those below an element, as a view of it takes
+/// them.
 pub fn facts_below(alloc: Global, below: &[Memo]) -> Result<List<Facts>, Memory>
     ensures { IfOk result (λ kids. kids ≡ map own_facts below.now) }
 {

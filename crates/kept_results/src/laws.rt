@@ -15,7 +15,8 @@ pub fn what_a_layout_needs_is_kept()
     ensures { KeptLaw }
 {}
 
-/// `seal` keeps the state, and each entry that is no older one; no mark is left, and nothing is fresh.
+/// `seal` keeps the state, and each entry that is no older one; no mark is left, and nothing is
+/// fresh.
 pub fn seal_keeps_the_state()
     ensures { SealLaw }
 {}

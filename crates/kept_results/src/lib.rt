@@ -2,14 +2,28 @@
 //!
 //! A `Memo` has the shape of a tree. At each element it keeps the outcomes in the contexts in which
 //! that element was laid out, so that a later layout computes only what an edit changed. An edit
-//! marks the elements on the way to it; what a marked element keeps from before doesn't count. But where
-//! layout sees the same of it as then, except for one child, and all its children are asked alike, its
-//! questions and what the other children answered are taken over: such an entry is made anew where it stands.
+//! marks the elements on the way to it; what a marked element keeps from before doesn't count. But
+//! where layout sees the same of it as then, except for one child, and all its children are asked
+//! alike, its questions and what the other children answered are taken over: such an entry is made
+//! anew where it stands.
+//!
+//! What holds of kept layouts beside a tree is one record, `IsMemoOf` of `specs/Kept.antt`, at each
+//! element (`Agrees`):
+//!
+//! - `facts_are`: it is known what the element is among operators.
+//! - `as_many`: there is one memo for each child.
+//! - `sound`: an entry that is no older one keeps the layout of its element as the tree is now, with
+//!   what was asked for it and answered, of which all is kept (`IsSound`).
+//! - `apart`: no two of these entries are in one context.
+//! - `stays`: where layout sees the same as before the edit but for one child, a regular older entry
+//!   has what the element asks now, and but for that child what is answered now (`StaysBut`).
+//!
+//! An entry is read by `Entry::outcome` and `Entry::answer` alone; what it keeps is `Stores`.
 //!
 //! - Models: this project's own; MathML Core says nothing of it.
-//! - Proved: a pass gives the layout exactly, computes nothing that is kept, and nothing twice, and can
-//!   be undone; an outcome that is kept, and follows by the equations from others that do, is that of
-//!   the layout (`laws`).
+//! - Proved: a pass gives the layout exactly, computes nothing that is kept, and nothing twice, and
+//!   can be undone; an outcome that is kept, and follows by the equations from others that do, is
+//!   that of the layout (`laws`).
 //! - Knows nothing of: edits, and by which equation an element of a kind is laid out.
 //! - Change what a kept layout is: `specs/Kept.antt`.
 #![tactic(auto)]

@@ -1,10 +1,11 @@
 ghost use Rattle.std.specs.Prelude.{◌≡◌};
-ghost use Rattle.kept_results.specs.Kept.{is_fresh};
+ghost use Rattle.layout_model.specs.declared.outcome.Outcome.{Outcome as Stored};
+ghost use Rattle.kept_results.specs.Kept.{Stores, is_fresh};
 ghost use Rattle.kept_results.specs.Tidy.{is_new};
 
 use embellished::Facts;
 use fixed_units::List;
-use layout_model::{Context, Outcome, Reply};
+use layout_model::{Answer, Context, Outcome, Reply};
 
 /// A layout of an element that is kept: the outcome in a context, and what was asked for it.
 #[derive(Debug, Drop)]
@@ -15,8 +16,8 @@ pub struct Entry {
     pub one: List<Reply>,
     /// The same of the second wave.
     pub two: List<Reply>,
-    /// Whether it is known that all children are in flow, none of them a prescript, and that each is asked
-    /// once, in order, in the first wave, whatever they answer.
+    /// Whether it is known that all children are in flow, none of them a prescript, and that each
+    /// is asked once, in order, in the first wave, whatever they answer.
     pub regular: bool,
     /// How it stands to the present pass.
     pub origin: Origin,
@@ -29,8 +30,8 @@ pub enum Origin {
     Standing,
     /// The pass made it.
     Made,
-    /// The pass made it out of one that stood, of which this was otherwise: one item, on the heap, so that an
-    /// entry is larger by a list alone.
+    /// The pass made it out of one that stood, of which this was otherwise: one item, on the heap,
+    /// so that an entry is larger by a list alone.
     Remade(List<Before>),
 }
 
@@ -46,6 +47,20 @@ pub struct Before {
 }
 
 impl Entry {
+    /// The outcome that it keeps. This and `answer` alone read it.
+    pub fn outcome(&self) -> &Outcome
+        ensures { Stores self.now result.now }
+    {
+        &self.outcome
+    }
+
+    /// What the element answers in the entry's context.
+    pub fn answer(&self) -> &Answer
+        ensures { (outcome : Stored) → Stores self.now outcome → result.now ≡ outcome.answer }
+    {
+        &self.outcome.answer
+    }
+
     /// Whether the present pass made it, out of nothing or out of one that stood.
     pub fn is_fresh(&self) -> bool
         ensures { result ≡ is_fresh self.now }
@@ -66,8 +81,8 @@ impl Entry {
 pub struct Former {
     /// What it was among operators.
     pub facts: Facts,
-    /// The place of its child on the way to the edit, where it is known that layout sees the same of the
-    /// element and of its children as before the edit, but for the head of that child.
+    /// The place of its child on the way to the edit, where it is known that layout sees the same
+    /// of the element and of its children as before the edit, but for the head of that child.
     pub alike_but: Option<usize>,
 }
 
@@ -76,8 +91,8 @@ pub struct Former {
 /// It is plain data that holds itself: contracts read a layer as `out-Memo` of it.
 #[derive(Debug, Drop)]
 pub struct Memo {
-    /// What the element was before the present edit, where that edit changes the element or one below
-    /// it: then it is marked.
+    /// What the element was before the present edit, where that edit changes the element or one
+    /// below it: then it is marked.
     pub former: Option<Former>,
     /// What the element is among operators.
     pub facts: Facts,

@@ -28,9 +28,9 @@ use std::alloc::Global;
 use std::sync::ledger::Ledger;
 
 /// The answer of an element in a context, from what is kept of it and of all below it; what isn't
-/// kept is computed, and kept from then on. Each layout that is computed ticks a step. It is refused
-/// with `Range` exactly where a number of a layout that this one needs can't be stored; what was made
-/// until then stays.
+/// kept is computed, and kept from then on. Each layout that is computed ticks a step. It is
+/// refused with `Range` exactly where a number of a layout that this one needs can't be stored;
+/// what was made until then stays.
 #[cycle(relay)]
 pub fn relay_element<L: Ledger>(
     alloc: Global,
@@ -43,8 +43,11 @@ pub fn relay_element<L: Ledger>(
     requires agrees { Agrees metrics.now node.now memo.old }
     requires few { element_count node.now ≤ 65_536 }
     requires context { Suits metrics.now node.now context.now }
-    ensures passes { Passes metrics.now node.now (Needs metrics.now node.now context.now) memo.old memo.new steps.old steps.new false }
-    ensures passed { OnOk result (Passes metrics.now node.now (Needs metrics.now node.now context.now) memo.old memo.new steps.old steps.new true) }
+    ensures passes { Passes metrics.now node.now (Needs metrics.now node.now context.now) memo.old
+        memo.new steps.old steps.new false }
+    ensures passed { OnOk result
+        (Passes metrics.now node.now (Needs metrics.now node.now context.now) memo.old memo.new
+        steps.old steps.new true) }
     ensures kept { OnOk result (IsKept (out-Memo memo.new) context.now) }
     ensures tidy { OnOk result (IsTidy memo.old → IsTidy memo.new) }
     ensures ok { IfOk result (λ answer. answer ≡ (lay metrics.now node.now context.now).answer) }
@@ -60,8 +63,8 @@ pub fn relay_element<L: Ledger>(
     }
 }
 
-/// The same, where no answer is kept. It stands apart, so that a kept answer is found without the frame of
-/// this call: most elements that a pass asks have one.
+/// The same, where no answer is kept. It stands apart, so that a kept answer is found without the
+/// frame of this call: most elements that a pass asks have one.
 #[cycle(relay)]
 #[inline(never)]
 fn relay_anew<L: Ledger>(
@@ -75,9 +78,13 @@ fn relay_anew<L: Ledger>(
     requires agrees { Agrees metrics.now node.now memo.old }
     requires few { element_count node.now ≤ 65_536 }
     requires context { Suits metrics.now node.now context.now }
-    requires missing { IsMissing (is_marked (out-Memo memo.old)) context.now (out-Memo memo.old).entries }
-    ensures passes { Passes metrics.now node.now (Needs metrics.now node.now context.now) memo.old memo.new steps.old steps.new false }
-    ensures passed { OnOk result (Passes metrics.now node.now (Needs metrics.now node.now context.now) memo.old memo.new steps.old steps.new true) }
+    requires missing { IsMissing (is_marked (out-Memo memo.old)) context.now
+        (out-Memo memo.old).entries }
+    ensures passes { Passes metrics.now node.now (Needs metrics.now node.now context.now) memo.old
+        memo.new steps.old steps.new false }
+    ensures passed { OnOk result
+        (Passes metrics.now node.now (Needs metrics.now node.now context.now) memo.old memo.new
+        steps.old steps.new true) }
     ensures kept { OnOk result (IsKept (out-Memo memo.new) context.now) }
     ensures tidy { OnOk result (IsTidy memo.old → IsTidy memo.new) }
     ensures ok { IfOk result (λ answer. answer ≡ (lay metrics.now node.now context.now).answer) }
@@ -97,9 +104,9 @@ fn relay_anew<L: Ledger>(
     Ok(keep(alloc, memo, context, outcome, asked)?)
 }
 
-/// The same, where an entry of before the edit tells what the element asks, and only its child on the way to
-/// the edit may answer something else: no other child is asked, and no entry of one is looked for. The entry
-/// is made anew where it stands.
+/// The same, where an entry of before the edit tells what the element asks, and only its child on
+/// the way to the edit may answer something else: no other child is asked, and no entry of one is
+/// looked for. The entry is made anew where it stands.
 #[cycle(relay)]
 #[inline(never)]
 fn relay_again<L: Ledger>(
@@ -114,10 +121,14 @@ fn relay_again<L: Ledger>(
     requires agrees { Agrees metrics.now node.now memo.old }
     requires few { element_count node.now ≤ 65_536 }
     requires context { Suits metrics.now node.now context.now }
-    requires missing { IsMissing (is_marked (out-Memo memo.old)) context.now (out-Memo memo.old).entries }
+    requires missing { IsMissing (is_marked (out-Memo memo.old)) context.now
+        (out-Memo memo.old).entries }
     requires before { IsEarlier (out-Memo memo.old) context.now before }
-    ensures passes { Passes metrics.now node.now (Needs metrics.now node.now context.now) memo.old memo.new steps.old steps.new false }
-    ensures passed { OnOk result (Passes metrics.now node.now (Needs metrics.now node.now context.now) memo.old memo.new steps.old steps.new true) }
+    ensures passes { Passes metrics.now node.now (Needs metrics.now node.now context.now) memo.old
+        memo.new steps.old steps.new false }
+    ensures passed { OnOk result
+        (Passes metrics.now node.now (Needs metrics.now node.now context.now) memo.old memo.new
+        steps.old steps.new true) }
     ensures kept { OnOk result (IsKept (out-Memo memo.new) context.now) }
     ensures tidy { OnOk result (IsTidy memo.old → IsTidy memo.new) }
     ensures ok { IfOk result (λ answer. answer ≡ (lay metrics.now node.now context.now).answer) }
@@ -154,17 +165,27 @@ fn relay_all<L: Ledger>(
     requires agrees { Agrees metrics.now node.now memo.old }
     requires few { element_count node.now ≤ 65_536 }
     requires proper { All (IsProper metrics.now node.now) (questions_in replies.old) }
-    ensures passes { Passes metrics.now node.now (AnswersNeed metrics.now node.now (questions_in replies.old)) memo.old memo.new steps.old steps.new false }
-    ensures passed { OnOk result (Passes metrics.now node.now (AnswersNeed metrics.now node.now (questions_in replies.old)) memo.old memo.new steps.old steps.new true) }
+    ensures passes { Passes metrics.now node.now
+        (AnswersNeed metrics.now node.now (questions_in replies.old)) memo.old memo.new steps.old
+        steps.new false }
+    ensures passed { OnOk result
+        (Passes metrics.now node.now (AnswersNeed metrics.now node.now (questions_in replies.old))
+        memo.old memo.new steps.old steps.new true) }
     ensures own { (out-Memo memo.new).entries ≡ (out-Memo memo.old).entries }
     ensures marked { (out-Memo memo.new).former ≡ (out-Memo memo.old).former }
-    ensures kept { OnOk result (AllByRecursion (NamesKept node.now (out-Memo memo.new).below) (questions_in replies.old)) }
-    ensures tidy { OnOk result (AreTidy (out-Memo memo.old).below → AreTidy (out-Memo memo.new).below) }
+    ensures kept { OnOk result (AllByRecursion (NamesKept node.now (out-Memo memo.new).below)
+        (questions_in replies.old)) }
+    ensures tidy { OnOk result (AreTidy (out-Memo memo.old).below →
+        AreTidy (out-Memo memo.new).below) }
     ensures asked { OnOk result (questions_in replies.new ≡ questions_in replies.old) }
-    ensures ok { OnOk result (answers_in replies.new ≡ map (answer_of metrics.now node.now) (questions_in replies.old)) }
-    ensures fit { OnOk result (list_all (visit_fits metrics.now) (flat_map (visits_below metrics.now node.now) (questions_in replies.old)) ≡ true) }
+    ensures ok { OnOk result (answers_in replies.new ≡ map (answer_of metrics.now node.now)
+        (questions_in replies.old)) }
+    ensures fit { OnOk result
+        (list_all (visit_fits metrics.now)
+        (flat_map (visits_below metrics.now node.now) (questions_in replies.old)) ≡ true) }
     ensures range { result ≡ Err Range →
-        list_all (visit_fits metrics.now) (flat_map (visits_below metrics.now node.now) (questions_in replies.old)) ≡ false }
+        list_all (visit_fits metrics.now)
+        (flat_map (visits_below metrics.now node.now) (questions_in replies.old)) ≡ false }
 {
     for index in 0..replies.len() {
         let reply = replies.at_mut(index);

@@ -24,9 +24,9 @@ use std::alloc::Global;
 use std::mem;
 use std::sync::ledger::Ledger;
 
-/// Makes an entry of before the edit anew, of which this is the reply of the child on the way since. It
-/// takes one step. The entry's other replies stay where they are. Where it is refused, the entry is as it
-/// was.
+/// Makes an entry of before the edit anew, of which this is the reply of the child on the way
+/// since. It takes one step. The entry's other replies stay where they are. Where it is refused,
+/// the entry is as it was.
 pub fn make_again<L: Ledger>(
     alloc: Global,
     node: &Node,
@@ -43,16 +43,21 @@ pub fn make_again<L: Ledger>(
     requires fits { IsContext context.now }
     requires size { size_of metrics.now context.now.style ≤ℤ pos (2 ^ 20) }
     requires one_wave { has_one_wave (survey_of metrics.now (seen_of node.now) context.now) ≡ true }
-    requires ones { questions_in (one_with memo.old before reply) ≡ first metrics.now (seen_of node.now) context.now }
+    requires ones { questions_in (one_with memo.old before reply) ≡ first metrics.now
+        (seen_of node.now) context.now }
     requires stored { AreAnswers (answers_in (one_with memo.old before reply)) }
     ensures ok { IfOk result (λ answer.
-        answer ≡ (equation metrics.now (seen_of node.now) context.now (answers_in (one_with memo.old before reply)) []).answer) }
+        answer ≡ (equation metrics.now (seen_of node.now) context.now
+        (answers_in (one_with memo.old before reply)) []).answer) }
     ensures fit { OnOk result
-        (outcome_fits (equation metrics.now (seen_of node.now) context.now (answers_in (one_with memo.old before reply)) []) ≡ true) }
+        (outcome_fits (equation metrics.now (seen_of node.now) context.now
+        (answers_in (one_with memo.old before reply)) []) ≡ true) }
     ensures range { result ≡ Err Range →
-        outcome_fits (equation metrics.now (seen_of node.now) context.now (answers_in (one_with memo.old before reply)) []) ≡ false }
+        outcome_fits (equation metrics.now (seen_of node.now) context.now
+        (answers_in (one_with memo.old before reply)) []) ≡ false }
     ensures made { OnOk result (IsMadeAgain memo.old memo.new before
-        (equation metrics.now (seen_of node.now) context.now (answers_in (one_with memo.old before reply)) []) reply) }
+        (equation metrics.now (seen_of node.now) context.now
+        (answers_in (one_with memo.old before reply)) []) reply) }
     ensures unchanged { OnErr result (memo.new ≡ memo.old) }
     ensures step { steps.new ≡ steps.old + 1 }
 {
@@ -99,13 +104,20 @@ fn lay_again<L: Ledger>(
     requires fits { IsContext context.now }
     requires size { size_of metrics.now context.now.style ≤ℤ pos (2 ^ 20) }
     requires one_wave { has_one_wave (survey_of metrics.now (seen_of node.now) context.now) ≡ true }
-    requires ones { questions_in (one_at (out-Memo memo.now) entry) ≡ first metrics.now (seen_of node.now) context.now }
+    requires ones { questions_in (one_at (out-Memo memo.now) entry) ≡ first metrics.now
+        (seen_of node.now) context.now }
     requires stored { AreAnswers (answers_in (one_at (out-Memo memo.now) entry)) }
-    ensures outcome { IfOk result (λ laid. laid.outcome ≡ equation metrics.now (seen_of node.now) context.now (answers_in (one_at (out-Memo memo.now) entry)) []) }
+    ensures outcome { IfOk result
+        (λ laid. laid.outcome ≡ equation metrics.now (seen_of node.now) context.now
+        (answers_in (one_at (out-Memo memo.now) entry)) []) }
     ensures answer { IfOk result (λ laid. laid.answer ≡ laid.outcome.answer) }
     ensures room { IfOk result (λ laid. 1 ≤ laid.room) }
-    ensures fit { OnOk result (outcome_fits (equation metrics.now (seen_of node.now) context.now (answers_in (one_at (out-Memo memo.now) entry)) []) ≡ true) }
-    ensures range { result ≡ Err Range → outcome_fits (equation metrics.now (seen_of node.now) context.now (answers_in (one_at (out-Memo memo.now) entry)) []) ≡ false }
+    ensures fit { OnOk result
+        (outcome_fits (equation metrics.now (seen_of node.now) context.now
+        (answers_in (one_at (out-Memo memo.now) entry)) []) ≡ true) }
+    ensures range { result ≡ Err Range →
+        outcome_fits (equation metrics.now (seen_of node.now) context.now
+        (answers_in (one_at (out-Memo memo.now) entry)) []) ≡ false }
     ensures step { steps.new ≡ steps.old + 1 }
 {
     let view = WholeView::of(node, memo);

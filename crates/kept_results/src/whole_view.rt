@@ -5,8 +5,8 @@ use crate::memo::Memo;
 use embellished::{Facts, View};
 use math_tree::{Head, Node};
 
-/// A view of an element that has all its children in flow. It takes no memory: what the children are is
-/// read off their memos.
+/// A view of an element that has all its children in flow. It takes no memory: what the children
+/// are is read off their memos.
 #[derive(Debug, Drop)]
 pub struct WholeView<'a> {
     node: &'a Node,

@@ -50,10 +50,12 @@ pub record StandsAt (entries : List Entry) (context : Context) (place : ℕ) : T
   pub in_context : entry.context ≡ context
 
 -- what the layout of a node in a context needs came to be kept, and nothing else
-pub record IsFlagged (m : MetricsValue) (node : Node) (context : Context) (before after : Memo) : Type 0 where
+pub record IsFlagged (m : MetricsValue) (node : Node) (context : Context) (before after : Memo)
+    : Type 0 where
   pub agrees : Agrees m node after
   pub same : cleared after ≡ cleared before
-  pub grows : (path : List ℕ) (other : Context) → HoldsOne path before other → HoldsOne path after other
+  pub grows : (path : List ℕ) (other : Context) → HoldsOne path before other
+      → HoldsOne path after other
   pub asked : (path : List ℕ) (other : Context) → HoldsOne path after other
       → HoldsOne path before other ⊎ Needs m node context record { path = path; context = other }
   pub here : IsKept (out-Memo after) context
@@ -63,18 +65,26 @@ pub record IsFlagged (m : MetricsValue) (node : Node) (context : Context) (befor
 
 -- an element below the child at a place has an entry in a context
 abbrev pub IsKeptBelow : ℕ → List ℕ → List Memo → Context → Type 0
-IsKeptBelow place path below context = (memo : Memo) × (slice_get below place ≡ Some memo) × HoldsOne path memo context
+IsKeptBelow place path below context = (memo : Memo) × (slice_get below place ≡ Some memo)
+    × HoldsOne path memo context
 
 -- each child agrees with its memo
 abbrev pub BelowAgree : MetricsValue → Node → List Memo → Type 0
-BelowAgree m node below = (place : ℕ) (child : Node) (memo : Memo) → slice_get (out-Node node).children place ≡ Some child
+BelowAgree m node below = (place : ℕ) (child : Node) (memo : Memo)
+    → slice_get (out-Node node).children place ≡ Some child
     → slice_get below place ≡ Some memo → Agrees m child memo
 
 -- what the answers to some questions of a node need came to be kept, and nothing else
-pub record AreFlagged (m : MetricsValue) (node : Node) (asks : List Question) (before after : List Memo) : Type 0 where
+pub record AreFlagged (m : MetricsValue) (node : Node) (asks : List Question)
+    (before after : List Memo) : Type 0 where
   pub agrees : BelowAgree m node after
   pub same : map cleared after ≡ map cleared before
-  pub grows : (place : ℕ) (path : List ℕ) (context : Context) → IsKeptBelow place path before context → IsKeptBelow place path after context
+  pub grows : (place : ℕ) (path : List ℕ) (context : Context)
+      → IsKeptBelow place path before context → IsKeptBelow place path after context
   pub asked : (place : ℕ) (path : List ℕ) (context : Context) → IsKeptBelow place path after context
-      → IsKeptBelow place path before context ⊎ AnswersNeed m node asks record { path = place ∷ path; context = context }
+      → IsKeptBelow place path before context ⊎ AnswersNeed m node asks record {
+        path =
+            place ∷ path;
+        context = context;
+      }
   pub tidy : AreTidy before → AreTidy after

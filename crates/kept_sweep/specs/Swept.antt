@@ -13,9 +13,10 @@ use Rattle.kept_results.specs.Passes.{HasNoRepeat, IsPairKept, Needs, Pair}
 use Rattle.kept_results.specs.declared.memo.Entry.{Entry}
 use Rattle.kept_results.specs.declared.memo.Memo.{Memo}
 
--- a memo agrees with its tree, has no marks and flags, and keeps exactly the layouts that the one of the root in a
--- context needs
-pub record KeepsNeeded (m : MetricsValue) (node : Node) (context : Context) (memo : Memo) : Type 0 where
+-- a memo agrees with its tree, has no marks and flags, and keeps exactly the layouts that the one
+-- of the root in a context needs
+pub record KeepsNeeded (m : MetricsValue) (node : Node) (context : Context) (memo : Memo)
+    : Type 0 where
   pub agrees : Agrees m node memo
   pub unmarked : is_unmarked memo ≡ true
   pub plain : stripped memo ≡ memo
@@ -24,17 +25,20 @@ pub record KeepsNeeded (m : MetricsValue) (node : Node) (context : Context) (mem
 
 -- each entry that one memo keeps is kept by another one, just as it is
 abbrev pub IsPartOf : Memo → Memo → Type 0
-IsPartOf part whole = (path : List ℕ) (entry : Entry) → Holds path part entry → Holds path whole entry
+IsPartOf part whole = (path : List ℕ) (entry : Entry) → Holds path part entry
+    → Holds path whole entry
 
 -- the steps that were counted are layouts that the one of the root needs, none of them twice
-pub record CountsNeeded (m : MetricsValue) (node : Node) (context : Context) (from to : ℕ) : Type 0 where
+pub record CountsNeeded (m : MetricsValue) (node : Node) (context : Context) (from to : ℕ)
+    : Type 0 where
   pub pairs : List Pair
   pub steps : to ≡ from + length pairs
   pub needed : AllByRecursion (Needs m node context) pairs
   pub apart : HasNoRepeat pairs
 
 -- a layout that is kept, as it is listed
-pub record IsKeptVisit (m : MetricsValue) (node : Node) (context : Context) (memo : Memo) (visit : Visit) : Type 0 where
+pub record IsKeptVisit (m : MetricsValue) (node : Node) (context : Context) (memo : Memo)
+    (visit : Visit) : Type 0 where
   pub pair : Pair
   pub kept : IsPairKept memo pair
   pub element : Node
@@ -43,5 +47,6 @@ pub record IsKeptVisit (m : MetricsValue) (node : Node) (context : Context) (mem
 
 -- what such a memo keeps is what is listed for the layout of the root
 abbrev pub KeptVisitsLaw : Type 0
-KeptVisitsLaw = (m : MetricsValue) (node : Node) (context : Context) (memo : Memo) → KeepsNeeded m node context memo →
+KeptVisitsLaw = (m : MetricsValue) (node : Node) (context : Context) (memo : Memo)
+    → KeepsNeeded m node context memo →
     (visit : Visit) → Contains (visits m node context) visit ↔ IsKeptVisit m node context memo visit

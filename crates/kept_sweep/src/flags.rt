@@ -29,9 +29,9 @@ pub fn mark_all(memo: &mut Memo)
     });
 }
 
-/// Flags the entry of an element in a context, and all that its layout needs below it: they count as made
-/// by a pass, so that the seal keeps them. What is flagged already isn't gone through again. `metrics` are
-/// those of the layouts that are kept; none of their numbers is read.
+/// Flags the entry of an element in a context, and all that its layout needs below it: they count
+/// as made by a pass, so that the seal keeps them. What is flagged already isn't gone through
+/// again. `metrics` are those of the layouts that are kept; none of their numbers is read.
 #[cycle(flag)]
 pub fn flag_needed(node: &Node, memo: &mut Memo, context: &Context, metrics: &Metrics)
     requires agrees { Agrees metrics.now node.now memo.old }
@@ -60,9 +60,12 @@ fn flag_asked(node: &Node, own: &Facts, below: &mut List<Memo>, entry: &Entry, m
     requires known { map own_facts below.old ≡ map facts (out-Node node.now).children }
     requires agrees { BelowAgree metrics.now node.now below.old }
     requires whole { BelowAgree metrics.now node.now (map cleared below.old) }
-    requires ones { AllByRecursion (NamesKept node.now (map cleared below.old)) (questions_in entry.now.one) }
-    requires twos { AllByRecursion (NamesKept node.now (map cleared below.old)) (questions_in entry.now.two) }
-    ensures flagged { AreFlagged metrics.now node.now (questions_in entry.now.one ++ questions_in entry.now.two) below.old below.new }
+    requires ones { AllByRecursion (NamesKept node.now (map cleared below.old))
+        (questions_in entry.now.one) }
+    requires twos { AllByRecursion (NamesKept node.now (map cleared below.old))
+        (questions_in entry.now.two) }
+    ensures flagged { AreFlagged metrics.now node.now (questions_in entry.now.one ++
+        questions_in entry.now.two) below.old below.new }
     ensures ones { AllByRecursion (NamesKept node.now below.new) (questions_in entry.now.one) }
     ensures twos { AllByRecursion (NamesKept node.now below.new) (questions_in entry.now.two) }
 {
@@ -83,8 +86,10 @@ fn flag_wave(
     requires known { map own_facts below.old ≡ map facts (out-Node node.now).children }
     requires agrees { BelowAgree metrics.now node.now below.old }
     requires whole { BelowAgree metrics.now node.now (map cleared below.old) }
-    requires named { AllByRecursion (NamesKept node.now (map cleared below.old)) (questions_in replies.now) }
-    ensures flagged { AreFlagged metrics.now node.now (questions_in replies.now) below.old below.new }
+    requires named { AllByRecursion (NamesKept node.now (map cleared below.old))
+        (questions_in replies.now) }
+    ensures flagged { AreFlagged metrics.now node.now (questions_in replies.now) below.old
+        below.new }
     ensures named { AllByRecursion (NamesKept node.now below.new) (questions_in replies.now) }
 {
     let mut spot = Spot { index: 0, place: 0 };

@@ -16,8 +16,9 @@ use std::alloc::Global;
 use std::sync::ledger::Ledger;
 
 /// Lays a tree out for the first time, and keeps exactly the layouts that the one of its root in a
-/// context needs. Each layout that is computed ticks a step, so that there are as many steps as entries
-/// are kept. It is refused with `Range` exactly where a number of one of them can't be stored.
+/// context needs. Each layout that is computed ticks a step, so that there are as many steps as
+/// entries are kept. It is refused with `Range` exactly where a number of one of them can't be
+/// stored.
 pub fn start_layout<L: Ledger>(
     alloc: Global,
     node: &Node,

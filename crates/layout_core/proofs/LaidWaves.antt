@@ -58,4 +58,3 @@ module _ (m : MetricsValue) (node shown : Node) (context : Context) (e : shown �
       ∙ ap (λ (x : Outcome). roll-Laid record { head = (out-Node node).head; outcome = x; kids = filled slots }) l
       ∙ ap (λ (x : List (Option Laid)). roll-Laid record { head = (out-Node node).head; outcome = lay m node context; kids = filled x }) kept
       ∙ sym (laid_is m node context)
-

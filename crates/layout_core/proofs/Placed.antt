@@ -71,4 +71,3 @@ module _ (m : MetricsValue) where
           ∙ ap (λ (q : Question). put (fold put start (take i asks)) q) is
           ∙ sym (fold-append put start (take i asks) (get_or asks i question ∷ []))
           ∙ ap (fold put start) (sym (take_more asks i question within))
-

@@ -27,8 +27,8 @@ use std::mem;
 use std::sync::ledger::Ledger;
 
 /// Lays out a tree, every element afresh. It is refused with `Range` exactly where a number of a
-/// layout that is made on the way can't be stored. Where it is done, it took one step for each layout that
-/// was made, and no other.
+/// layout that is made on the way can't be stored. Where it is done, it took one step for each
+/// layout that was made, and no other.
 pub fn lay_fresh<L: Ledger>(
     alloc: Global,
     tree: &Tree,
@@ -60,7 +60,8 @@ fn lay_element<L: Ledger>(
     requires few { element_count node.now ≤ 65_536 }
     requires context { IsContext context.now }
     ensures ok { IfOk result (λ all. all ≡ laid metrics.now node.now context.now) }
-    ensures steps { OnOk result (steps.new ≡ steps.old + length (visits metrics.now node.now context.now)) }
+    ensures steps { OnOk result
+        (steps.new ≡ steps.old + length (visits metrics.now node.now context.now)) }
     ensures fit { OnOk result (in_range metrics.now node.now context.now ≡ true) }
     ensures range { result ≡ Err Range → in_range metrics.now node.now context.now ≡ false }
 {
@@ -118,8 +119,8 @@ fn with_head(alloc: Global, node: &Node, outcome: Outcome, kids: List<Laid>) -> 
     }
 }
 
-/// Lays out the children that an element asks, and gives their answers in order. Each is kept at its
-/// place.
+/// Lays out the children that an element asks, and gives their answers in order. Each is kept at
+/// its place.
 #[cycle(lay)]
 fn ask_all<L: Ledger>(
     alloc: Global,
@@ -139,11 +140,16 @@ fn ask_all<L: Ledger>(
     requires styles { All HasStyle asks.now }
     requires stretches { All IsQuestionStored asks.now }
     ensures ok { IfOk result (λ answers. answers ≡ map (answer_of metrics.now node.now) asks.now) }
-    ensures steps { OnOk result (steps.new ≡ steps.old + length (flat_map (visits_below metrics.now node.now) asks.now)) }
-    ensures slots { OnOk result (slots.new.items ≡ with_laid metrics.now node.now asks.now slots.old.items) }
-    ensures fit { OnOk result (list_all (visit_fits metrics.now) (flat_map (visits_below metrics.now node.now) asks.now) ≡ true) }
+    ensures steps { OnOk result
+        (steps.new ≡ steps.old + length (flat_map (visits_below metrics.now node.now) asks.now)) }
+    ensures slots { OnOk result
+        (slots.new.items ≡ with_laid metrics.now node.now asks.now slots.old.items) }
+    ensures fit { OnOk result
+        (list_all (visit_fits metrics.now) (flat_map (visits_below metrics.now node.now) asks.now) ≡
+        true) }
     ensures range { result ≡ Err Range →
-        list_all (visit_fits metrics.now) (flat_map (visits_below metrics.now node.now) asks.now) ≡ false }
+        list_all (visit_fits metrics.now) (flat_map (visits_below metrics.now node.now) asks.now) ≡
+        false }
 {
     let mut answers = List::with_room(alloc, asks.len())?;
     for asked in asks.as_slice() {
@@ -156,8 +162,9 @@ fn ask_all<L: Ledger>(
     Ok(answers)
 }
 
-/// Takes in the layout of a child: its answer, and itself at its place. What is let go is dropped by a call,
-/// here and where an element is laid out, so that the proof doesn't go through all its parts.
+/// Takes in the layout of a child: its answer, and itself at its place. What is let go is dropped
+/// by a call, here and where an element is laid out, so that the proof doesn't go through all its
+/// parts.
 fn take_in(
     alloc: Global,
     answers: &mut List<Answer>,
@@ -166,7 +173,8 @@ fn take_in(
     laid: Laid,
 ) -> Result<(), Memory>
     requires { index < length slots.old.items }
-    ensures answers { OnOk result (answers.new ≡ answers.old ++ (out-Laid laid).outcome.answer ∷ []) }
+    ensures answers { OnOk result (answers.new ≡ answers.old ++ (out-Laid laid).outcome.answer ∷
+        []) }
     ensures slots { OnOk result (slots.new.items ≡ slice_set slots.old.items index (Some laid)) }
 {
     match add_answer(alloc, answers, &laid.outcome.answer) {

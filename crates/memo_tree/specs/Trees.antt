@@ -26,10 +26,12 @@ pub record IsLaidOut (laid : MemoTreeValue) : Type 0 where
   pub sealed : IsSealedFor laid.metrics laid.tree.root (context_of laid.metrics laid.tree) laid.memo
   pub fit : is_tree_in_range laid.metrics laid.tree ≡ true
 
--- the tree is whole; and where its layouts were swept, exactly those are kept that the one of the root needs
+-- the tree is whole; and where its layouts were swept, exactly those are kept that the one of the
+-- root needs
 pub record IsHeld (laid : MemoTreeValue) (swept : Bool) : Type 0 where
   pub whole : IsWhole laid.tree
-  pub swept_are : swept ≡ true → KeepsNeeded laid.metrics laid.tree.root (context_of laid.metrics laid.tree) laid.memo
+  pub swept_are : swept ≡ true
+      → KeepsNeeded laid.metrics laid.tree.root (context_of laid.metrics laid.tree) laid.memo
 
 -- the box of the root
 abbrev pub root_box : MemoTreeValue → MathBox

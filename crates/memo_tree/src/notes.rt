@@ -7,8 +7,8 @@ use math_tree::{Node, NodeId, Tree};
 use std::alloc::Global;
 use tree_edits::{Parents, Path, path_to};
 
-/// Which element stands over which, once an edit asked for it: a tree that is only laid out needs no notes.
-/// They are a hint, and no contract speaks of them.
+/// Which element stands over which, once an edit asked for it: a tree that is only laid out needs
+/// no notes. They are a hint, and no contract speaks of them.
 #[derive(Drop)]
 pub struct Notes {
     made: Option<Parents>,
@@ -20,7 +20,8 @@ impl Notes {
         Notes { made: None }
     }
 
-    /// The way to the element of an id, from the root of a tree. All elements are noted where none is yet.
+    /// The way to the element of an id, from the root of a tree. All elements are noted where none
+    /// is yet.
     pub fn find(&mut self, alloc: Global, tree: &Tree, id: NodeId) -> Result<Option<Path>, Memory>
         ensures { IfOk result (Finds id.0 1 tree.now.root) }
     {

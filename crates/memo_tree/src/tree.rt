@@ -35,14 +35,16 @@ use tree_edits::{Edit, EditRefusal, apply_at, restore};
 
 /// A tree with the layouts that are kept of it and of its elements, and the metrics of their font.
 ///
-/// It is in one of four states (`specs/States.antt`): a pass, `relay`, leads from changed to passed or,
-/// where it is refused, to stopped; `seal` ends a pass that was done, and `undo_pass` takes one back.
+/// It is in one of four states (`specs/States.antt`): a pass, `relay`, leads from changed to passed
+/// or, where it is refused, to stopped; `seal` ends a pass that was done, and `undo_pass` takes one
+/// back.
 #[derive(Drop)]
 pub struct MemoTree {
     tree: Tree,
     metrics: Metrics,
     memo: Memo,
-    /// Whether exactly the layouts are kept that the one of the tree needs, so that a sweep drops nothing.
+    /// Whether exactly the layouts are kept that the one of the tree needs, so that a sweep drops
+    /// nothing.
     swept: bool,
     /// It finds elements, and no contract of this type speaks of it.
     notes: Notes,
@@ -62,7 +64,8 @@ impl Model for MemoTree {
 
     ghost view = { λ laid. record { tree = laid.tree; metrics = laid.metrics; memo = laid.memo } };
 
-    ghost invariant = { λ laid. IsHeld (record { tree = laid.tree; metrics = laid.metrics; memo = laid.memo }) laid.swept };
+    ghost invariant = { λ laid.
+        IsHeld (record { tree = laid.tree; metrics = laid.metrics; memo = laid.memo }) laid.swept };
 }
 
 impl MemoTree {
@@ -90,9 +93,9 @@ impl MemoTree {
         }
     }
 
-    /// Takes a tree and metrics over, and lays the tree out. Exactly the layouts are kept that the one of
-    /// the tree needs, and each ticks a step. It is refused with `Range` exactly where a number of one of
-    /// them can't be stored; then both are dropped.
+    /// Takes a tree and metrics over, and lays the tree out. Exactly the layouts are kept that the
+    /// one of the tree needs, and each ticks a step. It is refused with `Range` exactly where a
+    /// number of one of them can't be stored; then both are dropped.
     pub fn start<L: Ledger>(
         alloc: Global,
         tree: Tree,
@@ -101,8 +104,10 @@ impl MemoTree {
     ) -> Result<MemoTree, LayRefusal>
         ensures tree { IfOk result (λ laid. laid.tree ≡ tree) }
         ensures metrics { IfOk result (λ laid. laid.metrics ≡ metrics) }
-        ensures kept { IfOk result (λ laid. KeepsNeeded metrics tree.root (context_of metrics tree) laid.memo) }
-        ensures steps { CountsNeeded metrics tree.root (context_of metrics tree) steps.old steps.new }
+        ensures kept { IfOk result (λ laid. KeepsNeeded metrics tree.root (context_of metrics tree)
+            laid.memo) }
+        ensures steps { CountsNeeded metrics tree.root (context_of metrics tree) steps.old
+            steps.new }
         ensures visits { TakesVisits metrics tree steps.old steps.new }
         ensures all { IfOk result (λ laid. steps.new ≡ steps.old + kept_count laid.memo) }
         ensures fit { IfOk result (IsIn Sealed) }
@@ -126,8 +131,8 @@ impl MemoTree {
     }
 
     /// Edits the tree, and changes what is kept beside it: each element that stays has the entries
-    /// that it had, nothing is kept of new elements, and just the elements on the path of the edit are
-    /// marked. Where the edit is refused, all stays as it is.
+    /// that it had, nothing is kept of new elements, and just the elements on the path of the edit
+    /// are marked. Where the edit is refused, all stays as it is.
     pub fn change(&mut self, alloc: Global, edit: Edit) -> Result<Reversal, EditRefusal>
         requires proper { IsProperEdit edit }
         requires sealed { IsIn Sealed self.old }
@@ -176,9 +181,9 @@ impl MemoTree {
         reversal.take_back(&mut self.tree, &mut self.memo);
     }
 
-    /// Lays the tree out as far as its layouts aren't kept, each of which ticks a step; those that are
-    /// kept stay. It is refused with `Range` exactly where a number of a layout that the one of the tree
-    /// needs can't be stored.
+    /// Lays the tree out as far as its layouts aren't kept, each of which ticks a step; those that
+    /// are kept stay. It is refused with `Range` exactly where a number of a layout that the one of
+    /// the tree needs can't be stored.
     pub fn relay<L: Ledger>(
         &mut self,
         alloc: Global,
@@ -190,11 +195,14 @@ impl MemoTree {
         ensures stopped { IsIn Stopped self.new }
         ensures passed { OnOk result (IsIn Passed self.new) }
         ensures before { stripped self.new.memo ≡ self.old.memo }
-        ensures steps { TakesMissing self.old.metrics self.old.tree.root (context_of self.old.metrics self.old.tree) self.old.memo steps.old steps.new }
+        ensures steps { TakesMissing self.old.metrics self.old.tree.root
+            (context_of self.old.metrics self.old.tree) self.old.memo steps.old steps.new }
         ensures keeps { Keeps self.old.memo self.new.memo }
-        ensures all { OnOk result (steps.new + kept_count self.old.memo ≡ steps.old + kept_count self.new.memo) }
+        ensures all { OnOk result (steps.new + kept_count self.old.memo ≡
+            steps.old + kept_count self.new.memo) }
         ensures fit { OnOk result (is_tree_in_range self.old.metrics self.old.tree ≡ true) }
-        ensures range { result ≡ Err Range → is_tree_in_range self.old.metrics self.old.tree ≡ false }
+        ensures range { result ≡ Err Range →
+            is_tree_in_range self.old.metrics self.old.tree ≡ false }
     {
         self.swept = false;
         let context = context_of(&self.tree, &self.metrics);
@@ -209,7 +217,8 @@ impl MemoTree {
         Ok(())
     }
 
-    /// Takes a pass back: what it made is dropped, and what it made anew is what it was. It takes no memory.
+    /// Takes a pass back: what it made is dropped, and what it made anew is what it was. It takes
+    /// no memory.
     pub fn undo_pass(&mut self)
         requires stopped { IsIn Stopped self.old }
         ensures tree { self.new.tree ≡ self.old.tree }
@@ -221,8 +230,8 @@ impl MemoTree {
         undo_pass(&mut self.memo);
     }
 
-    /// Ends a pass that was done: layouts of elements as they were before it are dropped. It takes no
-    /// memory, and says how many layouts the pass made, and 2^64 - 1 where there are more.
+    /// Ends a pass that was done: layouts of elements as they were before it are dropped. It takes
+    /// no memory, and says how many layouts the pass made, and 2^64 - 1 where there are more.
     pub fn seal(&mut self) -> usize
         requires passed { IsIn Passed self.old }
         ensures tree { self.new.tree ≡ self.old.tree }
@@ -235,14 +244,15 @@ impl MemoTree {
         seal(&mut self.memo)
     }
 
-    /// Drops all layouts but those that the one of the tree needs, and says how many are left. It takes no
-    /// memory.
+    /// Drops all layouts but those that the one of the tree needs, and says how many are left. It
+    /// takes no memory.
     pub fn sweep(&mut self) -> usize
         requires sealed { IsIn Sealed self.old }
         ensures tree { self.new.tree ≡ self.old.tree }
         ensures metrics { self.new.metrics ≡ self.old.metrics }
         ensures sealed { IsIn Sealed self.new }
-        ensures kept { KeepsNeeded self.old.metrics self.old.tree.root (context_of self.old.metrics self.old.tree) self.new.memo }
+        ensures kept { KeepsNeeded self.old.metrics self.old.tree.root
+            (context_of self.old.metrics self.old.tree) self.new.memo }
         ensures part { IsPartOf self.new.memo self.old.memo }
         ensures count { result ≡ kept_count self.new.memo }
         ensures few { result ≤ 131_072 }
@@ -251,13 +261,15 @@ impl MemoTree {
         count(&self.memo)
     }
 
-    /// The same, without the count. Where exactly the needed layouts are kept already, it goes over none.
+    /// The same, without the count. Where exactly the needed layouts are kept already, it goes over
+    /// none.
     fn drop_needless(&mut self)
         requires sealed { IsIn Sealed self.old }
         ensures tree { self.new.tree ≡ self.old.tree }
         ensures metrics { self.new.metrics ≡ self.old.metrics }
         ensures sealed { IsIn Sealed self.new }
-        ensures kept { KeepsNeeded self.old.metrics self.old.tree.root (context_of self.old.metrics self.old.tree) self.new.memo }
+        ensures kept { KeepsNeeded self.old.metrics self.old.tree.root
+            (context_of self.old.metrics self.old.tree) self.new.memo }
         ensures part { IsPartOf self.new.memo self.old.memo }
         ensures few { kept_count self.new.memo ≤ 131_072 }
     {
@@ -287,8 +299,8 @@ impl MemoTree {
         root_box(&self.memo, &context)
     }
 
-    /// The box of the element with an id, as the layout of the tree has it; none where no element in flow
-    /// has the id. It takes no memory.
+    /// The box of the element with an id, as the layout of the tree has it; none where no element
+    /// in flow has the id. It takes no memory.
     pub fn box_of(&self, id: NodeId) -> Option<MathBox>
         requires sealed { IsIn Sealed self.now }
         ensures { result ≡ box_in id (laid_tree self.now.metrics self.now.tree) }
@@ -340,8 +352,10 @@ fn laid_out<L: Ledger>(
     metrics: &Metrics,
     steps: &mut Steps<L>,
 ) -> Result<Memo, LayRefusal>
-    ensures kept { IfOk result (KeepsNeeded metrics.now tree.now.root (context_of metrics.now tree.now)) }
-    ensures steps { CountsNeeded metrics.now tree.now.root (context_of metrics.now tree.now) steps.old steps.new }
+    ensures kept { IfOk result
+        (KeepsNeeded metrics.now tree.now.root (context_of metrics.now tree.now)) }
+    ensures steps { CountsNeeded metrics.now tree.now.root (context_of metrics.now tree.now)
+        steps.old steps.new }
     ensures visits { TakesVisits metrics.now tree.now steps.old steps.new }
     ensures all { IfOk result (λ memo. steps.new ≡ steps.old + kept_count memo) }
     ensures fit { OnOk result (is_tree_in_range metrics.now tree.now ≡ true) }

@@ -12,14 +12,15 @@ use Rattle.layout_model.specs.declared.context.Context.{Context}
 use Rattle.layout_model.specs.declared.laid.Laid.{Laid}
 use Rattle.layout_model.specs.declared.laid.Laid.TheOpen.{Laid-F}
 use Rattle.layout_model.specs.declared.laid.Laid.TheViews.{out-Laid, out-roll-Laid}
+use Rattle.layout_model.specs.declared.outcome.Outcome.{Outcome}
 use Rattle.layout_model.proofs.Trees.{laid_is}
-use Rattle.kept_results.specs.Kept.{Agrees, HasEntry}
+use Rattle.kept_results.specs.Kept.{Agrees, HasEntry, Stores}
 use Rattle.kept_results.specs.declared.memo.Entry.{Entry}
 use Rattle.kept_results.specs.declared.memo.Memo.{Memo}
 use Rattle.kept_results.specs.declared.memo.Memo.TheViews.{out-Memo}
 use Rattle.kept_laid.specs.Laid.{kids_laid, laid_kid}
 use Rattle.kept_laid.specs.declared.laid.KeptLayout.{KeptLayout}
-use Rattle.kept_laid.proofs.Reading.{asks_are, asks_in, outcome_is}
+use Rattle.kept_laid.proofs.Reading.{asks_are, asks_in, keeps_layout}
 
 module _ (m : MetricsValue) (node : Node) (context : Context) where
   abbrev all : Laid
@@ -41,9 +42,12 @@ module _ (m : MetricsValue) (node : Node) (context : Context) where
   head_is = ap (λ (l : Laid-F Laid). l.head) all_out
 
   module _ (memo : Memo) (entry : Entry) (agrees : Agrees m node memo) (has : HasEntry (out-Memo memo) entry) (is : entry.context ≡ context) where
-    pub outcome_of : entry.outcome ≡ (out-Laid all).outcome
+    pub keeps_outcome : Stores entry (out-Laid all).outcome
     unfolding layer
-    outcome_of = outcome_is m node memo entry agrees has context is ∙ sym (ap (λ (l : Laid-F Laid). l.outcome) all_out)
+    keeps_outcome = keeps_layout m node memo entry agrees has context is ∙ sym (ap (λ (l : Laid-F Laid). l.outcome) all_out)
+
+    pub outcome_of : (outcome : Outcome) → Stores entry outcome → outcome ≡ (out-Laid all).outcome
+    outcome_of outcome stores = sym stores ∙ keeps_outcome
 
     pub kids_of : (kids : List Laid) → kids ≡ kids_laid m node (asks_in entry) → kids ≡ (out-Laid all).kids
     unfolding layer

@@ -9,4 +9,5 @@ use Rattle.placement.specs.Placing.{placed}
 
 -- where the marks of a laid-out tree name glyphs of the font, so does what is placed
 abbrev pub GlyphLaw : Type 0
-GlyphLaw = (m : MetricsValue) (laid : Laid) (x y : ℤ) → all_outcomes (draws_of_font m) laid ≡ true → All (IsOfFont m) (placed laid x y)
+GlyphLaw = (m : MetricsValue) (laid : Laid) (x y : ℤ) → all_outcomes (draws_of_font m) laid ≡ true
+    → All (IsOfFont m) (placed laid x y)

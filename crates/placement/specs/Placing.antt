@@ -26,7 +26,8 @@ Shown = ℤ → ℤ → List PlacedItem
 
 -- the children of an element that stands at a place, each at its offset from there
 abbrev pub kids_at : ℤ → ℤ → List Offset → List Shown → List PlacedItem
-kids_at x y (offset ∷ offsets) (kid ∷ kids) = kid (x +ℤ offset.x) (y +ℤ offset.y) ++ kids_at x y offsets kids
+kids_at x y (offset ∷ offsets) (kid ∷ kids) =
+    kid (x +ℤ offset.x) (y +ℤ offset.y) ++ kids_at x y offsets kids
 kids_at x y offsets kids = []
 
 -- an element's box, then its marks, then its children

@@ -20,16 +20,17 @@ use kept_laid::{KeptLayout, kept_entry, kept_kids};
 use kept_results::Entry;
 use std::alloc::Global;
 
-/// Says where the boxes and the marks of a tree stand whose layout is kept, in document order: the root's
-/// baseline begins at (0, 0). `metrics` are those of the layouts that are kept; none of their numbers is
-/// read.
+/// Says where the boxes and the marks of a tree stand whose layout is kept, in document order: the
+/// root's baseline begins at (0, 0). `metrics` are those of the layouts that are kept; none of
+/// their numbers is read.
 pub fn place_kept(alloc: Global, root: &KeptLayout, metrics: &Metrics) -> Result<Placed, Memory>
     requires agrees { Agrees metrics.now root.now.node.now root.now.memo.now }
     requires few { element_count root.now.node.now ≤ 65_536 }
     requires kept { IsKept (out-Memo root.now.memo.now) root.now.context.now }
     requires levels { levels (laid_kid metrics.now root.now) ≤ most_levels }
     requires stored { all_outcomes outcome_fits (laid_kid metrics.now root.now) ≡ true }
-    ensures { IfOk result (λ items. items ≡ placed (laid_kid metrics.now root.now) (pos 0) (pos 0)) }
+    ensures { IfOk result (λ items. items ≡ placed (laid_kid metrics.now root.now) (pos 0)
+        (pos 0)) }
 {
     let mut items = Placed::make(alloc);
     place_element(alloc, root, metrics, 0, 0, &mut items)?;
@@ -50,8 +51,10 @@ fn place_element(
     requires few { element_count element.now.node.now ≤ 65_536 }
     requires kept { IsKept (out-Memo element.now.memo.now) element.now.context.now }
     requires levels { levels (laid_kid metrics.now element.now) ≤ most_levels }
-    requires right { IsWithin (farthest * (most_levels - levels (laid_kid metrics.now element.now))) x }
-    requires down { IsWithin (farthest * (most_levels - levels (laid_kid metrics.now element.now))) y }
+    requires right { IsWithin (farthest * (most_levels - levels (laid_kid metrics.now element.now)))
+        x }
+    requires down { IsWithin (farthest * (most_levels - levels (laid_kid metrics.now element.now)))
+        y }
     requires stored { all_outcomes outcome_fits (laid_kid metrics.now element.now) ≡ true }
     ensures { OnOk result (items.new ≡ items.old ++ placed (laid_kid metrics.now element.now) x y) }
 {
@@ -59,8 +62,8 @@ fn place_element(
         return Ok(());
     }
     let entry = kept_entry(element.memo, element.context);
-    items.add_box(alloc, &element.node.head, x, y, entry.outcome.answer.frame)?;
-    place_marks(entry.outcome.marks.as_slice(), x, y, items)?;
+    items.add_box(alloc, &element.node.head, x, y, entry.answer().frame)?;
+    place_marks(entry.outcome().marks.as_slice(), x, y, items)?;
     place_kids(alloc, element, entry, metrics, x, y, items)
 }
 
@@ -80,13 +83,16 @@ fn place_kids(
     requires has { HasEntry (out-Memo element.now.memo.now) entry.now }
     requires in_context { entry.now.context ≡ element.now.context.now }
     requires levels { levels (laid_kid metrics.now element.now) ≤ most_levels }
-    requires right { IsWithin (farthest * (most_levels - levels (laid_kid metrics.now element.now))) x }
-    requires down { IsWithin (farthest * (most_levels - levels (laid_kid metrics.now element.now))) y }
+    requires right { IsWithin (farthest * (most_levels - levels (laid_kid metrics.now element.now)))
+        x }
+    requires down { IsWithin (farthest * (most_levels - levels (laid_kid metrics.now element.now)))
+        y }
     requires stored { all_outcomes outcome_fits (laid_kid metrics.now element.now) ≡ true }
-    ensures { OnOk result (items.new ≡ items.old ++ kids_at x y (out-Laid (laid_kid metrics.now element.now)).outcome.offsets
+    ensures { OnOk result (items.new ≡ items.old ++
+        kids_at x y (out-Laid (laid_kid metrics.now element.now)).outcome.offsets
         (map placed (out-Laid (laid_kid metrics.now element.now)).kids)) }
 {
-    let offsets = entry.outcome.offsets.as_slice();
+    let offsets = entry.outcome().offsets.as_slice();
     if offsets.is_empty() {
         return Ok(());
     }

@@ -19,7 +19,7 @@ use Rattle.kept_laid.proofs.boxes.+boxes.Goals as goal
 pub box_of-returns-then-node-id : goal.box_of-returns-then-node-id
 box_of-returns-then-node-id t c = λ m agrees.
     let found = c.kept_entry-entry.ensures in
-    box_here c.args.id m c.args.node.now c.args.memo.now c.kept_entry-entry.result.now agrees found.has c.args.context.now found.in_context (alike _ _ c.if-node-id.true)
+    box_here c.args.id m c.args.node.now c.args.memo.now c.kept_entry-entry.result.now agrees found.has c.args.context.now found.in_context (alike _ _ c.if-node-id.true) c.answer.result.now c.answer.ensures
 
 pub box_of-returns : goal.box_of-returns
 box_of-returns t c = λ m agrees.

@@ -52,4 +52,5 @@ pub laid_of-returns : goal.laid_of-returns
 laid_of-returns t c = λ m agrees.
     let found = c.kept_entry-entry.ensures in
     laid_read m c.args.node.now c.args.memo.now c.kept_entry-entry.result.now agrees found.has c.args.context.now found.in_context
-    c.in_ok-copy.field-0 c.in_ok-copy_of.field-0 c.in_ok-laid_kids.field-0 (c.in_ok-copy.ensures {u = tt}) (c.in_ok-copy_of.ensures {u = tt}) ((c.in_ok-laid_kids.ensures {u = tt}) m agrees)
+    c.in_ok-copy.field-0 c.in_ok-copy_of.field-0 c.outcome.result.now c.in_ok-laid_kids.field-0 (c.in_ok-copy.ensures {u = tt}) (c.in_ok-copy_of.ensures {u = tt}) c.outcome.ensures
+    ((c.in_ok-laid_kids.ensures {u = tt}) m agrees)

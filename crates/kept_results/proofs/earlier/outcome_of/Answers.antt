@@ -2,7 +2,7 @@ use Rattle.std.proofs.Common.{◌∙◌, sym, ap}
 use Rattle.embellished.specs.Seen.{seen_of}
 use Rattle.layout_model.specs.Answers.{answers_in, questions_in}
 use Rattle.child_questions.proofs.Unstretched.{one_wave}
-use Rattle.kept_results.proofs.Again.{no_answers}
+use Rattle.kept_results.proofs.Restyling.{no_answers}
 use Rattle.kept_results.proofs.earlier.outcome_of.Goals as goal
 
 pub finish_replies-requires-clause-replies : goal.finish_replies-requires-clause-replies

@@ -7,6 +7,7 @@ use Rattle.math_tree.specs.declared.node.Node.TheViews.{size-Node}
 use Rattle.layout_model.specs.Laid.{levels}
 use Rattle.layout_model.specs.Range.{mark_fits}
 use Rattle.layout_model.specs.declared.laid.Laid.TheViews.{out-Laid}
+use Rattle.layout_model.specs.declared.outcome.Answer.{Answer}
 use Rattle.layout_model.specs.declared.outcome.Offset.{Offset}
 use Rattle.layout_model.specs.declared.outcome.Outcome.{Outcome}
 use Rattle.kept_results.proofs.Agreement.{agrees_child}
@@ -15,7 +16,7 @@ use Rattle.kept_laid.proofs.BoxReading.{smaller}
 use Rattle.kept_laid.proofs.Kids.{few_in, kid_at}
 use Rattle.box_writer.specs.Items.{box_of}
 use Rattle.placement.specs.Placing.{is_silent, kids_at, marks_at, placed}
-use Rattle.placement.proofs.Reading.{head_is, kids_of, laid_at, outcome_of}
+use Rattle.placement.proofs.Reading.{head_is, keeps_outcome, kids_of, laid_at, outcome_of}
 use Rattle.placement.proofs.Near.{added_back, back_at, fewer_levels, kid_near, kid_stored, marks_stored, offset_at, sum_fits}
 use Rattle.placement.proofs.Showing.{element_shown, kids_all, kids_more, nothing_shown, silent_shown}
 use Rattle.placement.proofs.kept.+kept.Goals as goal
@@ -45,7 +46,7 @@ place_element-place_marks-requires-clause-stored t c =
     let m = c.args.metrics.now in
     let e = c.args.element.now in
     let found = c.kept_entry-entry.ensures in
-    let outcome = outcome_of m e.node.now e.context.now e.memo.now c.kept_entry-entry.result.now c.requires.agrees found.has found.in_context in
+    let outcome = outcome_of m e.node.now e.context.now e.memo.now c.kept_entry-entry.result.now c.requires.agrees found.has found.in_context c.outcome.result.now c.outcome.ensures in
     ap (list_all mark_fits) (c.as_slice.ensures ∙ ap (λ (o : Outcome). o.marks) outcome) ∙ marks_stored (laid_kid m e) c.requires.stored
 
 pub place_element-returns : goal.place_element-returns
@@ -57,10 +58,11 @@ place_element-returns t c =
     let y = to_z w64 (of_z w64 c.args.y) in
     let found = c.kept_entry-entry.ensures in
     let head = head_is m e.node.now e.context.now in
-    let outcome = outcome_of m e.node.now e.context.now e.memo.now c.kept_entry-entry.result.now c.requires.agrees found.has found.in_context in
+    let outcome = outcome_of m e.node.now e.context.now e.memo.now c.kept_entry-entry.result.now c.requires.agrees found.has found.in_context c.outcome.result.now c.outcome.ensures in
+    let answer = c.answer.ensures (out-Laid l).outcome (keeps_outcome m e.node.now e.context.now e.memo.now c.kept_entry-entry.result.now c.requires.agrees found.has found.in_context) in
     let boxed = (c.in_ok-add_box.ensures {u = tt}).ok
-    ∙ ap (λ (h : Head). c.args.items.now ++ box_of h x y c.kept_entry-entry.result.now.outcome.answer.frame ∷ []) (sym head)
-    ∙ ap (λ (o : Outcome). c.args.items.now ++ box_of (out-Laid l).head x y o.answer.frame ∷ []) outcome in
+    ∙ ap (λ (h : Head). c.args.items.now ++ box_of h x y c.answer.result.now.frame ∷ []) (sym head)
+    ∙ ap (λ (a : Answer). c.args.items.now ++ box_of (out-Laid l).head x y a.frame ∷ []) answer in
     let marked = c.in_ok-place_marks.ensures {u = tt} in
     on_ok c.place_kids.result
     (λ all. element_shown l x y c.args.items.now c.add_box.new.self c.place_marks.new.items c.place_kids.new.items
@@ -77,7 +79,7 @@ place_kids-returns-then-is_empty t c =
     let m = c.args.metrics.now in
     let e = c.args.element.now in
     let l = laid_kid m e in
-    let outcome = outcome_of m e.node.now e.context.now e.memo.now c.args.entry.now c.requires.agrees c.requires.has c.requires.in_context in
+    let outcome = outcome_of m e.node.now e.context.now e.memo.now c.args.entry.now c.requires.agrees c.requires.has c.requires.in_context c.outcome.result.now c.outcome.ensures in
     let none : (out-Laid l).outcome.offsets ≡ [] =
     sym (c.as_slice-offsets.ensures ∙ ap (λ (o : Outcome). o.offsets) outcome) ∙ none_in c.as_slice-offsets.result.now (eqb-true (length c.as_slice-offsets.result.now) 0 (sym c.is_empty.ensures ∙ c.if-is_empty.true)) in
     nothing_shown c.args.x c.args.y (out-Laid l).outcome.offsets (map placed (out-Laid l).kids) c.args.items.now none
@@ -89,7 +91,7 @@ place_kids-loop-index-init t c =
     let kids = c.as_slice-kids.result.now in
     let x = to_z w64 (of_z w64 c.args.x) in
     let y = to_z w64 (of_z w64 c.args.y) in
-    let outcome = outcome_of m e.node.now e.context.now e.memo.now c.args.entry.now c.requires.agrees c.requires.has c.requires.in_context in
+    let outcome = outcome_of m e.node.now e.context.now e.memo.now c.args.entry.now c.requires.agrees c.requires.has c.requires.in_context c.outcome.result.now c.outcome.ensures in
     let offsets = c.as_slice-offsets.ensures ∙ ap (λ (o : Outcome). o.offsets) outcome in
     let laid = kids_of m e.node.now e.context.now e.memo.now c.args.entry.now c.requires.agrees c.requires.has c.requires.in_context (map (laid_kid m) kids)
     (ap (map (laid_kid m)) c.as_slice-kids.ensures.value ∙ (c.in_ok-all.ensures {u = tt}).laid m c.requires.agrees) in
@@ -100,7 +102,7 @@ place_kids-overflow_add-x t c =
     let m = c.args.metrics.now in
     let e = c.args.element.now in
     let l = laid_kid m e in
-    let outcome = outcome_of m e.node.now e.context.now e.memo.now c.args.entry.now c.requires.agrees c.requires.has c.requires.in_context in
+    let outcome = outcome_of m e.node.now e.context.now e.memo.now c.args.entry.now c.requires.agrees c.requires.has c.requires.in_context c.outcome.result.now c.outcome.ensures in
     let offsets = c.as_slice-offsets.ensures ∙ ap (λ (o : Outcome). o.offsets) outcome in
     let at = offset_at l c.as_slice-offsets.result.now c.loop-index.index _ c.requires.stored offsets (omega (arith, c.min-index-end.ensures)) in
     sum_fits (levels l) c.args.x _ c.requires.right at.right
@@ -110,7 +112,7 @@ place_kids-overflow_add-y t c =
     let m = c.args.metrics.now in
     let e = c.args.element.now in
     let l = laid_kid m e in
-    let outcome = outcome_of m e.node.now e.context.now e.memo.now c.args.entry.now c.requires.agrees c.requires.has c.requires.in_context in
+    let outcome = outcome_of m e.node.now e.context.now e.memo.now c.args.entry.now c.requires.agrees c.requires.has c.requires.in_context c.outcome.result.now c.outcome.ensures in
     let offsets = c.as_slice-offsets.ensures ∙ ap (λ (o : Outcome). o.offsets) outcome in
     let at = offset_at l c.as_slice-offsets.result.now c.loop-index.index _ c.requires.stored offsets (omega (arith, c.min-index-end.ensures)) in
     sum_fits (levels l) c.args.y _ c.requires.down at.down
@@ -126,7 +128,7 @@ place_kids-place_element-requires t c =
     let i = c.loop-index.index in
     let kid = c.index-kids-index.result in
     let all = map (laid_kid m) kids in
-    let outcome = outcome_of m node e.context.now memo c.args.entry.now c.requires.agrees c.requires.has c.requires.in_context in
+    let outcome = outcome_of m node e.context.now memo c.args.entry.now c.requires.agrees c.requires.has c.requires.in_context c.outcome.result.now c.outcome.ensures in
     let offsets = c.as_slice-offsets.ensures ∙ ap (λ (o : Outcome). o.offsets) outcome in
     let laid = kids_of m node e.context.now memo c.args.entry.now c.requires.agrees c.requires.has c.requires.in_context all
     (ap (map (laid_kid m)) c.as_slice-kids.ensures.value ∙ (c.in_ok-all.ensures {u = tt}).laid m c.requires.agrees) in
@@ -172,7 +174,7 @@ place_kids-loop-index-preserved t c =
     let all = map (laid_kid m) kids in
     let x = to_z w64 (of_z w64 c.args.x) in
     let y = to_z w64 (of_z w64 c.args.y) in
-    let outcome = outcome_of m e.node.now e.context.now e.memo.now c.args.entry.now c.requires.agrees c.requires.has c.requires.in_context in
+    let outcome = outcome_of m e.node.now e.context.now e.memo.now c.args.entry.now c.requires.agrees c.requires.has c.requires.in_context c.outcome.result.now c.outcome.ensures in
     let first : i < length offsets = omega (arith, c.min-index-end.ensures) in
     let second : i < length kids = omega (arith, c.min-index-end.ensures) in
     let within : i < length all = omega (arith, second, length-map kids (laid_kid m)) in
