@@ -134,8 +134,8 @@ from_version version items g h = stays items (nothing version) g h
 
 -- ---- all that is given
 
-pub record IsSaid (version : ℕ) (items : List Item) (g : Given) : Type 0 where
-  pub version : g.version ≡ version
+pub record IsSaid (file : ℕ) (items : List Item) (g : Given) : Type 0 where
+  pub version : g.version ≡ file
   pub upem : listed g.upem ≡ said upem_said items
   pub line : listed g.line ≡ said line_said items
   pub x_height : listed g.x_height ≡ said x_height_said items
@@ -146,7 +146,7 @@ pub record IsSaid (version : ℕ) (items : List Item) (g : Given) : Type 0 where
   pub tables : (t : Table) (place : ℕ) → items_of (entries t g.tables) place ≡ said (entry_said t place) items
   pub operators : g.operators ≡ said operator_said items
 
-pub is_said_by : (version : ℕ) (items : List Item) (g : Given) → Grows (nothing version) items g → IsSaid items g
+pub is_said_by : (version : ℕ) (items : List Item) (g : Given) → Grows (nothing version) items g → IsSaid version items g
 is_said_by version items g h = record {
   version = from_version version items g h;
   upem = from_nothing version (λ g. listed g.upem) upem_said upem-put refl items g h;

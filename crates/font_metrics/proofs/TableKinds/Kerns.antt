@@ -94,7 +94,8 @@ printed-pairs steps few =
     let size = printed-length steps in
     let rest : length (flat_map step_words steps) % 2 ≡ 0 = ap (λ n. n % 2) size ∙ even (length steps) in
     let small : length (flat_map step_words steps) ≤ 32 = omega (arith, size, few) in
-    and_from _ _ (grind (arith, nat_tests)) (grind (arith, nat_tests))
+    and_from (nat_eq (length (flat_map step_words steps) % 2) 0) (nat_le (length (flat_map step_words steps)) 32)
+    (grind (arith, nat_tests)) (grind (arith, nat_tests))
 
 kern_in-printed : (corner : Corner) (glyphs : List NamedGlyph) (place : ℕ) (k : Kern) → AreNamed glyphs
     → place < length glyphs → IsKern k
