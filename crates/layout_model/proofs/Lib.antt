@@ -9,6 +9,7 @@ pub mod Counted
 pub mod Drawn
 pub mod Fits
 pub mod FontSizes
+pub mod KidFonts
 pub mod LaidTrees
 pub mod Made
 pub mod Offsets

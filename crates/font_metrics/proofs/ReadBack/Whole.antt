@@ -1,6 +1,8 @@
 -- Reading the print of metrics gives the same metrics.
 use Rattle.std.proofs.Common.{◌≡◌, ◌∙◌, ap, sym, refl, subst, ℕ, zero, suc, ◌≤◌, ◌+◌, true, List, [], ◌∷◌, ◌++◌, length, map, flat_map, codes, Option, Some, None, IfSome, IsSome, Ok, arith, zero-add}
-use Rattle.std.specs.List.{join_with_byte, range_with_len}
+use Rattle.std.specs.Fmt.{digits}
+use Rattle.std.specs.List.{join_with_byte, list_all, range_with_len}
+use Rattle.std.proofs.lemmas.Bool.{and_from}
 use Rattle.font_metrics.specs.declared.given.Given.{Given}
 use Rattle.font_metrics.specs.Faults.{step_map}
 use Rattle.font_metrics.specs.Lines.{Words}
@@ -14,6 +16,8 @@ use Rattle.font_metrics.proofs.ReadBack.Feeds.{are_words, lines-printed}
 use Rattle.font_metrics.proofs.ReadBack.Fields.{AreNamed}
 use Rattle.font_metrics.proofs.ReadBack.Following.{Follows, follows-append, follows-to, follows-words, constants-follow, glyphs-follow, characters-follow, operators-follow}
 use Rattle.font_metrics.proofs.ReadBack.Growing.{AreKnown, grown, grown_to, grows-from, tables-below-zero, tables-below-all}
+use Rattle.font_metrics.proofs.ReadBack.Joined.{is_word}
+use Rattle.font_metrics.proofs.ReadBack.Printed.{decimal-word}
 use Rattle.font_metrics.proofs.ReadBack.Taking.{upem-taken, line-taken, x_height-taken, overlap-taken}
 
 -- ---- lines that follow one another are read without a fault
@@ -53,7 +57,7 @@ read-whole first ws given m start h whole =
 
 version-taken : (version : ℕ) → IsVersion version
     → after_first (join_with_byte 32 (version_words version)) ≡ Ok (nothing version)
-unfolding after_first is_foreign words_of
+unfolding after_first is_foreign words_of digits
 version-taken zero h = absurd (let low = h.low in omega (arith, low))
 version-taken (suc zero) h = refl
 version-taken (suc (suc zero)) h = refl
@@ -184,7 +188,11 @@ unfolding metrics_of print_of
 print_reads_back m h =
     let ws = version_words m.version ∷ lines_after_first m in
     let follows = printed-follows m h in
-    let words : are_words ws ≡ true = follows-words (nothing m.version) (given_for m) (lines_after_first m) follows in
+    let version : list_all is_word (version_words m.version) ≡ true =
+    rw (decimal-word m.version (let high = h.version.high in omega (arith, high))) refl in
+    let words : are_words ws ≡ true =
+    and_from (list_all is_word (version_words m.version)) (are_words (lines_after_first m)) version
+    (follows-words (nothing m.version) (given_for m) (lines_after_first m) follows) in
     let cut : lines_of (flat_map line_text ws) ≡ joined ws = lines-printed ws words in
     rw cut
     (read-whole (join_with_byte 32 (version_words m.version)) (lines_after_first m) (given_for m) m (version-taken m.version h.version) follows
