@@ -43,7 +43,7 @@ kern_taken false false first second part new f (Err NoMemory) h = tt
 -- what is taken where there is room is taken into what it is a part of
 pub taken : {X Y : Type 0} (full : Bool) (fault : LineFault) (part new : X) (f : X → Y) (r : Result (Unit {0}) LineRefusal)
     → Takes (fault_if full fault >>= λ free. Ok part) new r
-    → Takes ((fault_if full fault >>= λ free. Ok tt) >>= λ free. Ok (f part)) (f new) r
+    → Takes ((fault_if full fault >>= λ free. Ok (tt {0})) >>= λ free. Ok (f part)) (f new) r
 taken true fault part new f (Ok done) h = no_value fault new h
 taken true fault part new f (Err (FaultyLine e)) h = cc
 taken true fault part new f (Err NoMemory) h = tt
