@@ -26,7 +26,8 @@ install: $(PROGRAM)
 	install -m 644 docs/mathlay.1 $(MAN)/mathlay.1
 	install -m 644 VERSION LICENSE-MIT LICENSE-APACHE $(SHARE)
 	install -m 644 docs/FORMATS.md docs/TOOLS.md docs/MATHML.md docs/DIFFERENCES.md $(SHARE)/docs
-	install -m 644 samples/latin-modern-math.metrics samples/README.md samples/*.mml samples/*.html $(SHARE)/samples
+	install -m 644 samples/latin-modern-math.metrics samples/README.md samples/*.mml samples/*.html \
+	    samples/*.json samples/*.script $(SHARE)/samples
 	install -m 644 tools/operators.txt tools/stand_ins.txt $(TOOLS:%=tools/%.py) $(SHARE)/tools
 	install -m 644 tools/companion/*.py $(SHARE)/tools/companion
 	for tool in $(TOOLS); do \

@@ -1,7 +1,7 @@
 #!/usr/bin/env python3
 """Says in a sentence what the program's refusal means: the file, the line, what is wrong and what would be right.
 
-    explain.py layout METRICS TREE | edit METRICS TREE SCRIPT | check METRICS TREE
+    explain.py layout METRICS TREE | edit METRICS TREE SCRIPT | check METRICS TREE | gen METRICS SEED COUNT
     explain.py metrics LINE KIND [METRICS]
     explain.py tree ELEMENT KIND [TREE]
     explain.py refused CAUSE
@@ -19,7 +19,8 @@ from companion import command, formats, program, refusals
 from companion.command import Fault
 from companion.program import Inputs
 
-RUNS = {"layout": 2, "edit": 3, "check": 2}
+RUNS = {"layout": ["METRICS", "TREE"], "edit": ["METRICS", "TREE", "SCRIPT"], "check": ["METRICS", "TREE"],
+        "gen": ["METRICS", "SEED", "COUNT"]}
 
 
 def main(argv=None):
@@ -27,18 +28,19 @@ def main(argv=None):
     parser.add_argument("words", metavar="WORD", nargs="+")
     parser.add_argument("--program", metavar="COMMAND", help=program.HELP)
     words = parser.parse_args(argv)
-    if words.words[0] in RUNS and len(words.words) != 1 + RUNS[words.words[0]]:
-        parser.error(f"{words.words[0]} takes {' '.join(['METRICS', 'TREE', 'SCRIPT'][:RUNS[words.words[0]]])}")
-    if words.words[0] in RUNS:
+    wanted = RUNS.get(words.words[0])
+    if wanted and len(words.words) != 1 + len(wanted):
+        parser.error(f"{words.words[0]} takes {' '.join(wanted)}")
+    if wanted:
         return command.run(parser, run_and_explain, argv)
     return command.run(parser, explained, argv)
 
 
 def run_and_explain(words):
     """What the program wrote, once the sentences are told; raises Ended with its status."""
-    verb, *files = words.words
-    inputs = Inputs(*files)
-    done = program.ended([*program.command_of(words.program), verb, *files], inputs.tree)
+    verb, *others = words.words
+    inputs = Inputs(others[0], None, told=" ".join(words.words)) if verb == "gen" else Inputs(*others)
+    done = program.ended([*program.command_of(words.program), verb, *others], inputs.formula)
     written = done.stdout.decode("utf-8", "replace")
     if verb == "edit":
         for line in explained_replies(written, inputs.script):

@@ -1,8 +1,8 @@
 #!/usr/bin/env python3
 """Compares a built program with the second engine of tools/second, over inputs that a seed decides.
 
-    python3 tools/fuzz.py PROGRAM [--seed S] [--count N] [--kinds a,b] [--jobs J] [--out FOLDER]
-    python3 tools/fuzz.py PROGRAM --harm [--seed S] [--count N] [--jobs J] [--out FOLDER]
+    python3 tools/fuzz.py PROGRAM [--seed S] [--first I] [--count N] [--kinds a,b] [--jobs J] [--out FOLDER]
+    python3 tools/fuzz.py PROGRAM --harm [--seed S] [--first I] [--count N] [--jobs J] [--out FOLDER]
 
 Each case is some words and files, sound or hostile. Program and engine have to write the same bytes and end with the same
 status. Of each case where they don't, the kind and its number are told and the first line that differs; with --out a folder of
@@ -12,8 +12,9 @@ are tried where none is named: KINDS.
 With --harm the program runs alone, over real files whose bytes are changed. It fails where it is stopped by a signal, where it
 takes more than 2 s of processor time, and where its status isn't one of docs/FORMATS.md.
 
-A case is decided by the seed, its kind and its number alone. How far it got is told on standard error each thousand cases. The
-last line is 'N passed, M failed', and the status is 0 where none failed, else 1.
+A case is decided by the seed, its kind and its number alone: with the same kinds, `--first I --count 1` makes that of the number
+I again. How far it got is told on standard error each thousand cases. The last line is 'N passed, M failed', and the status is 0
+where none failed, else 1.
 """
 
 import argparse
@@ -53,6 +54,7 @@ def main(arguments=None):
     parser = argparse.ArgumentParser(prog="fuzz", description=text, formatter_class=argparse.RawDescriptionHelpFormatter)
     parser.add_argument("program", metavar="PROGRAM", help="the built program")
     parser.add_argument("--seed", type=int, default=1, help="decides all cases (here %(default)s)")
+    parser.add_argument("--first", type=int, default=0, help="the number of the first case (here %(default)s)")
     parser.add_argument("--count", type=int, default=1000, help="how many cases (here %(default)s)")
     parser.add_argument("--kinds", help="the kinds of cases, with commas between")
     parser.add_argument("--jobs", type=int, default=len(os.sched_getaffinity(0)), help="how many run at a time (here %(default)s)")
@@ -73,12 +75,14 @@ def main(arguments=None):
 def run(words, kinds):
     """Runs all cases, tells what failed, and counts."""
     order = [kind for kind in kinds for _ in range(WEIGHTS.get(kind, 1))]
-    jobs = [(words.program, words.seed, order[number % len(order)], number) for number in range(words.count)]
+    numbers = range(words.first, words.first + words.count)
+    jobs = [(words.program, words.seed, order[number % len(order)], number) for number in numbers]
     failed = 0
     with multiprocessing.Pool(max(words.jobs, 1)) as pool:
         for job, fault in zip(jobs, pool.imap(fault_of_job, jobs, chunksize=8)):
-            if job[3] and job[3] % TOLD == 0:
-                print(f"{job[3]} of {words.count}, {failed} failed", file=sys.stderr, flush=True)
+            done = job[3] - words.first
+            if done and done % TOLD == 0:
+                print(f"{done} of {words.count}, {failed} failed", file=sys.stderr, flush=True)
             if fault:
                 failed += 1
                 print(f"{job[2]} {job[3]} (seed {job[1]}): {fault[0]}", flush=True)

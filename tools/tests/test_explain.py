@@ -80,6 +80,17 @@ class Runs(InFolder):
         outcome = run(explain, "check", metrics, "nowhere", "--program", self.program("", 5))
         self.assertEqual(outcome, (5, b"", "explain: nowhere: the tree file isn't there\n"))
 
+    def test_edits_of_a_seed(self):
+        metrics = self.file("m", METRICS)
+        for status, text, told in ((3, "metrics 5 4\n", f"{metrics}, line 5: too few or too many fields"),
+                                   (2, "usage\n", f"gen {metrics} 1 0: the words are none of the four lists"),
+                                   (8, "range\n", f"gen {metrics} 1 0: a number of the layout can't be stored")):
+            outcome = run(explain, "gen", metrics, 1, 0, "--program", self.program(text, status))
+            self.assertEqual(outcome[:2], (status, text.encode()))
+            self.assertIn(told, outcome[2])
+        self.assertEqual(run(explain, "gen", "nowhere", 1, 1, "--program", self.program("", 5))[2],
+                         "explain: nowhere: the metrics file isn't there\n")
+
     def test_lines_of_a_script_that_were_refused(self):
         script = self.file("s", '{"op":"show"}\n \n{"op":"remove","node":1}\n{"op":"show"}\n{"op":"move"}\n')
         text = "shown\nbox 1 math 0 0 0 0 0 0 0\nrefused root\nshown\nbox 1 math 0 0 0 0 0 0 0\nrefused line\n"
@@ -90,7 +101,7 @@ class Runs(InFolder):
         self.assertIn(f"{script}, line 5: refused line: to a line that is no command", second)
 
     def test_wrong_words(self):
-        for words in ((), ("layout", "m"), ("edit", "m", "t")):
+        for words in ((), ("layout", "m"), ("edit", "m", "t"), ("gen", "m", "1")):
             status, _, errors = run(explain, *words)
             self.assertEqual((status, errors.count("\n")), (2, 1))
         self.assertEqual(run(explain, "--help")[0], 0)

@@ -42,6 +42,12 @@ class Comparison(InFolder):
         self.assertIsNone(fuzz.harm_of(self.stand_in(b"", 4), CASE))
         self.assertEqual(fuzz.harm_of(self.stand_in(b"", 1), CASE), "ended with status 1")
 
+    def test_a_case_by_its_number(self):
+        words = ["--seed", 3, "--first", 4, "--count", 1, "--kinds", "words", "--jobs", 1]
+        status, written, _ = run(fuzz, self.stand_in(b"nothing of the program's"), *words)
+        self.assertEqual(status, 1)
+        self.assertRegex(written, rb"\Awords 4 \(seed 3\): .*\n0 passed, 1 failed\n\Z")
+
     def test_wrong_words(self):
         status, _, errors = run(fuzz, self.file("none", ""))
         self.assertEqual(status, 2)

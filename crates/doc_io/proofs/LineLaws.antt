@@ -6,7 +6,7 @@ use Rattle.std.proofs.lemmas.List.{drop_all, take_all}
 use Rattle.std.proofs.lemmas.List.Splits.{slice_split-cons_no, slice_split_first}
 use Rattle.std.specs.List.{onto_first, position_or_len, slice_split}
 use Rattle.doc_io.specs.LineReader.{GivesLine, answer_of, behind_line, first_line, is_feed, left_of, lines_of, lines_of_pieces, longest_line, most_lines, is_short}
-use Rattle.doc_io.specs.LineRuns.{GivesLines, Moment, RunLaw}
+use Rattle.doc_io.specs.LineRuns.{FrontLaw, GivesLines, Moment, RunLaw}
 use Rattle.doc_io.specs.declared.line_reader.Line.{Line}
 use Rattle.doc_io.specs.declared.line_reader.Line.TheVariants.{Whole, End}
 use Rattle.doc_io.specs.declared.line_reader.LineRefusal.{LineRefusal}
@@ -133,3 +133,10 @@ gives_lines start bytes [] is (after, g) = sym (ap lines_of (given_end start aft
 gives_lines start bytes (next ∷ later) is (g, others) =
     let line = given_line start next bytes is g in
     ap (λ l. next.reader.line ∷ l) (gives_lines next (behind_line bytes) later line.1 others) ∙ sym line.0
+
+pub gives_first : FrontLaw
+gives_first start bytes [] is none = refl
+gives_first start bytes (next ∷ later) is (g, others) =
+    let line = given_line start next bytes is g in
+    ap (λ l. next.reader.line ∷ l) (gives_first next (behind_line bytes) later line.1 others)
+    ∙ sym (ap (take (length (next ∷ later))) line.0)

@@ -6,8 +6,9 @@ use Rattle.std.proofs.lemmas.List.{drop-append-le, drop_min, take-append-le, dro
 use Rattle.std.specs.Io.KnownBytes.{Consumes, IsAtEnd, Keeps, prepend_known}
 use Rattle.std.specs.List.{position_or_len}
 use Rattle.doc_io.specs.Causes.{InputsTold, Rose}
+use Rattle.doc_io.specs.Held.{ReadsOn}
 use Rattle.doc_io.specs.LineEnds.{BeginsLine, EndsLine, TakesMore}
-use Rattle.doc_io.specs.LineReader.{GivesLine, ReaderValue, answer_of, behind_line, first_line, is_feed, is_short, left_of, left_after, longest_line, most_lines}
+use Rattle.doc_io.specs.LineReader.{GivesLine, HoldsLine, ReaderValue, answer_of, behind_line, first_line, is_feed, is_short, left_of, left_after, longest_line, most_lines}
 use Rattle.doc_io.specs.declared.line_reader.Line.{Line}
 use Rattle.doc_io.specs.declared.line_reader.Line.TheVariants.{Whole, End}
 use Rattle.doc_io.specs.declared.line_reader.LineRefusal.{LineRefusal}
@@ -41,6 +42,62 @@ takes_both a b c held mid held' (first, is, taken) (next, is', taken') = (
   is' ∙ ap (λ l. l ++ next) is ∙ append_assoc held first next,
   consumes_both a.rest b.rest c.rest first next taken taken',
 )
+
+-- a line that is held to its end is so behind a read, too
+holds_more : (held held' read : List ℕ) → held' ≡ held ++ read → HoldsLine held → HoldsLine held'
+holds_more held held' read is h =
+    subst HoldsLine (sym is) (omega (arith, line_front is_feed held read h, length-append held read, h))
+
+-- where no line feed was found among bytes that came behind held ones, none was held
+pub unended : (before after : InputsTold) (held held' : List ℕ) (n : ℕ) → TakesMore before after held held' → n ≡ position_or_len is_feed held'
+    → n ≡ length held' → HoldsLine held → ⊥
+unended before after held held' n (read, is, taken) size all h = let more = holds_more held held' read is h in omega (arith, more, size, all)
+
+-- ---- the end of the first line, behind bytes in which it didn't end
+
+nothing_read : (read : List ℕ) → length read ≡ 0 → read ≡ []
+nothing_read [] h = refl
+nothing_read (b ∷ bs) h = absurd (omega (arith, h))
+
+module _ {E : Type 0} (before mid after : InputsTold) (held held' held'' : List ℕ) (files : mid.files ≡ before.files)
+    (faults : before.faults ≤ mid.faults) (missing : mid.missing ≡ before.missing) (bytes : TakesMore before mid held held')
+    (unheld : HoldsLine held → ⊥) where
+  -- a read failed
+  pub fails_behind : (e : E) (result : Result ℕ LineRefusal) → result ≡ Err ReadFault → ReadsOn mid after held' held'' (Err e)
+      → EndsLine before after held held'' result
+  fails_behind e result is r = subst (EndsLine before after held held'') (sym is) (record {
+    files = r.files ∙ files;
+    faults = omega (arith, faults, r.faults);
+    missing = r.missing ∙ missing;
+    bytes = takes_both before mid after held held' held'' bytes (takes_nothing mid after held' held'' r.bytes.0 r.bytes.1);
+    unread = λ h. absurd (unheld h);
+    line = tt;
+    short = tt;
+    ended = tt;
+    long = λ e. absurd cc;
+    fault = λ e. omega (arith, faults, r.failed);
+    refused = inr refl;
+  })
+
+  -- nothing was left to read
+  pub ends_behind : (n count : ℕ) → n ≡ position_or_len is_feed held' → n ≤ longest_line → count ≡ 0
+      → ReadsOn {E = E} mid after held' held'' (Ok count) → EndsLine before after held held'' (Ok n)
+  ends_behind n count size short none r =
+      let empty : r.bytes.0 ≡ [] = nothing_read r.bytes.0 (omega (arith, r.bytes.2, none)) in
+      let same : held'' ≡ held' = r.bytes.1 ∙ ap (λ l. held' ++ l) empty ∙ append-nil held' in
+      record {
+        files = r.files ∙ files;
+        faults = omega (arith, faults, r.faults);
+        missing = r.missing ∙ missing;
+        bytes = takes_both before mid after held held' held'' bytes (r.bytes.0, r.bytes.1, r.bytes.3);
+        unread = λ h. absurd (unheld h);
+        line = size ∙ ap (position_or_len is_feed) (sym same);
+        short = short;
+        ended = inr (r.bytes.4 none);
+        long = λ e. absurd cc;
+        fault = λ e. absurd cc;
+        refused = tt;
+      }
 
 -- ---- answers that give no line
 
@@ -100,8 +157,8 @@ module _ (before after : ReaderValue) (old new : InputsTold) (files : new.files 
   not_whole e h = cc
 
   -- the end
-  pub gives_end : after.given ≡ before.given → after.held ≡ [] → IsAtEnd new.rest → GivesLine before after old new (Ok End)
-  gives_end given none end = record {
+  pub gives_end : after.given ≡ before.given → after.line ≡ [] → after.held ≡ [] → IsAtEnd new.rest → GivesLine before after old new (Ok End)
+  gives_end given empty none end = record {
     files = files;
     faults = faults;
     missing = missing;
@@ -110,6 +167,8 @@ module _ (before after : ReaderValue) (old new : InputsTold) (files : new.files 
     fault = λ e. absurd cc;
     end = λ e. end;
     line = λ e. absurd cc;
+    none = λ e. empty;
+    unread = λ held. absurd (omega (arith, held, ap length bytes.1, length-append before.held bytes.0, ap length none));
     short = λ e. absurd cc;
     few = λ e. absurd cc;
     left = stays;
@@ -117,10 +176,10 @@ module _ (before after : ReaderValue) (old new : InputsTold) (files : new.files 
   }
 
   -- a refusal, which what is left gives, or a failed read
-  pub gives_none : (e : LineRefusal) → after.given ≡ before.given
+  pub gives_none : (e : LineRefusal) → after.given ≡ before.given → after.line ≡ [] → (HoldsLine before.held → new ≡ old)
       → ((left : List ℕ) → left_of after new ≡ Some left → (e ≡ ReadFault) ⊎ (answer_of before.given left ≡ Err e))
       → (e ≡ ReadFault → Rose old.faults new.faults) → GivesLine before after old new (Err e)
-  gives_none e given why fault = record {
+  gives_none e given empty unread why fault = record {
     files = files;
     faults = faults;
     missing = missing;
@@ -129,6 +188,8 @@ module _ (before after : ReaderValue) (old new : InputsTold) (files : new.files 
     fault = λ is. fault cc;
     end = λ is. absurd cc;
     line = λ is. absurd (not_whole e is);
+    none = λ is. empty;
+    unread = unread;
     short = λ is. absurd (not_whole e is);
     few = λ is. absurd (not_whole e is);
     left = stays;
@@ -136,15 +197,16 @@ module _ (before after : ReaderValue) (old new : InputsTold) (files : new.files 
   }
 
   -- more lines than are given
-  pub gives_spent : after.given ≡ before.given → most_lines ≤ before.given → 0 < length after.held → GivesLine before after old new (Err LinesSpent)
-  gives_spent given most some = gives_none LinesSpent given
+  pub gives_spent : after.given ≡ before.given → after.line ≡ [] → (HoldsLine before.held → new ≡ old) → most_lines ≤ before.given → 0 < length after.held
+      → GivesLine before after old new (Err LinesSpent)
+  gives_spent given empty unread most some = gives_none LinesSpent given empty unread
       (λ left is. let behind = some_left after.held new.rest left is in
       inr (spent_of before.given left (omega (arith, ap length behind.1, length-append after.held behind.0, some)) most)) (λ e. absurd cc)
 
   -- too long a line
-  pub gives_long : after.given ≡ before.given → before.given < most_lines → longest_line < position_or_len is_feed after.held
-      → GivesLine before after old new (Err LineLong)
-  gives_long given few long = gives_none LineLong given
+  pub gives_long : after.given ≡ before.given → after.line ≡ [] → (HoldsLine before.held → new ≡ old) → before.given < most_lines
+      → longest_line < position_or_len is_feed after.held → GivesLine before after old new (Err LineLong)
+  gives_long given empty unread few long = gives_none LineLong given empty unread
       (λ left is.
       let behind = some_left after.held new.rest left is in
       let more : position_or_len is_feed after.held ≤ position_or_len is_feed left = subst (λ l. position_or_len is_feed after.held ≤ position_or_len is_feed l) behind.1 (line_more is_feed after.held behind.0) in
@@ -152,8 +214,9 @@ module _ (before after : ReaderValue) (old new : InputsTold) (files : new.files 
       inr (by_length before.given left false (omega (arith, long, more, within)) few (long_line left (omega (arith, long, more)))))
       (λ e. absurd cc)
 
-  pub gives_fault : after.given ≡ before.given → Rose old.faults new.faults → GivesLine before after old new (Err ReadFault)
-  gives_fault given rose = gives_none ReadFault given (λ left is. inl refl) (λ e. rose)
+  pub gives_fault : after.given ≡ before.given → after.line ≡ [] → (HoldsLine before.held → new ≡ old) → Rose old.faults new.faults
+      → GivesLine before after old new (Err ReadFault)
+  gives_fault given empty unread rose = gives_none ReadFault given empty unread (λ left is. inl refl) (λ e. rose)
 
 -- ---- a line that is given
 
@@ -196,10 +259,11 @@ module _ (held : List ℕ) (n : ℕ) (rest : Option (List ℕ)) (size : n ≡ po
           ap (λ m. drop m held) other ∙ drop_min (n + 1) held
 
 pub gives_line : (before : ReaderValue) (held : List ℕ) (n : ℕ) (old new : InputsTold) → new.files ≡ old.files → old.faults ≤ new.faults
-    → new.missing ≡ old.missing → TakesMore old new before.held held → n ≡ position_or_len is_feed held → n ≤ longest_line
+    → new.missing ≡ old.missing → TakesMore old new before.held held → (HoldsLine before.held → new ≡ old)
+    → n ≡ position_or_len is_feed held → n ≤ longest_line
     → (n < length held) ⊎ IsAtEnd new.rest → 0 < length held → before.given < most_lines
     → GivesLine before (record { held = drop (min (length held) (n + 1)) held; line = take n held; given = before.given + 1 }) old new (Ok Whole)
-gives_line before held n old new files faults missing bytes size short ended some few = record {
+gives_line before held n old new files faults missing bytes unread size short ended some few = record {
   files = files;
   faults = faults;
   missing = missing;
@@ -209,6 +273,8 @@ gives_line before held n old new files faults missing bytes size short ended som
   line = λ e. IfSome-next (left_of before old) _ _ (λ left is.
       let behind = some_left held new.rest left is in
       line_is held n new.rest size ended behind.0 behind.2 ∙ ap first_line behind.1) stays;
+  none = λ no. absurd (no refl);
+  unread = unread;
   short = λ e. omega (arith, length-take n held, short);
   few = λ e. few;
   left = IfSome-next (left_of before old) _ _ (λ left is.
@@ -234,26 +300,33 @@ module _ {E : Type 0} (before : ReaderValue) (held held' held'' : List ℕ) (old
   first_bytes : TakesMore old mid before.held held'
   first_bytes = subst (λ h. TakesMore old mid h held') is begins.bytes
 
+  -- nothing was read for a line that was held to its end
+  first_unread : HoldsLine before.held → mid ≡ old
+  first_unread h = begins.unread (omega (arith, h, ap length is))
+
+  next_unread : (HoldsLine held' → new ≡ mid) → HoldsLine before.held → new ≡ old
+  next_unread ends h = ends (holds_more before.held held' first_bytes.0 first_bytes.1 h) ∙ first_unread h
+
   -- no byte was left
-  pub ends_here : (line : List ℕ) → b ≡ false → GivesLine before (record { held = held'; line = line; given = before.given }) old mid (Ok End)
-  ends_here line away =
+  pub ends_here : b ≡ false → GivesLine before (record { held = held'; line = []; given = before.given }) old mid (Ok End)
+  ends_here away =
       let end = begins.ended away in
-      gives_end before (record { held = held'; line = line; given = before.given }) old mid begins.files begins.faults begins.missing first_bytes
-      refl end.0 end.1
+      gives_end before (record { held = held'; line = []; given = before.given }) old mid begins.files begins.faults begins.missing first_bytes
+      refl refl end.0 end.1
 
   -- a byte was, but no more lines are given
-  pub spends_here : (line : List ℕ) → b ≡ true → most_lines ≤ before.given
-      → GivesLine before (record { held = held'; line = line; given = before.given }) old mid (Err LinesSpent)
-  spends_here line there most =
-      gives_spent before (record { held = held'; line = line; given = before.given }) old mid begins.files begins.faults begins.missing first_bytes
-      refl most (begins.begun there)
+  pub spends_here : b ≡ true → most_lines ≤ before.given
+      → GivesLine before (record { held = held'; line = []; given = before.given }) old mid (Err LinesSpent)
+  spends_here there most =
+      gives_spent before (record { held = held'; line = []; given = before.given }) old mid begins.files begins.faults begins.missing first_bytes
+      refl refl first_unread most (begins.begun there)
 
   -- the line isn't given
-  pub refuses_here : (line : List ℕ) (e : LineRefusal) (result : Result Line LineRefusal) → result ≡ Err e → before.given < most_lines
+  pub refuses_here : (e : LineRefusal) (result : Result Line LineRefusal) → result ≡ Err e → before.given < most_lines
       → EndsLine mid new held' held'' (Err e)
-      → GivesLine before (record { held = held''; line = line; given = before.given }) old new result
-  refuses_here line e result same few ends =
-      subst (λ r. GivesLine before (record { held = held''; line = line; given = before.given }) old new r) (sym same) (by ends.refused)
+      → GivesLine before (record { held = held''; line = []; given = before.given }) old new result
+  refuses_here e result same few ends =
+      subst (λ r. GivesLine before (record { held = held''; line = []; given = before.given }) old new r) (sym same) (by ends.refused)
     where
       files : new.files ≡ old.files
       files = ends.files ∙ begins.files
@@ -268,16 +341,16 @@ module _ {E : Type 0} (before : ReaderValue) (held held' held'' : List ℕ) (old
       bytes = takes_both old mid new before.held held' held'' first_bytes ends.bytes
 
       by : (IsErrOf {T = ℕ} (Err e) LineLong) ⊎ (IsErrOf {T = ℕ} (Err e) ReadFault)
-          → GivesLine before (record { held = held''; line = line; given = before.given }) old new (Err e)
+          → GivesLine before (record { held = held''; line = []; given = before.given }) old new (Err e)
       by (inl long) =
           let which : LineLong ≡ e = cc in
-          subst (λ e. GivesLine before (record { held = held''; line = line; given = before.given }) old new (Err e)) which
-          (gives_long before (record { held = held''; line = line; given = before.given }) old new files faults missing bytes refl few (ends.long long))
+          subst (λ e. GivesLine before (record { held = held''; line = []; given = before.given }) old new (Err e)) which
+          (gives_long before (record { held = held''; line = []; given = before.given }) old new files faults missing bytes refl refl (next_unread ends.unread) few (ends.long long))
       by (inr fault) =
           let which : ReadFault ≡ e = cc in
           let rose = ends.fault fault in
-          subst (λ e. GivesLine before (record { held = held''; line = line; given = before.given }) old new (Err e)) which
-          (gives_fault before (record { held = held''; line = line; given = before.given }) old new files faults missing bytes refl (omega (arith, rose, begins.faults)))
+          subst (λ e. GivesLine before (record { held = held''; line = []; given = before.given }) old new (Err e)) which
+          (gives_fault before (record { held = held''; line = []; given = before.given }) old new files faults missing bytes refl refl (next_unread ends.unread) (omega (arith, rose, begins.faults)))
 
   -- the line is given
   pub gives_here : (n taken : ℕ) → b ≡ true → before.given < most_lines → EndsLine mid new held' held'' (Ok n)
@@ -286,7 +359,7 @@ module _ {E : Type 0} (before : ReaderValue) (held held' held'' : List ℕ) (old
   gives_here n taken there few ends size =
       subst (λ t. GivesLine before (record { held = drop t held''; line = take n held''; given = before.given + 1 }) old new (Ok Whole)) (sym size)
       (gives_line before held'' n old new (ends.files ∙ begins.files) (omega (arith, ends.faults, begins.faults)) (ends.missing ∙ begins.missing)
-      (takes_both old mid new before.held held' held'' first_bytes ends.bytes) ends.line ends.short ends.ended some few)
+      (takes_both old mid new before.held held' held'' first_bytes ends.bytes) (next_unread ends.unread) ends.line ends.short ends.ended some few)
     where
       some : 0 < length held''
       some = omega (arith, begins.begun there, ap length ends.bytes.1, length-append held' ends.bytes.0)

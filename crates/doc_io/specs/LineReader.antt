@@ -1,7 +1,7 @@
 -- Lines, and what a reader gives that reads a file line by line.
 use Rattle.std.specs.Prelude.{◌≡◌, ◌⊎◌, ℕ, ◌+◌, ◌<◌, ◌≤◌, nat_eq, nat_le, nat_lt, Bool, if◌then◌else◌, List, [], ◌∷◌, length, Result, Ok, Err, Option, Some, None, IfSome, IsErrOf}
 use Rattle.std.specs.Io.KnownBytes.{IsAtEnd, prepend_known}
-use Rattle.std.specs.List.{after_first, before_first, slice_split}
+use Rattle.std.specs.List.{after_first, before_first, position_or_len, slice_split}
 use Rattle.doc_io.specs.Causes.{InputsTold, Rose}
 use Rattle.doc_io.specs.declared.line_reader.Line.{Line}
 use Rattle.doc_io.specs.declared.line_reader.Line.TheVariants.{Whole, End}
@@ -52,10 +52,14 @@ is_short line = nat_le (length line) longest_line
 pub record ReaderValue : Type 0 where
   -- the bytes that it took and hasn't given
   pub held : List ℕ
-  -- the last line that it gave
+  -- the line that its last call gave; none, where that call gave none
   pub line : List ℕ
   -- how many lines it gave
   pub given : ℕ
+
+-- the next line is held to its end: its line feed is among the bytes
+abbrev pub HoldsLine : List ℕ → Type 0
+HoldsLine held = position_or_len is_feed held < length held
 
 -- what is left of the file, where the inputs tell their rest
 abbrev pub left_of : ReaderValue → InputsTold → Option (List ℕ)
@@ -92,7 +96,11 @@ pub record GivesLine (before after : ReaderValue) (old new : InputsTold)
   -- a line that is given is the first one
   pub line : result ≡ Ok Whole → IfSome (left_of before old) (λ bytes.
       after.line ≡ first_line bytes)
-  -- and is within its limits, also where the inputs tell nothing
+  -- where none is given, none is lent
+  pub none : ¬ (result ≡ Ok Whole) → after.line ≡ []
+  -- a line that is held to its end is given, or refused, without a read
+  pub unread : HoldsLine before.held → new ≡ old
+  -- a line that is given is within its limits, also where the inputs tell nothing
   pub short : result ≡ Ok Whole → length after.line ≤ longest_line
   pub few : result ≡ Ok Whole → before.given < most_lines
   pub left : IfSome (left_of before old) (λ bytes.

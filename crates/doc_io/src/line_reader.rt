@@ -50,11 +50,12 @@ impl From<Failed> for LineRefusal {
     }
 }
 
-/// Reads the lines of the selected file one after another, with memory for one line, however long
-/// the file is.
+/// Reads the lines of the selected file one after another, with the memory that `make` took, which
+/// is twice the longest line, however long the file is.
 ///
-/// A call reads no more of the file once the line's end was read. After a refusal what is left of
-/// the file is as it was, so that a line can be asked for again.
+/// A call reads no more of the file once the line's end was read: a line that is held to its end is
+/// given without a read. After a refusal what is left of the file is as it was, so that a line can
+/// be asked for again.
 #[derive(Debug, Drop)]
 pub struct LineReader {
     /// The bytes that were read, from the last line that was given on.
@@ -82,7 +83,7 @@ impl Model for LineReader {
 }
 
 impl LineReader {
-    /// A reader that gave no line yet. It takes the memory for one line.
+    /// A reader that gave no line yet. It takes all the memory that reading needs: 2 MiB.
     pub fn make(alloc: Global) -> Result<LineReader, Memory>
         ensures { IfOk result (λ reader. reader ≡ record { held = []; line = []; given = 0 }) }
     {
@@ -94,7 +95,8 @@ impl LineReader {
         })
     }
 
-    /// The last line that was given, without its line feed.
+    /// The line that the last call of `next_line` gave, without its line feed; no byte, where that
+    /// call gave none.
     pub fn line(&self) -> &[u8]
         ensures { result.now ≡ self.now.line }
     {

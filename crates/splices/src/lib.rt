@@ -5,8 +5,8 @@
 //! - Models: nothing outside; lists of children and of what is kept beside them change so.
 //! - Proved: a list becomes exactly `spliced`, and what is answered is exactly `taken`
 //!   (`specs/Splicing.antt`); the inverse leads back to the list before, and fits; an item that
-//!   stays stands where `Moves` says; two lists that are spliced alike stay beside one another
-//!   (`laws`).
+//!   stays stands where `Moves` says, and what stands in the spliced list was brought or stays; a
+//!   list grows or shrinks by one item at most (`laws`).
 //! - Knows nothing of: trees, edits, layouts.
 //! - Change what a splice does: `specs/Splicing.antt`, then `src/splice.rt`, then `rt check`.
 #![tactic(auto)]

@@ -1,0 +1,3 @@
+pub mod Laws
+pub mod Region
+pub mod Runs

@@ -1,0 +1,2 @@
+pub mod Hitting
+mod Worked

@@ -1,0 +1,6 @@
+pub mod Counting
+pub mod Glyphs
+pub mod Plain
+pub mod Running
+pub mod Texts
+mod Worked

@@ -1,0 +1,5 @@
+pub mod Laws
+pub mod Paints
+pub mod Pieces
+pub mod Running
+pub mod Svg
