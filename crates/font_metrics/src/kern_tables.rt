@@ -1,4 +1,4 @@
-ghost use Rattle.std.specs.Prelude.{◌≡◌, true, map, OnOk};
+ghost use Rattle.std.specs.Prelude.{◌≡◌, true, ◌∷◌, map, OnOk};
 ghost use Rattle.font_metrics.specs.Heights.{do_rise};
 ghost use Rattle.font_metrics.specs.Metrics.{items_of, kerns_at, with_item, with_kerns_at};
 ghost use Rattle.font_metrics.specs.Reading.{taken_kern};
@@ -90,10 +90,22 @@ impl KernTables {
 fn do_rise(steps: &[KernStep]) -> bool
     ensures { result ≡ do_rise (map (λ step. step.height) steps.now) }
 {
-    for index in 1..steps.len() {
-        if steps[index].height <= steps[index - 1].height {
+    match steps {
+        &[lowest, ref more @ ..] => do_rise_above(lowest.height, more),
+        _ => true,
+    }
+}
+
+/// Whether each height is above the one before it, and the first above this one.
+fn do_rise_above(height: i32, steps: &[KernStep]) -> bool
+    ensures { result ≡ do_rise (height ∷ map (λ step. step.height) steps.now) }
+{
+    let mut lower = height;
+    for step in steps {
+        if step.height <= lower {
             return false;
         }
+        lower = step.height;
     }
     true
 }

@@ -1,4 +1,4 @@
-ghost use Rattle.std.specs.Prelude.{◌≡◌, ◌<◌, ◌≤◌, ◌^◌, true, length, pos, ◌≤ℤ◌, ◌*ℤ◌, IfSome, unwrap_or, slice_index_or};
+ghost use Rattle.std.specs.Prelude.{◌≡◌, ◌<◌, ◌≤◌, ◌^◌, true, length, pos, int_le, ◌≤ℤ◌, ◌*ℤ◌, IfSome, unwrap_or, slice_index_or};
 ghost use Rattle.std.specs.List.{All};
 ghost use Rattle.fixed_units.specs.Numbers.{IsWithin, rounded};
 ghost use Rattle.font_metrics.specs.Metrics.{scale_of, constant_of, percent_of, or_default, IsPercent, IsScaleDown, given_constant, line_ascent_of, line_descent_of, ex_of, overlap_of, place_of_letter, glyph_at, name_at, variants_of, parts_of, kerns_of, reached_of, values_of, kern_value, kern_of};
@@ -270,11 +270,21 @@ impl Metrics {
     {
         let mut count = 0;
         for step in steps {
-            if self.scale(i64::from(step.height), size) <= height {
+            if self.is_reached(step, height, size) {
                 count += 1;
             }
         }
         count
+    }
+
+    /// Whether the height of a step is at most a height, at a size.
+    fn is_reached(&self, step: &KernStep, height: i64, size: i64) -> bool
+        requires range { IsKernStep step.now }
+        requires size_low { pos 0 ≤ℤ size }
+        requires size_high { size ≤ℤ pos (2 ^ 20) }
+        ensures { result ≡ int_le (scale_of self.now step.now.height size) height }
+    {
+        self.scale(i64::from(step.height), size) <= height
     }
 
     /// The operator lines of the file, in file order.

@@ -27,7 +27,7 @@ returns c =
     let kern = c.in_ok-corner.kern in
     let tables = given.tables in
     subst (λ entry. Takes (behind given entry) (record given { tables = record tables { kerns = c.take.new.self } }) c.take.result)
-    (sym c.kern_line.ensures)
+    (sym c.in_ok-corner.ensures)
     (kern_taken (is_full 1 (kerns_at corner tables.kerns) place) (not (do_rise (heights_of kern))) Repeated NotRising
     (with_kerns_at corner tables.kerns (with_item (kerns_at corner tables.kerns) place kern)) c.take.new.self
     (λ kerns. record given { tables = record tables { kerns = kerns } }) c.take.result c.take.ensures)

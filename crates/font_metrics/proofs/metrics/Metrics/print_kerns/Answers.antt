@@ -1,6 +1,6 @@
-use Rattle.std.proofs.Common.{◌∙◌, ◌++◌, ap, List, map, flat_map}
+use Rattle.std.proofs.Common.{◌∙◌, ◌++◌, ap, refl, List, length, map, flat_map}
 use Rattle.std.proofs.lemmas.List.{take_all}
-use Rattle.std.proofs.lemmas.Option.{slice_get-get_or}
+use Rattle.std.proofs.lemmas.Option.{slice_get_read}
 use Rattle.font_metrics.specs.declared.kern.Kern.{Kern}
 use Rattle.font_metrics.specs.Metrics.{name_at, kerns_of}
 use Rattle.font_metrics.specs.declared.table.Table.TheVariants.{Kerns}
@@ -12,9 +12,9 @@ pub loop-kern-preserved : goal.loop-kern-preserved
 unfolding name_at
 loop-kern-preserved c =
     let items = c.kerns-kern-items.result.now in
-    let added = rw (c.as_slice.ensures.value, c.in_ok-kern_words.ensures, c.name-base_name.ensures) at c.in_ok-add_line.ensures in
-    front-more (entry_words (Kerns c.args.corner) c.args.self.now.glyphs c.args.base.0) items c.loop-kern.kern-index _ _ _ _
-    (slice_get-get_or items c.loop-kern.kern-index _ c.loop-kern-test.true) c.loop-kern.invariant added
+    let added = rw (c.as_slice.ensures.value, c.in_ok-words.ensures, c.name-base_name.ensures) at c.in_ok-add_line.ensures in
+    front-more (entry_words (Kerns c.args.corner) c.args.self.now.glyphs c.args.base.0) items c.loop-kern.kern-index c.kern-item.result _ _ _
+    (slice_get_read items (length items) c.loop-kern.kern-index c.kern-item.result refl c.loop-kern-test.true c.kern-item.is) c.loop-kern.invariant added
 
 pub returns : goal.returns
 unfolding kerns_of
