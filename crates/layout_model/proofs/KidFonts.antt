@@ -63,18 +63,23 @@ record GoesTo (kid : ℕ) (P : Question → Type 0) : Type 0 where
   to : question.kid ≡ kid
   holds : P question
 
-one_goes : (P : Question → Type 0) (kid : ℕ) (asks : List Question) → 1 ≤ times_asked kid asks → All P asks → GoesTo kid P
-one_goes P kid [] some all = absurd (let none : ⊥ = omega (arith, some) in none)
-one_goes P kid (question ∷ asks) some all =
+-- the first of the questions, or one behind it
+first_goes : (P : Question → Type 0) (kid : ℕ) (question : Question) (asks : List Question) → 1 ≤ times_asked kid (question ∷ asks)
+    → All P (question ∷ asks) → (1 ≤ times_asked kid asks → GoesTo kid P) → GoesTo kid P
+first_goes P kid question asks some all more =
     by (question.kid == kid) refl (counted_one (λ (q : Question). q.kid == kid) question asks)
   where
     by : (b : Bool) → (question.kid == kid) ≡ b
         → times_asked kid (question ∷ asks) ≡ cond (question.kid == kid) 1 0 + times_asked kid asks → GoesTo kid P
     by true e count = record { question = question; to = grind (arith, nat_tests); holds = All-head P question asks all }
     by false e count =
-        let rest : 1 ≤ times_asked kid asks =
-        let none = ap (λ (b : Bool). cond b 1 0 + times_asked kid asks) e in omega (arith, some, count, none) in
-        one_goes P kid asks rest (All-tail P question asks all)
+        let none = ap (λ (b : Bool). cond b 1 0 + times_asked kid asks) e in
+        more (omega (arith, some, count, none))
+
+one_goes : (P : Question → Type 0) (kid : ℕ) (asks : List Question) → 1 ≤ times_asked kid asks → All P asks → GoesTo kid P
+one_goes P kid [] some all = absurd (let none : ⊥ = omega (arith, some) in none)
+one_goes P kid (question ∷ asks) some all =
+    first_goes P kid question asks some all (λ rest. one_goes P kid asks rest (All-tail P question asks all))
 
 -- each child's font size is in range where all that is asked has one that is
 pub kid_font : (m : MetricsValue) (node : Node) (context : Context) (one : List Answer)
