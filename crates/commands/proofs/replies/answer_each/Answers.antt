@@ -5,7 +5,7 @@ use Rattle.commands.proofs.StepsTaken.{takes_last, takes_no_more, takes_on, took
 use Rattle.commands.proofs.replies.answer_each.Goals as goal
 
 pub loop-init : goal.loop-init
-loop-init g c = (stands_first _ _ _ _, took_none _ _ _ _)
+loop-init g c = (stands_first g.A.Respond.responder _ _ _ _, took_none g.A.Respond.responder g.A.Respond.takes _ _ _ _)
 
 pub loop-preserved : goal.loop-preserved
 loop-preserved g c =
