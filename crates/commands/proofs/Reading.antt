@@ -101,12 +101,11 @@ sends_more wanted left left' first now later reply before told s = record {
     by None left left' t b = tt
     by (Some w) None left' t b = absurd t
     by (Some w) (Some l) None t b = absurd b
-    by (Some w) (Some l) (Some m) t b =
-        (
-          append_assoc s.sent reply m.bytes ∙ ap (λ bs. s.sent ++ bs) (sym b.0) ∙ t.0,
-          sym b.1 ∙ t.1,
-          append_assoc s.parts (reply ∷ []) m.parts ∙ ap (λ ps. s.parts ++ ps) (sym b.2) ∙ t.2,
-        )
+    by (Some w) (Some l) (Some m) t b = (
+      append_assoc s.sent reply m.bytes ∙ ap (λ bs. s.sent ++ bs) (sym b.0) ∙ t.0,
+      sym b.1 ∙ t.1,
+      append_assoc s.parts (reply ∷ []) m.parts ∙ ap (λ ps. s.parts ++ ps) (sym b.2) ∙ t.2,
+    )
 
 -- what is left, where a reply comes first
 reply_left : (left left' : Option Text) (reply : List ℕ) → ComesBefore reply left left'

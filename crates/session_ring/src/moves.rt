@@ -55,7 +55,11 @@ fn move_of(value: &Value) -> Move
 fn asks_for(word: &str, value: &Value) -> bool
     ensures { result ≡ asks_for word.now (view value.now) }
 {
-    value.get("op").and_then(Value::as_str).is_some_and(|op| op == word) && has_op_alone(value)
+    value
+        .get("op")
+        .and_then(Value::as_str)
+        .is_some_and(|op| op == word)
+        && has_op_alone(value)
 }
 
 fn has_op_alone(value: &Value) -> bool

@@ -20,7 +20,7 @@ pub struct Undoable {
 impl Ground for Undoable {
     ghost use Rattle.kept_edits.specs.ByIds.{TakesNeeded};
     ghost use Rattle.session_ring.specs.Undoable.{told};
-    ghost use Rattle.session_ring.proofs.ByElements.{steps_by_elements};
+    ghost use Rattle.session_ring.specs.ByElements.{steps_by_elements};
 
     ghost told = { λ undoable. told undoable.session.held };
 

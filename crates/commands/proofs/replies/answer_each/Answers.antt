@@ -4,6 +4,9 @@ use Rattle.commands.proofs.Reading.{fewer, goes_no_further, goes_on, goes_wrong_
 use Rattle.commands.proofs.StepsTaken.{takes_last, takes_no_more, takes_on, took_none}
 use Rattle.commands.proofs.replies.answer_each.Goals as goal
 
+pub loop-init : goal.loop-init
+loop-init g c = (stands_first g.A.Respond.responder _ _ _ _, took_none g.A.Respond.responder g.A.Respond.takes _ _ _ _)
+
 pub loop-preserved : goal.loop-preserved
 loop-preserved g c =
     let there : c.in_ok-answer_next.field-0 ≡ true = search (rules, tests) in
