@@ -3,6 +3,7 @@
 
     explain.py layout METRICS TREE | edit METRICS TREE SCRIPT | check METRICS TREE | gen METRICS SEED COUNT
     explain.py paint METRICS TREE | hit METRICS TREE X Y | select METRICS TREE ID ID
+    explain.py history DEPTH METRICS TREE SCRIPT
     explain.py metrics LINE KIND [METRICS]
     explain.py tree ELEMENT KIND [TREE]
     explain.py refused CAUSE
@@ -22,7 +23,7 @@ from companion.program import Inputs
 
 RUNS = {"layout": ["METRICS", "TREE"], "edit": ["METRICS", "TREE", "SCRIPT"], "check": ["METRICS", "TREE"],
         "gen": ["METRICS", "SEED", "COUNT"], "paint": ["METRICS", "TREE"], "hit": ["METRICS", "TREE", "X", "Y"],
-        "select": ["METRICS", "TREE", "ID", "ID"]}
+        "select": ["METRICS", "TREE", "ID", "ID"], "history": ["DEPTH", "METRICS", "TREE", "SCRIPT"]}
 
 
 def main(argv=None):

@@ -67,4 +67,5 @@ def tree_fault(kind):
 
 def reply(text):
     """What is said of a script's reply, or none."""
-    return row("The script, and the replies to it", "reply", text)
+    script = "The script, and the replies to it"
+    return row(script, "reply", text) or row(f"{script}: Undo and redo", "reply", text)

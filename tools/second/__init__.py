@@ -21,7 +21,7 @@ docstring says otherwise, x grows to the right and y downward.
 | questions, equations, layout | what an element asks of its children, which equation it has, the layout of a tree |
 | placing | where everything stands, and the lines of output |
 | painting, pointing | the paint list and its SVG; what a pointer meets, and what is selected |
-| edits, script, session | edits of a tree, the lines of a script, and the replies |
+| edits, script, session, history | edits of a tree, the lines of a script, the replies, undo and redo |
 | generator | the command `gen` |
 | program | the command line and the table of endings |
 """

@@ -4,6 +4,7 @@ Inputs have one method: `open(name)` gives a binary stream, or raises OSError. W
 """
 
 from .generator import generated, seed_and_count
+from .history import History, depth_of
 from .json_text import NotJson, read_json
 from .layout import OutOfRange
 from .metrics_print import print_metrics
@@ -25,6 +26,7 @@ USAGE_LINE = "usage: mathlay " + " | ".join(
         "paint METRICS TREE",
         "hit METRICS TREE X Y",
         "select METRICS TREE ID ID",
+        "history DEPTH METRICS TREE SCRIPT",
     ]
 )
 LONGEST_TREE = 4194304
@@ -55,7 +57,7 @@ def run(words, inputs, write):
 
 
 def command_of(words):
-    """The function of a command, where the words after it are as many as it takes."""
+    """The function of a command, where the words after it are as many as it takes and have their forms."""
     command, is_sound = COMMANDS.get((words[0], len(words)), (None, None)) if words else (None, None)
     if command is None or not is_sound(*words[1:]):
         raise Ending(USAGE, USAGE_LINE)
@@ -75,7 +77,16 @@ def check(inputs, write, metrics_name, tree_name):
 
 def edit(inputs, write, metrics_name, tree_name, script_name):
     metrics = metrics_in(inputs, metrics_name)
-    session = Session(metrics, tree_in(inputs, tree_name))
+    answer_lines(inputs, write, Session(metrics, tree_in(inputs, tree_name)), script_name)
+
+
+def history(inputs, write, depth, metrics_name, tree_name, script_name):
+    metrics = metrics_in(inputs, metrics_name)
+    answer_lines(inputs, write, History(metrics, tree_in(inputs, tree_name), depth_of(depth)), script_name)
+
+
+def answer_lines(inputs, write, session, script_name):
+    """Replies to each line of a script, one after another."""
     try:
         with inputs.open(script_name) as stream:
             for line in lines_of(stream):
@@ -127,6 +138,7 @@ COMMANDS = {
     ("paint", 3): (paint, any_words),
     ("hit", 5): (hit_point, lambda metrics, tree, *point: coordinates_of(*point)),
     ("select", 5): (select, lambda metrics, tree, *ids: ids_of(*ids)),
+    ("history", 5): (history, lambda depth, *names: depth_of(depth)),
 }
 
 

@@ -50,6 +50,16 @@ def command_in(line):
     return read(value)
 
 
+def sole_op(line):
+    """The text of the key `op` of an object without other keys; None of every other line."""
+    try:
+        value = read_json(line)
+    except NotJson:
+        return None
+    is_alone = isinstance(value, dict) and set(value) == {"op"} and isinstance(value["op"], str)
+    return value["op"] if is_alone else None
+
+
 def require(is_so):
     if not is_so:
         raise NoCommand

@@ -3,7 +3,7 @@
 from .edits import Refused, edited
 from .layout import OutOfRange, lay_tree
 from .placing import page
-from .script import SHOW, NoCommand, command_in, is_blank
+from .script import SHOW, NoCommand, command_in, is_blank, sole_op
 
 
 class Session:
@@ -25,11 +25,18 @@ class Session:
             raise Refused("range") from None
         self.tree = tree
 
+    def steps(self):
+        """What other lines ask for, by their `op`, which is their only key: functions that say whether it could be done."""
+        return {}
+
     def reply_to(self, line):
         """What is written for a line of a script."""
         if is_blank(line):
             return b""
         try:
+            step = self.steps().get(sole_op(line))
+            if step:
+                return b"ok\n" if step() else b"refused nothing\n"
             command = command_in(line)
             if command is SHOW:
                 return b"shown\n" + self.page()

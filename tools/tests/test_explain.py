@@ -44,7 +44,7 @@ class Sentences(InFolder):
         for row in formats.table("The script, and the replies to it", "reply"):
             if row["reply"].startswith("refused"):
                 self.assertIn(f"right would be {row['what would be right']}", self.told(*row["reply"].split()))
-        for heading, word, kinds in (("The metrics file", "metrics", range(1, 15)), ("The tree file", "tree", range(1, 12))):
+        for heading, word, kinds in (("The metrics file", "metrics", range(1, 16)), ("The tree file", "tree", range(1, 12))):
             rows = formats.table(f"{heading}: Its faults", "kind")
             self.assertEqual(sorted(int(row["kind"]) for row in rows), list(kinds))
             for row in rows:
@@ -55,13 +55,16 @@ class Sentences(InFolder):
         self.assertEqual(sum(bool(re.match(r"\| \d \|", line)) for line in first), 9)
 
     def test_what_is_no_refusal(self):
-        for words in (("hello",), ("metrics", 1, 15), ("tree", 1, 12), ("refused", "everything")):
+        for words in (("hello",), ("metrics", 1, 16), ("tree", 1, 12), ("refused", "everything")):
             status, written, errors = run(explain, *words)
             self.assertEqual((status, written, errors.count("\n")), (1, b"", 1))
 
     def test_ids_and_pictures_that_are_refused(self):
         self.assertIn("the tree: no element in flow has the id 9; right would be", self.told("node", 9))
         self.assertIn("too many pieces; right would be", self.told("paint", "many"))
+
+    def test_nothing_to_undo(self):
+        self.assertIn("there is nothing to undo, or to redo; right would be an edit", self.told("refused", "nothing"))
 
     def test_a_file_that_is_not_there_is_named(self):
         path = self.file("m", METRICS)
@@ -87,7 +90,7 @@ class Runs(InFolder):
     def test_edits_of_a_seed(self):
         metrics = self.file("m", METRICS)
         for status, text, told in ((3, "metrics 5 4\n", f"{metrics}, line 5: too few or too many fields"),
-                                   (2, "usage\n", f"gen {metrics} 1 0: the words are none of the seven lists"),
+                                   (2, "usage\n", f"gen {metrics} 1 0: the words are none of the eight lists"),
                                    (8, "range\n", f"gen {metrics} 1 0: a number of the layout can't be stored")):
             outcome = run(explain, "gen", metrics, 1, 0, "--program", self.program(text, status))
             self.assertEqual(outcome[:2], (status, text.encode()))

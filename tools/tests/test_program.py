@@ -15,7 +15,7 @@ from tests.common import TOP, InFolder
 PROGRAM = TOP / "crates" / "mathlay" / "out" / "mathlay"
 USAGE = (
     b"usage: mathlay layout METRICS TREE | edit METRICS TREE SCRIPT | check METRICS TREE | gen METRICS SEED COUNT"
-    b" | paint METRICS TREE | hit METRICS TREE X Y | select METRICS TREE ID ID\n")
+    b" | paint METRICS TREE | hit METRICS TREE X Y | select METRICS TREE ID ID | history DEPTH METRICS TREE SCRIPT\n")
 GENERATED = b"edits 1\nok 1\nwidth 5467264\nascent 19680\ndescent 10592\nboxes 833\n"
 FILES = {
     "m": "mathlay-metrics 1\nupem 1024\nline 900 300\nxheight 512\nglyph missing 512 600 0\n",
@@ -39,6 +39,9 @@ ROWS = [
     (["select", "m", "t", "1", "1"], 0, b"area 0 0 0 0\n"),
     (["select", "m", "t", "1", "2"], 10, b"node 2\n"),
     (["select", "m", "t", "1", "4294967296"], 2, USAGE),
+    (["history", "1", "m", "t", "s"], 0, b"refused root\n"),
+    (["history", "00001", "m", "t", "s"], 2, USAGE),
+    (["history", "1001", "m", "t", "s"], 2, USAGE),
     ([], 2, USAGE),
     (["layout", "m"], 2, USAGE),
     (["layout", "m", "t", "t"], 2, USAGE),

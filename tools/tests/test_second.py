@@ -62,6 +62,38 @@ class SecondEngine(unittest.TestCase):
         for words in (("hit", "m", "t", "1", "123456789012"), ("hit", "m", "t", "-", "1"), ("select", "m", "t", "1", "4294967296"), ("select", "m", "t", "1", "-1")):
             self.assertEqual(run(*words, m=sample, t=tree)[0], 2)
 
+    def test_undo_and_redo(self):
+        undo, redo, show = (b'{"op":"%s"}\n' % op for op in (b"undo", b"redo", b"show"))
+        insert = b'{"op":"insert","node":1,"index":0,"element":{"name":"mn","text":"1"}}\n'
+
+        def replies(depth, *lines):
+            return run("history", depth, "m", "t", "s", m=SMALL, t=ONE, s=b"".join(lines))[1]
+
+        self.assertRegex(replies("5", insert, undo, redo, show), b"(?s)^ok\nok\nok\nshown\n.*\nbox 3 mn ")
+        self.assertRegex(replies("5", insert, undo, undo, insert, redo, show), b"(?s)^ok\nok\nrefused nothing\nok\nrefused nothing\nshown\n.*\nbox 4 mn ")
+        edits = [b'{"op":"text","node":2,"text":"%s"}\n' % (b"1" * count) for count in (2, 3)]
+        self.assertEqual(replies("1", *edits, undo, undo), b"ok\nok\nok\nrefused nothing\n")
+        self.assertEqual(replies("1", *edits, undo, show), b"ok\nok\nok\n" + run("edit", "m", "t", "s", m=SMALL, t=ONE, s=edits[0] + show)[1][3:])
+        self.assertEqual(run("edit", "m", "t", "s", m=SMALL, t=ONE, s=undo), (0, b"refused line\n"))
+        for depth in ("0", "1001", "00001", "-1"):
+            self.assertEqual(run("history", depth, "m", "t", "s", m=SMALL, t=ONE, s=b"")[0], 2)
+
+    def test_a_superscript_moves_in_by_kerns(self):
+        sample = (TOP / "crates" / "run_cases" / "data" / "sample.metrics").read_bytes()
+        kerned = sample.replace(b"metrics 1", b"metrics 2", 1) + b"kern x.it TR -40 400 -20\nkern one BL 0 100 10\n"
+        tree = b'{"name":"math","children":[{"name":"msup","children":[{"name":"mi","text":"x"},{"name":"mn","text":"1"}]}]}'
+        self.assertIn(b"\nglyph 9080 -5760 12288 one\n", run("layout", "m", "t", m=kerned, t=tree)[1])
+        self.assertIn(b"\nglyph 9280 -5760 12288 one\n", run("layout", "m", "t", m=sample, t=tree)[1])
+        self.assertIn(b"\nkern one BL 0 100 10\nkern x.it TR -40 400 -20\nvvariant ", run("check", "m", "t", m=kerned, t=tree)[1])
+
+    def test_faults_of_kerns(self):
+        for line, kind in ((b"x", 3), (b"kern one TR", 4), (b"kern nobody TR x", 8), (b"kern one XX x", 7), (b"kern one TR 0 x 0", 5), (b"kern one TR 0 70000 0", 6), (b"kern one TR 0 5 0 5 0", 15)):
+            with self.subTest(line):
+                metrics = SMALL.replace(b"metrics 1", b"metrics 2") + line
+                self.assertEqual(run("check", "m", "t", m=metrics, t=ONE), (3, b"metrics 8 %d\n" % kind))
+        self.assertEqual(run("check", "m", "t", m=SMALL + b"kern one TR 0", t=ONE), (3, b"metrics 8 3\n"))
+        self.assertEqual(run("check", "m", "t", m=SMALL.replace(b"metrics 1", b"metrics 3"), t=ONE), (3, b"metrics 1 2\n"))
+
     def test_every_sample_is_laid_out_with_its_own_font(self):
         font = read_metrics(FONT)
         for path in sorted(SAMPLES.glob("*.json")):

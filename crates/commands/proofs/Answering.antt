@@ -20,10 +20,13 @@ use Rattle.queries.specs.Queries.{IsCause, answer_to}
 use Rattle.queries.specs.declared.query.Query.{Query}
 use Rattle.queries.specs.declared.query.QueryRefusal.{QueryRefusal}
 use Rattle.queries.specs.declared.query.QueryRefusal.TheVariants as refused_query
-use Rattle.commands.specs.Command.{Asked, Job, OverTree, Generates, Work, LaysOut, Edits, Checks, Asks}
+use Rattle.commands.specs.Command.{Asked, Job, OverTree, Generates, Work, LaysOut, Edits, Checks, Asks, Remembers}
 use Rattle.commands.specs.Answer.{Text, whole_text, content, metrics_in, tree_in, answers_to, ◌>>=◌, started, lines_of_page, answered, asked_of_page, of_answer, checked, laid_out, scripted, done, generates, told_of_edits, answer_over, answer_with, answer}
 use Rattle.commands.specs.Refusals.{of_layout, of_query}
 use Rattle.commands.specs.Ends.{LacksFile, HasReadCause, IsCut, GivesOr, Answers, IsReachedNext, IsScript, start_of}
+use Rattle.commands.specs.Responders.{Responder}
+use Rattle.commands.specs.Replies.{by_session}
+use Rattle.commands.specs.HistorySteps.{by_history, kept_at_first}
 use Rattle.commands.specs.Parts.{AnswersLines, LacksNext, LacksScript, LacksTree, OpensScript, replies_left}
 use Rattle.commands.specs.declared.status.Status.{Status}
 use Rattle.commands.specs.declared.refusal.Refusal.{Refusal}
@@ -227,13 +230,13 @@ pub not_asked : (query : Query) (metrics : MetricsValue) (tree : TreeValue) (r :
 not_asked query metrics tree r (inl memory) = inl (err_again r Memory memory)
 not_asked query metrics tree r (inr same) = inr (ap (λ said. said >>= λ s. answered query s) same)
 
--- ---- the script, over a session
+-- ---- the script, by what answers it
 
-abbrev ScriptedAnswer : List ℕ → SessionValue → InputsTold → InputsTold → Result Text Refusal → Type 0
-ScriptedAnswer name session before after result =
-    Answers (option_map (scripted name session) before.files) (λ f. f name ≡ None) before after result
+abbrev ScriptedAnswer : (R : Responder) → List ℕ → R.Known → InputsTold → InputsTold → Result Text Refusal → Type 0
+ScriptedAnswer R name known before after result =
+    Answers (option_map (scripted R name known) before.files) (λ f. f name ≡ None) before after result
 
-module _ (name : List ℕ) (session : SessionValue) (before : InputsTold) where
+module _ (R : Responder) (name : List ℕ) (known : R.Known) (before : InputsTold) where
   -- a file that isn't there wasn't selected
   there : (files : Option Files) (rest : Option (List ℕ)) → IfSome files (λ f. IsSome (f name) × (rest ≡ f name))
       → IsSomeAnd files (λ f. f name ≡ None) → ⊥
@@ -241,7 +244,7 @@ module _ (name : List ℕ) (session : SessionValue) (before : InputsTold) where
   there (Some f) rest found away = let e = subst IsSome away found.0 in cc
 
   pub without_script : (after : InputsTold) (r : Refusal) → OpensScript before after name (Err r)
-      → ScriptedAnswer name session before after (Err r)
+      → ScriptedAnswer R name known before after (Err r)
   without_script after r o = record {
     answer = by before.files;
     fault = λ is. o.selects.fault (err_again r ReadFault is);
@@ -254,12 +257,12 @@ module _ (name : List ℕ) (session : SessionValue) (before : InputsTold) where
       cut : IsCut {V = Text} (Err r)
       cut = cut_again r o.selects.cut
 
-      by : (files : Option Files) → IfSome (option_map (scripted name session) files) (λ w. IsCut {V = Text} (Err r) ⊎ (Err r ≡ w))
+      by : (files : Option Files) → IfSome (option_map (scripted R name known) files) (λ w. IsCut {V = Text} (Err r) ⊎ (Err r ≡ w))
       by None = tt
       by (Some f) = inl cut
 
   pub with_script : (mid after : InputsTold) (old new : SinkTold) (status : Status) (reader : ReaderValue) → OpensScript before mid name (Ok reader)
-      → (a : AnswersLines session reader mid after old new status) → ScriptedAnswer name session before after (Ok a.text)
+      → (a : AnswersLines R known reader mid after old new status) → ScriptedAnswer R name known before after (Ok a.text)
   with_script mid after old new status reader o a = record {
     answer = by before.files o.selects.found;
     fault = λ is. absurd (let e = is in cc);
@@ -269,25 +272,22 @@ module _ (name : List ℕ) (session : SessionValue) (before : InputsTold) where
     missing = omega (arith, o.selects.missing, a.missing);
   }
     where
-      wanted : IfSome (replies_left session (record { held = []; line = []; given = 0 }) mid) (λ replies. a.text ≡ replies)
-      wanted = subst (λ r. IfSome (replies_left session r mid) (λ replies. a.text ≡ replies)) o.fresh a.wanted
+      wanted : IfSome (replies_left R known (record { held = []; line = []; given = 0 }) mid) (λ replies. a.text ≡ replies)
+      wanted = subst (λ r. IfSome (replies_left R known r mid) (λ replies. a.text ≡ replies)) o.fresh a.wanted
 
       of_file : (file rest : Option (List ℕ)) → IsSome file → rest ≡ file
-          → IfSome (option_map (λ bytes. answers_to session bytes) (prepend_known [] rest)) (λ replies. a.text ≡ replies)
-          → a.text ≡ answers_to session (unwrap_or file [])
+          → IfSome (option_map (λ bytes. answers_to R known bytes) (prepend_known [] rest)) (λ replies. a.text ≡ replies)
+          → a.text ≡ answers_to R known (unwrap_or file [])
       of_file None rest some is h = absurd (let e = some in cc)
       of_file (Some bytes) None some is h = absurd cc
-      of_file (Some bytes) (Some left) some is h = let same : left ≡ bytes = cc in h ∙ ap (answers_to session) same
+      of_file (Some bytes) (Some left) some is h = let same : left ≡ bytes = cc in h ∙ ap (answers_to R known) same
 
       by : (files : Option Files) → IfSome files (λ f. IsSome (f name) × (mid.rest ≡ f name))
-          → IfSome (option_map (scripted name session) files) (λ w. IsCut {V = Text} (Ok a.text) ⊎ (Ok a.text ≡ w))
+          → IfSome (option_map (scripted R name known) files) (λ w. IsCut {V = Text} (Ok a.text) ⊎ (Ok a.text ≡ w))
       by None found = tt
       by (Some f) found = inr (ap Ok (of_file (f name) mid.rest found.0 found.1 wanted))
 
 -- ---- the session of a tree, and then a script
-
-abbrev EditAnswer : List ℕ → MetricsValue → TreeValue → InputsTold → InputsTold → Result Text Refusal → Type 0
-EditAnswer name metrics tree before after result = DoneAnswer (Edits name) metrics tree before after result
 
 abbrev Started : MetricsValue → TreeValue → InputsTold → Result SessionValue Refusal → Type 0
 Started metrics tree seen result = Answers (option_map (λ f. started metrics tree) seen.files) (λ f. ⊥) seen seen result
@@ -296,25 +296,47 @@ ok_value : {A : Type 0} (said : Result A Refusal) → IsOk said → (value : A) 
 ok_value (Ok value) h = (value, refl)
 ok_value (Err r) h = absurd (let e = h in cc)
 
-module _ (name : List ℕ) (metrics : MetricsValue) (tree : TreeValue) (before : InputsTold) where
-  which_script : (f : Files) → LacksScript (Edits name) metrics tree f
-      → ⊥ ⊎ ((session : SessionValue) × (started metrics tree ≡ Ok session) × (f name ≡ None))
+-- which begins with what is known of the session
+module _ (R : Responder) (first : SessionValue → R.Known) (name : List ℕ) (metrics : MetricsValue) (tree : TreeValue) (before : InputsTold) where
+  abbrev Lacks : Files → Type 0
+  Lacks f = IsOk (started metrics tree) × (f name ≡ None)
+
+  abbrev wanted : Files → Result Text Refusal
+  wanted f = started metrics tree >>= λ session. scripted R name (first session) f
+
+  which_script : (f : Files) → Lacks f → ⊥ ⊎ ((session : SessionValue) × (started metrics tree ≡ Ok session) × (f name ≡ None))
   which_script f lack = let is = ok_value (started metrics tree) lack.0 in inr (is.0, is.1, lack.1)
 
-  pub without_session : (r : Refusal) → GivesOr (started metrics tree) (Err r) → EditAnswer name metrics tree before before (Err r)
-  unfolding done
+  pub without_session : (r : Refusal) → GivesOr (started metrics tree) (Err r)
+      → Answers (option_map wanted before.files) Lacks before before (Err r)
   without_session r gives =
-      refused (λ f. started metrics tree) (scripted name) (λ f. ⊥) (λ session f. f name ≡ None) (LacksScript (Edits name) metrics tree)
+      refused (λ f. started metrics tree) (λ session f. scripted R name (first session) f) (λ f. ⊥) (λ session f. f name ≡ None) Lacks
       which_script before before r (λ f lack. absurd lack)
       (without_files (started metrics tree) (Err r) before (started_no_fault metrics tree) gives)
 
-  pub with_session : (after : InputsTold) (session : SessionValue) (result : Result Text Refusal) → GivesOr (started metrics tree) (Ok session)
-      → ScriptedAnswer name session before after result → EditAnswer name metrics tree before after result
-  unfolding done
-  with_session after session result gives b =
-      continued (λ f. started metrics tree) (scripted name) (λ f. ⊥) (λ session f. f name ≡ None) (LacksScript (Edits name) metrics tree)
+  pub with_session : (after : InputsTold) (session : SessionValue) (known : R.Known) (result : Result Text Refusal)
+      → GivesOr (started metrics tree) (Ok session) → known ≡ first session → ScriptedAnswer R name known before after result
+      → Answers (option_map wanted before.files) Lacks before after result
+  with_session after session known result gives begun b =
+      continued (λ f. started metrics tree) (λ session f. scripted R name (first session) f) (λ f. ⊥) (λ session f. f name ≡ None) Lacks
       which_script before before after session result (λ f is lack. (subst IsOk (sym is) refl, lack))
-      (without_files (started metrics tree) (Ok session) before (started_no_fault metrics tree) gives) b
+      (without_files (started metrics tree) (Ok session) before (started_no_fault metrics tree) gives)
+      (subst (λ k. ScriptedAnswer R name k before after result) begun b)
+
+-- of a session itself, and of one whose edits can be undone
+pub edited_answers : (name : List ℕ) (metrics : MetricsValue) (tree : TreeValue) (before after : InputsTold) (result : Result Text Refusal)
+    → Answers (option_map (wanted by_session (λ session. session) name metrics tree before) before.files)
+    (Lacks by_session (λ session. session) name metrics tree before) before after result
+    → DoneAnswer (Edits name) metrics tree before after result
+unfolding done
+edited_answers name metrics tree before after result a = a
+
+pub remembered_answers : (depth : ℕ) (name : List ℕ) (metrics : MetricsValue) (tree : TreeValue) (before after : InputsTold) (result : Result Text Refusal)
+    → Answers (option_map (wanted by_history (kept_at_first depth) name metrics tree before) before.files)
+    (Lacks by_history (kept_at_first depth) name metrics tree before) before after result
+    → DoneAnswer (Remembers depth name) metrics tree before after result
+unfolding done
+remembered_answers depth name metrics tree before after result a = a
 
 -- ---- the tree file, over metrics
 
@@ -383,6 +405,7 @@ script_lacks LaysOut name metrics tree f named away is = absurd named
 script_lacks (Edits script) name metrics tree f named away is = (is, subst (λ n. f n ≡ None) named away)
 script_lacks Checks name metrics tree f named away is = absurd named
 script_lacks (Asks query) name metrics tree f named away is = absurd named
+script_lacks (Remembers depth script) name metrics tree f named away is = (is, subst (λ n. f n ≡ None) named away)
 
 -- which file isn't there behind the metrics file
 which_next : (job : Job) (file : List ℕ) (f : Files) (name : List ℕ) → IsReachedNext job file f name → f name ≡ None
@@ -409,6 +432,7 @@ lacked_script LaysOut metrics tree f lack = absurd lack
 lacked_script (Edits script) metrics tree f lack = (script, refl, lack.1, lack.0)
 lacked_script Checks metrics tree f lack = absurd lack
 lacked_script (Asks query) metrics tree f lack = absurd lack
+lacked_script (Remembers depth script) metrics tree f lack = (script, refl, lack.1, lack.0)
 
 lacked_next : (job : Job) (file : List ℕ) (f : Files) (metrics : MetricsValue) → metrics_in (content f file) ≡ Ok metrics
     → LacksNext job metrics f → (name : List ℕ) × IsReachedNext job file f name × (f name ≡ None)

@@ -9,8 +9,7 @@ use Rattle.std.proofs.lemmas.Bool.Decides.{nat_tests}
 use Rattle.std.specs.Io.KnownBytes.{Appends}
 use Rattle.doc_io.specs.Causes.{InputsTold, Rose, SinkTold}
 use Rattle.doc_io.proofs.Known.{appends_both, kept_of_nothing}
-use Rattle.edit_session.specs.Session.{SessionValue}
-use Rattle.commands.specs.Replies.{told_of, after_line, each_reply, replies}
+use Rattle.commands.specs.Responders.{Responder, all_replies, each_reply}
 use Rattle.doc_io.specs.LineReader.{is_short}
 use Rattle.commands.specs.Script.{within, is_within}
 use Rattle.commands.specs.Parts.{Tells, status_of_stop}
@@ -77,27 +76,27 @@ nothing_passes most = let few : nat_le 0 most ≡ true = grind (arith, nat_tests
 
 -- ---- the replies to what is left
 
-pub more_replies : (most : ℕ) (session : SessionValue) (line : List ℕ) (lines : List (List ℕ)) → is_short line ≡ true
-    → replies_within (suc most) session (line ∷ lines)
-    ≡ record { bytes = told_of session line ++ (replies_within most (after_line session line) lines).bytes; parts = told_of session line ∷ (replies_within most (after_line session line) lines).parts; whole = (replies_within most (after_line session line) lines).whole }
-more_replies most session line lines short = λ i. record {
-  bytes = replies session (within_more most line lines short i);
-  parts = each_reply session (within_more most line lines short i);
+pub more_replies : (R : Responder) (most : ℕ) (known : R.Known) (line : List ℕ) (lines : List (List ℕ)) → is_short line ≡ true
+    → replies_within R (suc most) known (line ∷ lines)
+    ≡ record { bytes = R.told_of known line ++ (replies_within R most (R.after_line known line) lines).bytes; parts = R.told_of known line ∷ (replies_within R most (R.after_line known line) lines).parts; whole = (replies_within R most (R.after_line known line) lines).whole }
+more_replies R most known line lines short = λ i. record {
+  bytes = all_replies R known (within_more most line lines short i);
+  parts = each_reply R known (within_more most line lines short i);
   whole = is_within_more most line lines short i;
 }
 
-pub stopped_replies : (most : ℕ) (session : SessionValue) (line : List ℕ) (lines : List (List ℕ)) → (most ≡ 0) ⊎ (is_short line ≡ false)
-    → replies_within most session (line ∷ lines) ≡ record { bytes = []; parts = []; whole = false }
-stopped_replies most session line lines h = λ i. record {
-  bytes = replies session (within_none most line lines h i);
-  parts = each_reply session (within_none most line lines h i);
+pub stopped_replies : (R : Responder) (most : ℕ) (known : R.Known) (line : List ℕ) (lines : List (List ℕ)) → (most ≡ 0) ⊎ (is_short line ≡ false)
+    → replies_within R most known (line ∷ lines) ≡ record { bytes = []; parts = []; whole = false }
+stopped_replies R most known line lines h = λ i. record {
+  bytes = all_replies R known (within_none most line lines h i);
+  parts = each_reply R known (within_none most line lines h i);
   whole = is_within_none most line lines h i;
 }
 
-pub no_replies : (most : ℕ) (session : SessionValue) → replies_within most session [] ≡ record { bytes = []; parts = []; whole = true }
-no_replies most session = λ i. record {
-  bytes = replies session (nothing_within most i);
-  parts = each_reply session (nothing_within most i);
+pub no_replies : (R : Responder) (most : ℕ) (known : R.Known) → replies_within R most known [] ≡ record { bytes = []; parts = []; whole = true }
+no_replies R most known = λ i. record {
+  bytes = all_replies R known (nothing_within most i);
+  parts = each_reply R known (nothing_within most i);
   whole = nothing_passes most i;
 }
 

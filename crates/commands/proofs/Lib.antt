@@ -10,4 +10,5 @@ mod Replying
 mod RepliesLaws
 mod CoordinateWords
 mod DigitWords
+mod Histories
 mod Worked

@@ -4,19 +4,18 @@ use Rattle.std.specs.Prelude.{Result, Ok, Err, IsErrOf, IsNone, IsSomeAnd}
 use Rattle.doc_io.specs.Causes.{Files, InputsTold, Rose, Selects, SinkTold}
 use Rattle.doc_io.specs.LineReader.{ReaderValue}
 use Rattle.commands.specs.Answer.{Text, status_of_end}
-use Rattle.commands.specs.Command.{Edits}
-use Rattle.commands.specs.Ends.{Breaks, Delivers, IsDelivered, IsInParts}
+use Rattle.commands.specs.Ends.{Breaks, Delivers, IsDelivered}
 use Rattle.commands.specs.Parts.{OpensScript, SelectsScript}
 use Rattle.commands.specs.declared.refusal.Refusal.{Refusal}
 use Rattle.commands.specs.declared.refusal.Refusal.TheVariants.{ReadFault, Memory}
 use Rattle.commands.specs.declared.status.Status.{Status}
 
 -- the replies to a script may be cut short, also where a read failed since
-pub in_parts : (name : List ℕ) (text : Text) (before mid after : InputsTold) (old new : SinkTold) (status : Status) → before.faults ≤ mid.faults
+pub in_parts : (text : Text) (before mid after : InputsTold) (old new : SinkTold) (status : Status) → before.faults ≤ mid.faults
     → Delivers text.bytes (status_of_end text.whole) old new status ⊎ Breaks text.bytes text.parts mid after old new status
-    → IsDelivered (IsInParts (Edits name)) (Ok text) before after old new status
-in_parts name text before mid after old new status f (inl whole) = inl whole
-in_parts name text before mid after old new status f (inr out) = inr (
+    → IsDelivered (Unit {0}) (Ok text) before after old new status
+in_parts text before mid after old new status f (inl whole) = inl whole
+in_parts text before mid after old new status f (inr out) = inr (
   tt,
   record {
     cause = elim out.cause [ inl memory ↦ inl memory | inr read ↦ inr (read.0, omega (arith, read.1, f)) ];

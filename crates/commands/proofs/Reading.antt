@@ -12,8 +12,7 @@ use Rattle.doc_io.specs.declared.line_reader.LineRefusal.{LineRefusal}
 use Rattle.doc_io.specs.declared.line_reader.LineRefusal.TheVariants as reading
 use Rattle.doc_io.proofs.Known.{appends_both}
 use Rattle.doc_io.proofs.LineLaws.{given_end, given_line, no_lines, refused_line, short_line}
-use Rattle.edit_session.specs.Session.{SessionValue}
-use Rattle.commands.specs.Replies.{after_line, told_of}
+use Rattle.commands.specs.Responders.{Responder}
 use Rattle.commands.specs.Answer.{Text, replies_within, status_of_end}
 use Rattle.commands.specs.Parts.{AnswersEach, AnswersLines, AnswersNext, ComesToLine, Tells, replies_left, status_of_stop, told_line}
 use Rattle.commands.specs.declared.replies.Stop.{Stop}
@@ -117,81 +116,81 @@ reply_left (Some l) (Some m) reply b = (l, refl, m.bytes, b.0)
 
 -- ---- what a call of the reader makes of what is left
 
-module _ (session : SessionValue) (reader next : ReaderValue) (now after : InputsTold) where
+module _ (R : Responder) (known : R.Known) (reader next : ReaderValue) (now after : InputsTold) where
   -- a line
-  pub line_left : (session' : SessionValue) → session' ≡ after_line session next.line → GivesLine reader next now after (Ok Whole)
-      → ComesBefore (told_of session next.line) (replies_left session reader now) (replies_left session' next after)
-  line_left session' is g = by (left_of reader now) refl
+  pub line_left : (known' : R.Known) → known' ≡ R.after_line known next.line → GivesLine reader next now after (Ok Whole)
+      → ComesBefore (R.told_of known next.line) (replies_left R known reader now) (replies_left R known' next after)
+  line_left known' is g = by (left_of reader now) refl
     where
       room : most_lines - reader.given ≡ suc (most_lines - (reader.given + 1))
       room = omega (arith, g.few refl)
 
       by : (left : Option (List ℕ)) → left_of reader now ≡ left
-          → ComesBefore (told_of session next.line) (option_map (λ bytes. replies_within (most_lines - reader.given) session (lines_of bytes)) left)
-          (replies_left session' next after)
+          → ComesBefore (R.told_of known next.line) (option_map (λ bytes. replies_within R (most_lines - reader.given) known (lines_of bytes)) left)
+          (replies_left R known' next after)
       by None e = tt
       by (Some bytes) e =
           let given = given_line (record { reader = reader; inputs = now }) (record { reader = next; inputs = after }) bytes e g in
           let lines = lines_of (behind_line bytes) in
           let short : is_short next.line ≡ true = short_line next.line (g.short refl) in
-          let same : replies_within (most_lines - (reader.given + 1)) (after_line session next.line) lines ≡ replies_within (most_lines - next.given) session' lines =
-          λ i. replies_within (most_lines - sym g.given i) (sym is i) lines in
-          let more : replies_within (most_lines - reader.given) session (lines_of bytes)
-          ≡ record { bytes = told_of session next.line ++ (replies_within (most_lines - (reader.given + 1)) (after_line session next.line) lines).bytes; parts = told_of session next.line ∷ (replies_within (most_lines - (reader.given + 1)) (after_line session next.line) lines).parts; whole = (replies_within (most_lines - (reader.given + 1)) (after_line session next.line) lines).whole } =
-          (λ i. replies_within (room i) session (given.0 i)) ∙ more_replies (most_lines - (reader.given + 1)) session next.line lines short in
-          subst (λ (o : Option (List ℕ)). IsSomeAnd (option_map (λ bytes. replies_within (most_lines - next.given) session' (lines_of bytes)) o)
-          (λ l'. ((replies_within (most_lines - reader.given) session (lines_of bytes)).bytes ≡ told_of session next.line ++ l'.bytes)
-          × ((replies_within (most_lines - reader.given) session (lines_of bytes)).whole ≡ l'.whole)
-          × ((replies_within (most_lines - reader.given) session (lines_of bytes)).parts ≡ told_of session next.line ∷ l'.parts)))
+          let same : replies_within R (most_lines - (reader.given + 1)) (R.after_line known next.line) lines ≡ replies_within R (most_lines - next.given) known' lines =
+          λ i. replies_within R (most_lines - sym g.given i) (sym is i) lines in
+          let more : replies_within R (most_lines - reader.given) known (lines_of bytes)
+          ≡ record { bytes = R.told_of known next.line ++ (replies_within R (most_lines - (reader.given + 1)) (R.after_line known next.line) lines).bytes; parts = R.told_of known next.line ∷ (replies_within R (most_lines - (reader.given + 1)) (R.after_line known next.line) lines).parts; whole = (replies_within R (most_lines - (reader.given + 1)) (R.after_line known next.line) lines).whole } =
+          (λ i. replies_within R (room i) known (given.0 i)) ∙ more_replies R (most_lines - (reader.given + 1)) known next.line lines short in
+          subst (λ (o : Option (List ℕ)). IsSomeAnd (option_map (λ bytes. replies_within R (most_lines - next.given) known' (lines_of bytes)) o)
+          (λ l'. ((replies_within R (most_lines - reader.given) known (lines_of bytes)).bytes ≡ R.told_of known next.line ++ l'.bytes)
+          × ((replies_within R (most_lines - reader.given) known (lines_of bytes)).whole ≡ l'.whole)
+          × ((replies_within R (most_lines - reader.given) known (lines_of bytes)).parts ≡ R.told_of known next.line ∷ l'.parts)))
           (sym given.1) (
-            ap (λ (o : Text). o.bytes) more ∙ ap (λ (o : Text). told_of session next.line ++ o.bytes) same,
+            ap (λ (o : Text). o.bytes) more ∙ ap (λ (o : Text). R.told_of known next.line ++ o.bytes) same,
             ap (λ (o : Text). o.whole) more ∙ ap (λ (o : Text). o.whole) same,
-            ap (λ (o : Text). o.parts) more ∙ ap (λ (o : Text). told_of session next.line ∷ o.parts) same,
+            ap (λ (o : Text). o.parts) more ∙ ap (λ (o : Text). R.told_of known next.line ∷ o.parts) same,
           )
 
   -- the end
   pub end_left : GivesLine reader next now after (Ok End)
-      → IfSome (replies_left session reader now) (λ o. o ≡ record { bytes = []; parts = []; whole = true })
+      → IfSome (replies_left R known reader now) (λ o. o ≡ record { bytes = []; parts = []; whole = true })
   end_left g = by (left_of reader now) refl
     where
       by : (left : Option (List ℕ)) → left_of reader now ≡ left
-          → IfSome (option_map (λ bytes. replies_within (most_lines - reader.given) session (lines_of bytes)) left) (λ o. o ≡ record { bytes = []; parts = []; whole = true })
+          → IfSome (option_map (λ bytes. replies_within R (most_lines - reader.given) known (lines_of bytes)) left) (λ o. o ≡ record { bytes = []; parts = []; whole = true })
       by None e = tt
       by (Some bytes) e =
           let none : bytes ≡ [] = given_end (record { reader = reader; inputs = now }) (record { reader = next; inputs = after }) bytes e g in
-          ap (λ b. replies_within (most_lines - reader.given) session (lines_of b)) none
-          ∙ ap (replies_within (most_lines - reader.given) session) no_lines
-          ∙ no_replies (most_lines - reader.given) session
+          ap (λ b. replies_within R (most_lines - reader.given) known (lines_of b)) none
+          ∙ ap (replies_within R (most_lines - reader.given) known) no_lines
+          ∙ no_replies R (most_lines - reader.given) known
 
   -- a limit
   pub limit_left : (e : LineRefusal) → ¬ (e ≡ reading.ReadFault) → GivesLine reader next now after (Err e)
-      → IfSome (replies_left session reader now) (λ o. o ≡ record { bytes = []; parts = []; whole = false })
+      → IfSome (replies_left R known reader now) (λ o. o ≡ record { bytes = []; parts = []; whole = false })
   limit_left refusal own g = by (left_of reader now) refl
     where
       by : (left : Option (List ℕ)) → left_of reader now ≡ left
-          → IfSome (option_map (λ bytes. replies_within (most_lines - reader.given) session (lines_of bytes)) left) (λ o. o ≡ record { bytes = []; parts = []; whole = false })
+          → IfSome (option_map (λ bytes. replies_within R (most_lines - reader.given) known (lines_of bytes)) left) (λ o. o ≡ record { bytes = []; parts = []; whole = false })
       by None e = tt
       by (Some bytes) e =
           let why = refused_line (record { reader = reader; inputs = now }) (record { reader = next; inputs = after }) bytes refusal e own g in
           let limit : (most_lines - reader.given ≡ 0) ⊎ (is_short (first_line bytes) ≡ false) =
           elim why.1 [ inl most ↦ inl (omega (arith, most)) | inr long ↦ inr long ] in
-          ap (replies_within (most_lines - reader.given) session) why.0
-          ∙ stopped_replies (most_lines - reader.given) session (first_line bytes) (lines_of (behind_line bytes)) limit
+          ap (replies_within R (most_lines - reader.given) known) why.0
+          ∙ stopped_replies R (most_lines - reader.given) known (first_line bytes) (lines_of (behind_line bytes)) limit
 
 -- ---- a run of lines
 
-module _ (session : SessionValue) (reader : ReaderValue) (start : InputsTold) (first : SinkTold) where
+module _ (R : Responder) (known : R.Known) (reader : ReaderValue) (start : InputsTold) (first : SinkTold) where
   abbrev Wanted : Option Text
-  Wanted = replies_left session reader start
+  Wanted = replies_left R known reader start
 
   -- how it stands after some lines
-  pub record Stands (session' : SessionValue) (reader' : ReaderValue) (now : InputsTold) (out : SinkTold) : Type 0 where
-    pub sends : Sends Wanted (replies_left session' reader' now) first out
+  pub record Stands (known' : R.Known) (reader' : ReaderValue) (now : InputsTold) (out : SinkTold) : Type 0 where
+    pub sends : Sends Wanted (replies_left R known' reader' now) first out
     pub files : now.files ≡ start.files
     pub faults : start.faults ≤ now.faults
     pub missing : now.missing ≡ start.missing
 
-  pub stands_first : Stands session reader start first
+  pub stands_first : Stands known reader start first
   stands_first = record {
     sends = nothing_sent Wanted first;
     files = refl;
@@ -199,15 +198,15 @@ module _ (session : SessionValue) (reader : ReaderValue) (start : InputsTold) (f
     missing = refl;
   }
 
-  module _ (session' : SessionValue) (reader' next : ReaderValue) (now after : InputsTold) (out : SinkTold)
-      (s : Stands session' reader' now out) where
+  module _ (known' : R.Known) (reader' next : ReaderValue) (now after : InputsTold) (out : SinkTold)
+      (s : Stands known' reader' now out) where
     -- a line was answered
-    pub stands_next : (session'' : SessionValue) (later : SinkTold) → session'' ≡ after_line session' next.line
-        → GivesLine reader' next now after (Ok Whole) → Tells (told_of session' next.line) out later (Ok tt)
-        → Stands session'' next after later
-    stands_next session'' later is g told = record {
-      sends = sends_more Wanted (replies_left session' reader' now) (replies_left session'' next after) first out later (told_of session' next.line)
-          (line_left session' reader' next now after session'' is g) told s.sends;
+    pub stands_next : (known'' : R.Known) (later : SinkTold) → known'' ≡ R.after_line known' next.line
+        → GivesLine reader' next now after (Ok Whole) → Tells (R.told_of known' next.line) out later (Ok tt)
+        → Stands known'' next after later
+    stands_next known'' later is g told = record {
+      sends = sends_more Wanted (replies_left R known' reader' now) (replies_left R known'' next after) first out later (R.told_of known' next.line)
+          (line_left R known' reader' next now after known'' is g) told s.sends;
       files = g.files ∙ s.files;
       faults = omega (arith, g.faults, s.faults);
       missing = g.missing ∙ s.missing;
@@ -215,11 +214,11 @@ module _ (session : SessionValue) (reader : ReaderValue) (start : InputsTold) (f
 
     -- no line is left, or the next one passes a limit
     closed : (r : Result Line LineRefusal) (whole : Bool) → GivesLine reader' next now after r
-        → IfSome (replies_left session' reader' now) (λ o. o ≡ record { bytes = []; parts = []; whole = whole })
+        → IfSome (replies_left R known' reader' now) (λ o. o ≡ record { bytes = []; parts = []; whole = whole })
         → (status_of_end whole ≡ status.Done → IsAtEnd after.rest)
-        → AnswersLines session reader start after first out (status_of_end whole)
+        → AnswersLines R known reader start after first out (status_of_end whole)
     closed r whole g left end =
-        let w = whole_of Wanted (replies_left session' reader' now) (record { bytes = []; parts = []; whole = whole }) first out left s.sends in
+        let w = whole_of Wanted (replies_left R known' reader' now) (record { bytes = []; parts = []; whole = whole }) first out left s.sends in
         record {
           text = w.0;
           wanted = w.1;
@@ -232,15 +231,15 @@ module _ (session : SessionValue) (reader : ReaderValue) (start : InputsTold) (f
 
     -- the reply to a line wasn't written
     pub stops_at_reply : (later : SinkTold) (why : Stop) → GivesLine reader' next now after (Ok Whole)
-        → Tells (told_of session' next.line) out later (Err why) → AnswersLines session reader start after first later (status_of_stop why)
+        → Tells (R.told_of known' next.line) out later (Err why) → AnswersLines R known reader start after first later (status_of_stop why)
     stops_at_reply later why g told =
-        let l = reply_left (replies_left session' reader' now) (replies_left (after_line session' next.line) next after) (told_of session' next.line)
-        (line_left session' reader' next now after (after_line session' next.line) refl g) in
-        let w = whole_of Wanted (replies_left session' reader' now) l.0 first out l.1 s.sends in
+        let l = reply_left (replies_left R known' reader' now) (replies_left R (R.after_line known' next.line) next after) (R.told_of known' next.line)
+        (line_left R known' reader' next now after (R.after_line known' next.line) refl g) in
+        let w = whole_of Wanted (replies_left R known' reader' now) l.0 first out l.1 s.sends in
         record {
           text = w.0;
           wanted = w.1;
-          delivers = stops w.0 l.0 start after first out later (told_of session' next.line) l.2 why l.3 w.2 told;
+          delivers = stops w.0 l.0 start after first out later (R.told_of known' next.line) l.2 why l.3 w.2 told;
           read_to_end = λ done. absurd (not_done why told.causes done);
           files = g.files ∙ s.files;
           faults = omega (arith, g.faults, s.faults);
@@ -254,15 +253,15 @@ module _ (session : SessionValue) (reader : ReaderValue) (start : InputsTold) (f
         not_done stop.Memory c e = cc
 
     by_reading : (why : Stop) (r : Result Line LineRefusal) → GivesLine reader' next now after r → Err why ≡ told_line r
-        → AnswersLines session reader start after first out (status_of_stop why)
+        → AnswersLines R known reader start after first out (status_of_stop why)
     by_reading why (Ok Whole) g is = absurd cc
     by_reading why (Ok End) g is = absurd cc
     by_reading why (Err reading.ReadFault) g is =
-        let l = some_text (replies_left session' reader' now) in
-        let w = whole_of Wanted (replies_left session' reader' now) l.0 first out l.1 s.sends in
+        let l = some_text (replies_left R known' reader' now) in
+        let w = whole_of Wanted (replies_left R known' reader' now) l.0 first out l.1 s.sends in
         let same : status.ReadFault ≡ status_of_stop why = let e : why ≡ stop.ReadFault = cc in sym (ap status_of_stop e) in
         let rose = g.fault refl in
-        subst (λ (end : Status). AnswersLines session reader start after first out end) same
+        subst (λ (end : Status). AnswersLines R known reader start after first out end) same
         (record {
           text = w.0;
           wanted = w.1;
@@ -274,20 +273,20 @@ module _ (session : SessionValue) (reader : ReaderValue) (start : InputsTold) (f
         })
     by_reading why (Err reading.LineLong) g is =
         let same : status.ScriptLimit ≡ status_of_stop why = let e : why ≡ stop.ScriptLimit = cc in sym (ap status_of_stop e) in
-        subst (λ (end : Status). AnswersLines session reader start after first out end) same
-        (closed (Err reading.LineLong) false g (limit_left session' reader' next now after reading.LineLong (λ e. cc) g) (λ e. absurd cc))
+        subst (λ (end : Status). AnswersLines R known reader start after first out end) same
+        (closed (Err reading.LineLong) false g (limit_left R known' reader' next now after reading.LineLong (λ e. cc) g) (λ e. absurd cc))
     by_reading why (Err reading.LinesSpent) g is =
         let same : status.ScriptLimit ≡ status_of_stop why = let e : why ≡ stop.ScriptLimit = cc in sym (ap status_of_stop e) in
-        subst (λ (end : Status). AnswersLines session reader start after first out end) same
-        (closed (Err reading.LinesSpent) false g (limit_left session' reader' next now after reading.LinesSpent (λ e. cc) g) (λ e. absurd cc))
+        subst (λ (end : Status). AnswersLines R known reader start after first out end) same
+        (closed (Err reading.LinesSpent) false g (limit_left R known' reader' next now after reading.LinesSpent (λ e. cc) g) (λ e. absurd cc))
 
     -- no line came
     pub stops_at_reading : (why : Stop) → ComesToLine reader' next now after (Err why)
-        → AnswersLines session reader start after first out (status_of_stop why)
+        → AnswersLines R known reader start after first out (status_of_stop why)
     stops_at_reading why c = by_reading why c.line c.gives c.told
 
-    pub ends_at_end : GivesLine reader' next now after (Ok End) → AnswersLines session reader start after first out status.Done
-    ends_at_end g = closed (Ok End) true g (end_left session' reader' next now after g) (λ e. g.end refl)
+    pub ends_at_end : GivesLine reader' next now after (Ok End) → AnswersLines R known reader start after first out status.Done
+    ends_at_end g = closed (Ok End) true g (end_left R known' reader' next now after g) (λ e. g.end refl)
 
 -- a line came
 pub came : (reader next : ReaderValue) (now after : InputsTold) (b : Bool) → b ≡ true → ComesToLine reader next now after (Ok b)
@@ -311,47 +310,47 @@ ended reader next now after b away c = by c.line c.gives (sym (ap Ok away) ∙ c
 
 -- ---- how the run goes on, by what became of the next line
 
-module _ (session : SessionValue) (reader : ReaderValue) (start : InputsTold) (first : SinkTold) (session' session'' : SessionValue)
-    (reader' next : ReaderValue) (now after : InputsTold) (out later : SinkTold) (s : Stands session reader start first session' reader' now out) where
-  pub goes_on : (b : Bool) → b ≡ true → AnswersNext session' session'' reader' next now after out later (Ok b)
-      → Stands session reader start first session'' next after later
+module _ (R : Responder) (known : R.Known) (reader : ReaderValue) (start : InputsTold) (first : SinkTold) (known' known'' : R.Known)
+    (reader' next : ReaderValue) (now after : InputsTold) (out later : SinkTold) (s : Stands R known reader start first known' reader' now out) where
+  pub goes_on : (b : Bool) → b ≡ true → AnswersNext R known' known'' reader' next now after out later (Ok b)
+      → Stands R known reader start first known'' next after later
   goes_on b there a =
       let line = a.line (ap Ok there) in
-      stands_next session reader start first session' reader' next now after out s session'' later line.2 line.0 line.1
+      stands_next R known reader start first known' reader' next now after out s known'' later line.2 line.0 line.1
 
-  pub fewer : (b : Bool) → b ≡ true → AnswersNext session' session'' reader' next now after out later (Ok b)
+  pub fewer : (b : Bool) → b ≡ true → AnswersNext R known' known'' reader' next now after out later (Ok b)
       → most_lines - next.given < most_lines - reader'.given
   fewer b there a =
       let g = (a.line (ap Ok there)).0 in
       let one : next.given ≡ reader'.given + 1 = g.given in
       omega (arith, g.few refl, one)
 
-  pub goes_no_further : (b : Bool) → b ≡ false → AnswersNext session' session'' reader' next now after out later (Ok b)
-      → AnswersLines session reader start after first later status.Done
+  pub goes_no_further : (b : Bool) → b ≡ false → AnswersNext R known' known'' reader' next now after out later (Ok b)
+      → AnswersLines R known reader start after first later status.Done
   goes_no_further b away a =
       let end = a.end (ap Ok away) in
-      subst (λ o. AnswersLines session reader start after first o status.Done) (sym end.1)
-      (ends_at_end session reader start first session' reader' next now after out s end.0)
+      subst (λ o. AnswersLines R known reader start after first o status.Done) (sym end.1)
+      (ends_at_end R known reader start first known' reader' next now after out s end.0)
 
-  pub goes_wrong : (why : Stop) → AnswersNext session' session'' reader' next now after out later (Err why)
-      → AnswersLines session reader start after first later (status_of_stop why)
+  pub goes_wrong : (why : Stop) → AnswersNext R known' known'' reader' next now after out later (Err why)
+      → AnswersLines R known reader start after first later (status_of_stop why)
   goes_wrong why a = elim a.stop [
     | inl read ↦
-        subst (λ o. AnswersLines session reader start after first o (status_of_stop why)) (sym read.1)
-        (stops_at_reading session reader start first session' reader' next now after out s why read.0)
-    | inr reply ↦ stops_at_reply session reader start first session' reader' next now after out s later why reply.0 reply.1
+        subst (λ o. AnswersLines R known reader start after first o (status_of_stop why)) (sym read.1)
+        (stops_at_reading R known reader start first known' reader' next now after out s why read.0)
+    | inr reply ↦ stops_at_reply R known reader start first known' reader' next now after out s later why reply.0 reply.1
   ]
 
   pub goes_wrong_as : (why : Stop) (result : Result (Unit {0}) Stop) → result ≡ Err why
-      → AnswersNext session' session'' reader' next now after out later (Err why)
-      → AnswersEach session reader start after first later result
-  goes_wrong_as why result is a = subst (AnswersEach session reader start after first later) (sym is) (goes_wrong why a)
+      → AnswersNext R known' known'' reader' next now after out later (Err why)
+      → AnswersEach R known reader start after first later result
+  goes_wrong_as why result is a = subst (AnswersEach R known reader start after first later) (sym is) (goes_wrong why a)
 
 -- what became of the next line, where none was answered whole
-pub stopped_next : (session session' : SessionValue) (reader next : ReaderValue) (now after : InputsTold) (out later : SinkTold) (why : Stop)
+pub stopped_next : (R : Responder) (known known' : R.Known) (reader next : ReaderValue) (now after : InputsTold) (out later : SinkTold) (why : Stop)
     (result : Result Bool Stop) → result ≡ Err why
     → (ComesToLine reader next now after (Err why) × (later ≡ out))
-    ⊎ (GivesLine reader next now after (Ok Whole) × Tells (told_of session next.line) out later (Err why))
-    → AnswersNext session session' reader next now after out later result
-stopped_next session session' reader next now after out later why result is stopped =
-    subst (AnswersNext session session' reader next now after out later) (sym is) (record { line = λ e. absurd cc; end = λ e. absurd cc; stop = stopped })
+    ⊎ (GivesLine reader next now after (Ok Whole) × Tells (R.told_of known next.line) out later (Err why))
+    → AnswersNext R known known' reader next now after out later result
+stopped_next R known known' reader next now after out later why result is stopped =
+    subst (AnswersNext R known known' reader next now after out later) (sym is) (record { line = λ e. absurd cc; end = λ e. absurd cc; stop = stopped })

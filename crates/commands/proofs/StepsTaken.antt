@@ -18,11 +18,10 @@ use Rattle.edit_session.specs.Session.{SessionValue}
 use Rattle.commands.specs.Command.{Asked, Work}
 use Rattle.commands.specs.Answer.{content, metrics_in, started, tree_in}
 use Rattle.commands.specs.Ends.{Answers, IsCut}
-use Rattle.commands.specs.Laws.{after_lines}
 use Rattle.commands.specs.Parts.{OpensScript}
-use Rattle.commands.specs.Replies.{after_line}
+use Rattle.commands.specs.Responders.{LineSteps, Responder, TakesForLines, after_all}
 use Rattle.commands.specs.Script.{within}
-use Rattle.commands.specs.Steps.{TakesBehindStart, TakesForEdit, TakesForEdits, TakesForJob, TakesForLine, TakesForLines, TakesForNext, TakesForRun, TakesForScript, TakesForWork, TakesOverMetrics, accepted_in, lines_left, script_lines, unless_refused}
+use Rattle.commands.specs.Steps.{TakesBehindStart, TakesForEdit, TakesForEdits, TakesForJob, TakesForLine, TakesForNext, TakesForRun, TakesForScript, TakesForWork, TakesOverMetrics, accepted_in, lines_left, script_lines, unless_refused}
 use Rattle.commands.specs.declared.refusal.Refusal.{Refusal}
 use Rattle.commands.specs.declared.replies.Stop.{Stop}
 use Rattle.commands.proofs.Answering.{ok_is_not_cut}
@@ -48,17 +47,17 @@ for_edit session edit (Some reason) from to unlaid needed = unlaid (λ e. cc)
 -- ---- one line after another
 
 -- one more line
-for_more : (session : SessionValue) (lines : List (List ℕ)) (line : List ℕ) (from mid to : ℕ) → TakesForLines session lines from mid
-    → TakesForLine (after_lines session lines) line mid to → TakesForLines session (lines ++ line ∷ []) from to
-for_more session [] line from mid to steps more =
-    (to, subst (λ n. TakesForLine session line n to) steps more, refl)
-for_more session (first ∷ lines) line from mid to steps more =
-    (steps.0, steps.1, for_more (after_line session first) lines line steps.0 mid to steps.2 more)
+for_more : (R : Responder) (Takes : LineSteps R) (known : R.Known) (lines : List (List ℕ)) (line : List ℕ) (from mid to : ℕ) → TakesForLines R Takes known lines from mid
+    → Takes (after_all R known lines) line mid to → TakesForLines R Takes known (lines ++ line ∷ []) from to
+for_more R Takes known [] line from mid to steps more =
+    (to, subst (λ n. Takes known line n to) steps more, refl)
+for_more R Takes known (first ∷ lines) line from mid to steps more =
+    (steps.0, steps.1, for_more R Takes (R.after_line known first) lines line steps.0 mid to steps.2 more)
 
-after_more : (session : SessionValue) (lines : List (List ℕ)) (line : List ℕ)
-    → after_lines session (lines ++ line ∷ []) ≡ after_line (after_lines session lines) line
-after_more session [] line = refl
-after_more session (first ∷ lines) line = after_more (after_line session first) lines line
+after_more : (R : Responder) (Takes : LineSteps R) (known : R.Known) (lines : List (List ℕ)) (line : List ℕ)
+    → after_all R known (lines ++ line ∷ []) ≡ R.after_line (after_all R known lines) line
+after_more R Takes known [] line = refl
+after_more R Takes known (first ∷ lines) line = after_more R Takes (R.after_line known first) lines line
 
 -- the lines that are left, behind those that were answered
 abbrev ComesBehind : List (List ℕ) → Option (List (List ℕ)) → Option (List (List ℕ)) → Type 0
@@ -107,82 +106,82 @@ line_before reader next now after g = by (left_of reader now) refl
 
 -- ---- a run of lines
 
-module _ (session : SessionValue) (reader : ReaderValue) (start : InputsTold) (from : ℕ) where
+module _ (R : Responder) (Takes : LineSteps R) (known : R.Known) (reader : ReaderValue) (start : InputsTold) (from : ℕ) where
   -- how it stands after some lines
-  pub record Took (session' : SessionValue) (reader' : ReaderValue) (now : InputsTold) (to : ℕ) : Type 0 where
+  pub record Took (known' : R.Known) (reader' : ReaderValue) (now : InputsTold) (to : ℕ) : Type 0 where
     pub lines : List (List ℕ)
     pub behind : ComesBehind lines (lines_left reader start) (lines_left reader' now)
-    pub steps : TakesForLines session lines from to
-    pub after : session' ≡ after_lines session lines
+    pub steps : TakesForLines R Takes known lines from to
+    pub after : known' ≡ after_all R known lines
 
-  pub took_none : Took session reader start from
+  pub took_none : Took known reader start from
   took_none = record { lines = []; behind = behind_none (lines_left reader start); steps = refl; after = refl }
 
   -- the lines so far
-  pub took_all : (session' : SessionValue) (reader' : ReaderValue) (now : InputsTold) (to : ℕ) → Took session' reader' now to
-      → TakesForScript session (lines_left reader start) from to
-  took_all session' reader' now to t = record {
+  pub took_all : (known' : R.Known) (reader' : ReaderValue) (now : InputsTold) (to : ℕ) → Took known' reader' now to
+      → TakesForScript R Takes known (lines_left reader start) from to
+  took_all known' reader' now to t = record {
     lines = t.lines;
     front = front_of t.lines (lines_left reader start) (lines_left reader' now) t.behind;
     steps = t.steps;
   }
 
-  module _ (session' session'' : SessionValue) (reader' next : ReaderValue) (now after : InputsTold) (mid to : ℕ)
-      (t : Took session' reader' now mid) where
-    pub took_more : session'' ≡ after_line session' next.line → GivesLine reader' next now after (Ok Whole)
-        → TakesForLine session' next.line mid to → Took session'' next after to
+  module _ (known' known'' : R.Known) (reader' next : ReaderValue) (now after : InputsTold) (mid to : ℕ)
+      (t : Took known' reader' now mid) where
+    pub took_more : known'' ≡ R.after_line known' next.line → GivesLine reader' next now after (Ok Whole)
+        → Takes known' next.line mid to → Took known'' next after to
     took_more is g line = record {
       lines = t.lines ++ next.line ∷ [];
       behind = behind_more t.lines next.line (lines_left reader start) (lines_left reader' now) (lines_left next after) t.behind (line_before reader' next now after g);
-      steps = for_more session t.lines next.line from mid to t.steps (subst (λ s. TakesForLine s next.line mid to) t.after line);
-      after = is ∙ ap (λ s. after_line s next.line) t.after ∙ sym (after_more session t.lines next.line);
+      steps = for_more R Takes known t.lines next.line from mid to t.steps (subst (λ s. Takes s next.line mid to) t.after line);
+      after = is ∙ ap (λ s. R.after_line s next.line) t.after ∙ sym (after_more R Takes known t.lines next.line);
     }
 
     -- nothing more
-    pub took_same : to ≡ mid → Took session' reader' now to
-    took_same none = subst (Took session' reader' now) (sym none) t
+    pub took_same : to ≡ mid → Took known' reader' now to
+    took_same none = subst (Took known' reader' now) (sym none) t
 
-    pub took_no_more : to ≡ mid → TakesForScript session (lines_left reader start) from to
-    took_no_more none = took_all session' reader' now to (took_same none)
+    pub took_no_more : to ≡ mid → TakesForScript R Takes known (lines_left reader start) from to
+    took_no_more none = took_all known' reader' now to (took_same none)
 
 -- how the run goes on, by what became of the next line
-module _ (session : SessionValue) (reader : ReaderValue) (start : InputsTold) (from : ℕ) (session' session'' : SessionValue)
-    (reader' next : ReaderValue) (now after : InputsTold) (mid to : ℕ) (t : Took session reader start from session' reader' now mid) where
-  pub takes_on : (result : Result Bool Stop) → result ≡ Ok true → session'' ≡ after_line session' next.line
-      → GivesLine reader' next now after (Ok Whole) → TakesForNext session' reader' next now after mid to result
-      → Took session reader start from session'' next after to
-  takes_on result there is g n = took_more session reader start from session' session'' reader' next now after mid to t is g (n.line there)
+module _ (R : Responder) (Takes : LineSteps R) (known : R.Known) (reader : ReaderValue) (start : InputsTold) (from : ℕ) (known' known'' : R.Known)
+    (reader' next : ReaderValue) (now after : InputsTold) (mid to : ℕ) (t : Took R Takes known reader start from known' reader' now mid) where
+  pub takes_on : (result : Result Bool Stop) → result ≡ Ok true → known'' ≡ R.after_line known' next.line
+      → GivesLine reader' next now after (Ok Whole) → TakesForNext R Takes known' reader' next now after mid to result
+      → Took R Takes known reader start from known'' next after to
+  takes_on result there is g n = took_more R Takes known reader start from known' known'' reader' next now after mid to t is g (n.line there)
 
-  pub takes_no_more : (result : Result Bool Stop) → result ≡ Ok false → TakesForNext session' reader' next now after mid to result
-      → TakesForScript session (lines_left reader start) from to
-  takes_no_more result away n = took_no_more session reader start from session' session'' reader' next now after mid to t (n.end away)
+  pub takes_no_more : (result : Result Bool Stop) → result ≡ Ok false → TakesForNext R Takes known' reader' next now after mid to result
+      → TakesForScript R Takes known (lines_left reader start) from to
+  takes_no_more result away n = took_no_more R Takes known reader start from known' known'' reader' next now after mid to t (n.end away)
 
-  pub takes_last : (why : Stop) → TakesForNext session' reader' next now after mid to (Err why)
-      → TakesForScript session (lines_left reader start) from to
+  pub takes_last : (why : Stop) → TakesForNext R Takes known' reader' next now after mid to (Err why)
+      → TakesForScript R Takes known (lines_left reader start) from to
   takes_last why n = elim n.stop [
-    | inl none ↦ took_no_more session reader start from session' session'' reader' next now after mid to t none
+    | inl none ↦ took_no_more R Takes known reader start from known' known'' reader' next now after mid to t none
     | inr line ↦
-        took_all session reader start from (after_line session' next.line) next after to
-        (took_more session reader start from session' (after_line session' next.line) reader' next now after mid to t refl line.0 line.1)
+        took_all R Takes known reader start from (R.after_line known' next.line) next after to
+        (took_more R Takes known reader start from known' (R.after_line known' next.line) reader' next now after mid to t refl line.0 line.1)
   ]
 
 -- no line was answered
-pub for_no_next : (session : SessionValue) (reader next : ReaderValue) (now after : InputsTold) (from to : ℕ) (why : Stop) (result : Result Bool Stop)
-    → result ≡ Err why → to ≡ from → TakesForNext session reader next now after from to result
-for_no_next session reader next now after from to why result is none =
-    subst (TakesForNext session reader next now after from to) (sym is) (record { line = λ e. absurd cc; end = λ e. absurd cc; stop = inl none })
+pub for_no_next : (R : Responder) (Takes : LineSteps R) (known : R.Known) (reader next : ReaderValue) (now after : InputsTold) (from to : ℕ) (why : Stop) (result : Result Bool Stop)
+    → result ≡ Err why → to ≡ from → TakesForNext R Takes known reader next now after from to result
+for_no_next R Takes known reader next now after from to why result is none =
+    subst (TakesForNext R Takes known reader next now after from to) (sym is) (record { line = λ e. absurd cc; end = λ e. absurd cc; stop = inl none })
 
 -- the reply to a line wasn't written
-pub for_cut_next : (session : SessionValue) (reader next : ReaderValue) (now after : InputsTold) (from to : ℕ) (why : Stop) (result : Result Bool Stop)
-    → result ≡ Err why → GivesLine reader next now after (Ok Whole) → TakesForLine session next.line from to
-    → TakesForNext session reader next now after from to result
-for_cut_next session reader next now after from to why result is g line =
-    subst (TakesForNext session reader next now after from to) (sym is) (record { line = λ e. absurd cc; end = λ e. absurd cc; stop = inr (g, line) })
+pub for_cut_next : (R : Responder) (Takes : LineSteps R) (known : R.Known) (reader next : ReaderValue) (now after : InputsTold) (from to : ℕ) (why : Stop) (result : Result Bool Stop)
+    → result ≡ Err why → GivesLine reader next now after (Ok Whole) → Takes known next.line from to
+    → TakesForNext R Takes known reader next now after from to result
+for_cut_next R Takes known reader next now after from to why result is g line =
+    subst (TakesForNext R Takes known reader next now after from to) (sym is) (record { line = λ e. absurd cc; end = λ e. absurd cc; stop = inr (g, line) })
 
 -- ---- a script
 
-pub for_no_lines : (session : SessionValue) (script : Option (List (List ℕ))) (from to : ℕ) → to ≡ from → TakesForScript session script from to
-for_no_lines session script from to none = record { lines = []; front = by script; steps = none }
+pub for_no_lines : (R : Responder) (Takes : LineSteps R) (known : R.Known) (script : Option (List (List ℕ))) (from to : ℕ) → to ≡ from → TakesForScript R Takes known script from to
+for_no_lines R Takes known script from to none = record { lines = []; front = by script; steps = none }
   where
     by : (script : Option (List (List ℕ))) → IfSome script (λ all. (n : ℕ) × ([] ≡ take n all))
     by None = tt
@@ -192,10 +191,10 @@ abbrev Front : List (List ℕ) → Option (List (List ℕ)) → Type 0
 Front lines script = IfSome script (λ all. (n : ℕ) × (lines ≡ take n all))
 
 -- the lines that are left to a new reader of a file are those of the file
-pub for_file : (session : SessionValue) (name : List ℕ) (before mid : InputsTold) (reader : ReaderValue) (from to : ℕ)
-    → OpensScript before mid name (Ok reader) → TakesForScript session (lines_left reader mid) from to
-    → TakesForScript session (script_lines name before.files) from to
-for_file session name before mid reader from to o t = record {
+pub for_file : (R : Responder) (Takes : LineSteps R) (known : R.Known) (name : List ℕ) (before mid : InputsTold) (reader : ReaderValue) (from to : ℕ)
+    → OpensScript before mid name (Ok reader) → TakesForScript R Takes known (lines_left reader mid) from to
+    → TakesForScript R Takes known (script_lines name before.files) from to
+for_file R Takes known name before mid reader from to o t = record {
   lines = t.lines;
   front = by before.files o.selects.found;
   steps = t.steps;
@@ -219,21 +218,21 @@ for_file session name before mid reader from to o t = record {
 -- ---- behind the first layout
 
 -- it is refused
-pub for_no_session : (metrics : MetricsValue) (tree : TreeValue) (script : Option (List (List ℕ))) (from to : ℕ)
-    → TakesVisits metrics tree from to → TakesForEdits metrics tree script from to
-for_no_session metrics tree script from to visits = record { laid = to; start = visits; lines = by (started metrics tree) }
+pub for_no_session : (R : Responder) (Takes : LineSteps R) (first : SessionValue → R.Known) (metrics : MetricsValue) (tree : TreeValue)
+    (script : Option (List (List ℕ))) (from to : ℕ) → TakesVisits metrics tree from to → TakesForEdits R Takes first metrics tree script from to
+for_no_session R Takes first metrics tree script from to visits = record { laid = to; start = visits; lines = by (started metrics tree) }
   where
-    by : (said : Result SessionValue Refusal) → TakesBehindStart said script to to
-    by (Ok session) = for_no_lines session script to to refl
+    by : (said : Result SessionValue Refusal) → TakesBehindStart R Takes first said script to to
+    by (Ok session) = for_no_lines R Takes (first session) script to to refl
     by (Err refusal) = refl
 
-pub for_session : (metrics : MetricsValue) (tree : TreeValue) (session : SessionValue) (script : Option (List (List ℕ))) (from laid to : ℕ)
-    → started metrics tree ≡ Ok session → TakesVisits metrics tree from laid → TakesForScript session script laid to
-    → TakesForEdits metrics tree script from to
-for_session metrics tree session script from laid to is visits lines = record {
+pub for_session : (R : Responder) (Takes : LineSteps R) (first : SessionValue → R.Known) (metrics : MetricsValue) (tree : TreeValue) (session : SessionValue)
+    (known : R.Known) (script : Option (List (List ℕ))) (from laid to : ℕ) → started metrics tree ≡ Ok session → known ≡ first session
+    → TakesVisits metrics tree from laid → TakesForScript R Takes known script laid to → TakesForEdits R Takes first metrics tree script from to
+for_session R Takes first metrics tree session known script from laid to is begun visits lines = record {
   laid = laid;
   start = visits;
-  lines = subst (λ said. TakesBehindStart said script laid to) (sym is) lines;
+  lines = subst (λ said. TakesBehindStart R Takes first said script laid to) (sym is) (subst (λ k. TakesForScript R Takes k script laid to) begun lines);
 }
 
 -- ---- files that are read

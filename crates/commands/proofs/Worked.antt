@@ -32,13 +32,14 @@ use Rattle.tree_edits.proofs.Frames.{listed_out}
 use Rattle.edit_session.specs.Session.{SessionValue}
 use Rattle.doc_io.specs.LineReader.{is_short}
 use Rattle.commands.specs.Script.{within, is_within}
-use Rattle.commands.specs.Replies.{after_line, is_edited_in_range, replies, reply_by, reply_to, reply_to_command, reply_to_edit, text_of_reply, told_of}
+use Rattle.commands.specs.Replies.{after_line, by_session, is_edited_in_range, replies, reply_by, reply_to, reply_to_command, reply_to_edit, text_of_reply, told_of}
 use Rattle.commands.specs.declared.reply.Cause.TheVariants.{NoCommand, Unmade}
 use Rattle.commands.specs.declared.reply.Reply.TheVariants.{Nothing, Refused}
 use Rattle.commands.specs.Steps.{TakesForEdit, TakesForLine, TakesForLines, accepted_by, accepted_in, unless_refused}
 use Rattle.commands.specs.Numerals.{coordinate_in, number_in as numeral_in}
 use Rattle.queries.specs.declared.query.Query.TheVariants.{Hit, Select}
 use Rattle.commands.specs.Command.{asked_by, Asked, OverTree, Generates, Edits, Checks, Asks}
+use Rattle.commands.specs.Responders.{TakesForLines}
 use Rattle.commands.specs.Answer.{metrics_in, tree_of_json, tree_in, output_of, output}
 use Rattle.commands.proofs.Loading.{tree_short}
 use Rattle.commands.proofs.Answering.{refused_by_metrics}
@@ -73,6 +74,7 @@ glyph_named name ink =
 
 abbrev font : MetricsValue
 font = record {
+  version = 1;
   upem = 1024;
   line_ascent = 900;
   line_descent = 300;
@@ -332,7 +334,7 @@ takes_none : (line : List ℕ) → accepted_in session line ≡ None → (from t
 takes_none line none from to steps = subst (λ edit. TakesForEdit session edit from to) none steps
 
 -- nor do the three lines above
-three_take_none : (from to : ℕ) → TakesForLines session ((9 ∷ []) ∷ move ∷ remove ∷ []) from to → to ≡ from
+three_take_none : (from to : ℕ) → TakesForLines by_session TakesForLine session ((9 ∷ []) ∷ move ∷ remove ∷ []) from to → to ≡ from
 three_take_none from to (white, first, (moved, second, (removed, third, same))) =
     let at_move : TakesForLine session move white moved = subst (λ s. TakesForLine s move white moved) white_stays second in
     let after_move : after_line (after_line session (9 ∷ [])) move ≡ session = ap (λ s. after_line s move) white_stays ∙ move_stays in

@@ -21,10 +21,12 @@ use Rattle.generator.specs.Summary.{lines_of as lines_of_summary}
 use Rattle.queries.specs.Queries.{answer_to}
 use Rattle.queries.specs.declared.query.Query.{Query}
 use Rattle.queries.specs.declared.query.QueryRefusal.{QueryRefusal}
-use Rattle.commands.specs.Command.{Asked, Job, OverTree, Generates, Work, LaysOut, Edits, Checks, Asks, usage_line}
+use Rattle.commands.specs.Command.{Asked, Job, OverTree, Generates, Work, LaysOut, Edits, Checks, Asks, usage_line, Remembers}
 use Rattle.commands.specs.Script.{within, is_within}
-use Rattle.commands.specs.Replies.{each_reply, replies}
+use Rattle.commands.specs.Replies.{each_reply, replies, by_session}
 use Rattle.commands.specs.Refusals.{line_of, of_query, status_of}
+use Rattle.commands.specs.Responders.{Responder, all_replies, each_reply}
+use Rattle.commands.specs.HistorySteps.{by_history, kept_at_first}
 use Rattle.commands.specs.declared.status.Status.{Status}
 use Rattle.commands.specs.declared.status.Status.TheVariants.{Done, Usage, ScriptLimit}
 use Rattle.commands.specs.declared.refusal.Refusal.{Refusal}
@@ -80,16 +82,16 @@ whole_text bytes = record { bytes = bytes; parts = []; whole = true }
 
 -- the replies to lines, or to those before the first line that passes a limit, where at most so
 -- many are answered
-abbrev pub replies_within : ℕ → SessionValue → List (List ℕ) → Text
-replies_within most session lines = record {
-  bytes = replies session (within most lines);
-  parts = each_reply session (within most lines);
+abbrev pub replies_within : (R : Responder) → ℕ → R.Known → List (List ℕ) → Text
+replies_within R most known lines = record {
+  bytes = all_replies R known (within most lines);
+  parts = each_reply R known (within most lines);
   whole = is_within most lines;
 }
 
 -- the replies to the lines of a script
-abbrev pub answers_to : SessionValue → List ℕ → Text
-answers_to session script = replies_within most_lines session (lines_of script)
+abbrev pub answers_to : (R : Responder) → R.Known → List ℕ → Text
+answers_to R known script = replies_within R most_lines known (lines_of script)
 
 -- ---- the answer
 
@@ -144,18 +146,21 @@ asked_of_page query metrics tree = do
   session ← started metrics tree
   answered query session
 
--- the replies of a session to a script of that name
-abbrev pub scripted : List ℕ → SessionValue → Files → Result Text Refusal
-scripted name session files = Ok (answers_to session (content files name))
+-- the replies to a script of that name
+abbrev pub scripted : (R : Responder) → List ℕ → R.Known → Files → Result Text Refusal
+scripted R name known files = Ok (answers_to R known (content files name))
 
 -- what is made of metrics and a tree
 unfoldable pub done : Work → MetricsValue → TreeValue → Files → Result Text Refusal
 done LaysOut metrics tree files = laid_out metrics tree
 done (Edits script) metrics tree files = do
   session ← started metrics tree
-  scripted script session files
+  scripted by_session script session files
 done Checks metrics tree files = Ok (whole_text (checked metrics tree))
 done (Asks query) metrics tree files = asked_of_page query metrics tree
+done (Remembers depth script) metrics tree files = do
+  session ← started metrics tree
+  scripted by_history script (kept_at_first depth session) files
 
 -- what is made of these metrics and a tree file, or the first refusal
 unfoldable pub answer_over : Work → MetricsValue → List ℕ → Files → Result Text Refusal

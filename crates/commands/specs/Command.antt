@@ -4,12 +4,12 @@ use Rattle.std.specs.Option.{option_and_then, option_map}
 use Rattle.std.specs.Str.{bytes_eq}
 use Rattle.queries.specs.declared.query.Query.{Query}
 use Rattle.queries.specs.declared.query.Query.TheVariants.{Paint, Hit, Select}
-use Rattle.commands.specs.Numerals.{coordinate_in, count_in, id_in, seed_in}
+use Rattle.commands.specs.Numerals.{coordinate_in, count_in, id_in, seed_in, depth_in}
 use Rattle.commands.specs.declared.command.Job.{Job as JobOfWords}
 use Rattle.commands.specs.declared.command.Job.TheVariants.{OverTree as WithTree, Generate}
 use Rattle.commands.specs.declared.command.Request.{Request}
 use Rattle.commands.specs.declared.command.Task.{Task}
-use Rattle.commands.specs.declared.command.Task.TheVariants.{Layout, Edit, Check, Ask}
+use Rattle.commands.specs.declared.command.Task.TheVariants.{Layout, Edit, Check, Ask, Remember}
 
 -- what is done with a metrics file and a tree file
 pub data Work : Type 0 where
@@ -19,6 +19,8 @@ pub data Work : Type 0 where
   Checks : Work
   -- this is asked of the page
   Asks : Query → Work
+  -- the same as of `Edits`, where so many edits can be undone: depth, script
+  Remembers : ℕ → List ℕ → Work
 
 -- what is done with a metrics file
 pub data Job : Type 0 where
@@ -71,11 +73,20 @@ job_named word next others =
     if bytes_eq word (codes "gen") then generation_of next others
     else option_map (λ work. OverTree work next) (work_named word others)
 
+-- a script whose edits can be undone: a depth, the metrics file, and then the tree and the script
+abbrev pub remembering : List ℕ → List ℕ → List (List ℕ) → Option Asked
+remembering depth metrics (tree ∷ script ∷ []) =
+    option_map (λ n. record { job = OverTree (Remembers n script) tree; metrics = metrics })
+    (depth_in depth)
+remembering depth metrics others = None
+
 -- the words are `layout METRICS TREE`, `edit METRICS TREE SCRIPT`, `check METRICS TREE`,
--- `gen METRICS SEED COUNT`, `paint METRICS TREE`, `hit METRICS TREE X Y` or
--- `select METRICS TREE ID ID`, and nothing else
+-- `gen METRICS SEED COUNT`, `paint METRICS TREE`, `hit METRICS TREE X Y`,
+-- `select METRICS TREE ID ID` or `history DEPTH METRICS TREE SCRIPT`, and nothing else
 abbrev pub asked_by : List (List ℕ) → Option Asked
 asked_by (command ∷ metrics ∷ next ∷ others) =
+    if bytes_eq command (codes "history") then remembering metrics next others
+    else
     option_map (λ job. record { job = job; metrics = metrics }) (job_named command next others)
 asked_by words = None
 
@@ -84,6 +95,7 @@ work_of Layout = LaysOut
 work_of (Edit script) = Edits script.now
 work_of Check = Checks
 work_of (Ask query) = Asks query
+work_of (Remember depth script) = Remembers depth script.now
 
 abbrev pub job_of : JobOfWords → Job
 job_of (WithTree task tree) = OverTree (work_of task) tree.now
@@ -97,4 +109,5 @@ abbrev pub usage_line : List ℕ
 usage_line =
     codes "usage: mathlay layout METRICS TREE | edit METRICS TREE SCRIPT | check METRICS TREE"
     ++ codes " | gen METRICS SEED COUNT | paint METRICS TREE | hit METRICS TREE X Y"
-    ++ codes " | select METRICS TREE ID ID\n"
+    ++ codes " | select METRICS TREE ID ID"
+    ++ codes " | history DEPTH METRICS TREE SCRIPT\n"

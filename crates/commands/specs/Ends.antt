@@ -4,7 +4,7 @@ use Rattle.std.specs.List.{concat}
 use Rattle.std.specs.Io.KnownBytes.{Appends, IsAtEnd, Keeps}
 use Rattle.doc_io.specs.Causes.{Files, InputsTold, Rose, SinkTold}
 use Rattle.edit_session.specs.Session.{SessionValue}
-use Rattle.commands.specs.Command.{Asked, Job, OverTree, Generates, Work, LaysOut, Edits, Checks, Asks, usage_line}
+use Rattle.commands.specs.Command.{Asked, Job, OverTree, Generates, Work, LaysOut, Edits, Checks, Asks, usage_line, Remembers}
 use Rattle.commands.specs.Answer.{Output, Text, ◌>>=◌, content, metrics_in, tree_in, started, output, output_of, parts_asked, parts_of}
 use Rattle.commands.specs.declared.status.Status.{Status}
 use Rattle.commands.specs.declared.status.Status.TheVariants.{Done, Usage, Metrics, Tree, ReadFault, WriteFault, Memory}
@@ -26,6 +26,7 @@ IsScript LaysOut name = ⊥
 IsScript (Edits script) name = name ≡ script
 IsScript Checks name = ⊥
 IsScript (Asks query) name = ⊥
+IsScript (Remembers depth script) name = name ≡ script
 
 -- behind a metrics file of that name: the tree file where that one gives metrics, and the script
 -- where both give a session; edits from a seed need no file more
@@ -98,6 +99,7 @@ IsInParts LaysOut = ⊥
 IsInParts (Edits script) = Unit {0}
 IsInParts Checks = ⊥
 IsInParts (Asks query) = ⊥
+IsInParts (Remembers depth script) = Unit {0}
 
 abbrev pub IsJobInParts : Job → Type 0
 IsJobInParts (OverTree work tree) = IsInParts work
@@ -206,6 +208,7 @@ StepsStand LaysOut status = EndsUnlaid status
 StepsStand (Edits script) status = EndsBeforeTree status
 StepsStand Checks status = Unit {0}
 StepsStand (Asks query) status = EndsUnlaid status
+StepsStand (Remembers depth script) status = EndsBeforeTree status
 
 abbrev pub JobStepsStand : Job → Status → Type 0
 JobStepsStand (OverTree work tree) status = StepsStand work status

@@ -6,7 +6,8 @@ use Rattle.tree_edits.specs.declared.command.Command.TheVariants.{Change}
 use Rattle.tree_edits.specs.declared.edit.Edit.{Edit}
 use Rattle.edit_session.specs.Session.{SessionValue, edited_session}
 use Rattle.generator.specs.Folded.{after_edit, is_accepted}
-use Rattle.commands.specs.Replies.{after_line, after_reply, is_edited_in_range, replies, reply_to, reply_to_edit, told_of}
+use Rattle.commands.specs.Responders.{after_all}
+use Rattle.commands.specs.Replies.{after_line, after_reply, by_session, is_edited_in_range, replies, reply_to, reply_to_edit, told_of}
 use Rattle.commands.specs.declared.reply.Reply.TheVariants.{Accepted}
 
 -- a line that isn't answered by `ok` leaves the session as it was
@@ -29,8 +30,7 @@ AcceptedLaw = (session : SessionValue) (line : List ℕ) → reply_to session li
 
 -- the session after all lines
 abbrev pub after_lines : SessionValue → List (List ℕ) → SessionValue
-after_lines session [] = session
-after_lines session (line ∷ lines) = after_lines (after_line session line) lines
+after_lines session lines = after_all by_session session lines
 
 -- the reply to each line is the one over the tree as edited by all lines before it
 abbrev pub RepliesLaw : Type 0

@@ -59,3 +59,17 @@ if_id number = if nat_lt number (2 ^ 32) then Some record { 0 = number } else No
 -- an id has at most 10 digits, and lies below 2^32
 abbrev pub id_in : List ℕ → Option NodeId
 id_in word = option_and_then if_id (number_in 10 word)
+
+-- the most edits that can be undone
+abbrev pub most_undone : ℕ
+most_undone = 1000
+
+abbrev pub is_depth : ℕ → Bool
+is_depth depth = nat_le 1 depth && nat_le depth most_undone
+
+abbrev pub if_depth : ℕ → Option ℕ
+if_depth depth = if is_depth depth then Some depth else None
+
+-- a depth has at most 4 digits, and is from 1 to 1,000
+abbrev pub depth_in : List ℕ → Option ℕ
+depth_in word = option_and_then if_depth (number_in 4 word)

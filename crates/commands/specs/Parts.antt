@@ -10,10 +10,9 @@ use Rattle.doc_io.specs.declared.line_reader.LineRefusal.{LineRefusal}
 use Rattle.doc_io.specs.declared.line_reader.LineRefusal.TheVariants as reading
 use Rattle.font_metrics.specs.Metrics.{MetricsValue}
 use Rattle.math_tree.specs.Trees.{TreeValue}
-use Rattle.edit_session.specs.Session.{SessionValue}
-use Rattle.commands.specs.Replies.{after_line, told_of}
+use Rattle.commands.specs.Responders.{Responder}
 use Rattle.commands.specs.Answer.{Text, content, replies_within, started, status_of_end, tree_in}
-use Rattle.commands.specs.Command.{Job, OverTree, Generates, Work, LaysOut, Edits, Checks, Asks}
+use Rattle.commands.specs.Command.{Job, OverTree, Generates, Work, LaysOut, Edits, Checks, Asks, Remembers}
 use Rattle.commands.specs.Ends.{Breaks, Delivers, HasReadCause, IsCut}
 use Rattle.commands.specs.declared.refusal.Refusal.{Refusal}
 use Rattle.commands.specs.declared.refusal.Refusal.TheVariants.{ReadFault}
@@ -31,6 +30,8 @@ LacksScript (Edits script) metrics tree files =
     IsOk (started metrics tree) × (files script ≡ None)
 LacksScript Checks metrics tree files = ⊥
 LacksScript (Asks query) metrics tree files = ⊥
+LacksScript (Remembers depth script) metrics tree files =
+    IsOk (started metrics tree) × (files script ≡ None)
 
 -- the tree file isn't there, or a script that is read
 abbrev pub LacksTree : Work → MetricsValue → List ℕ → Files → Type 0
@@ -108,32 +109,32 @@ pub record Tells (text : List ℕ) (old new : SinkTold)
 -- ---- the next line, and its reply
 
 -- one line is read, and its reply is written before another is
-pub record AnswersNext (session session' : SessionValue) (reader reader' : ReaderValue)
+pub record AnswersNext (R : Responder) (known known' : R.Known) (reader reader' : ReaderValue)
     (before after : InputsTold) (old new : SinkTold) (result : Result Bool Stop) : Type 0 where
   pub line : result ≡ Ok true → GivesLine reader reader' before after (Ok Whole)
-      × Tells (told_of session reader'.line) old new (Ok tt)
-      × (session' ≡ after_line session reader'.line)
+      × Tells (R.told_of known reader'.line) old new (Ok tt)
+      × (known' ≡ R.after_line known reader'.line)
   -- nothing is written where no line was read
   pub end : result ≡ Ok false → GivesLine reader reader' before after (Ok End) × (new ≡ old)
   pub stop : IfErr result (λ why.
       (ComesToLine reader reader' before after (Err why) × (new ≡ old))
       ⊎ (GivesLine reader reader' before after (Ok Whole)
-      × Tells (told_of session reader'.line) old new (Err why)))
+      × Tells (R.told_of known reader'.line) old new (Err why)))
 
 -- ---- all lines
 
 -- the replies to the lines that are left to a reader, where they are told
-abbrev pub replies_left : SessionValue → ReaderValue → InputsTold → Option Text
-replies_left session reader inputs = option_map
-    (λ bytes. replies_within (most_lines - reader.given) session (lines_of bytes))
+abbrev pub replies_left : (R : Responder) → R.Known → ReaderValue → InputsTold → Option Text
+replies_left R known reader inputs = option_map
+    (λ bytes. replies_within R (most_lines - reader.given) known (lines_of bytes))
     (left_of reader inputs)
 
 -- the replies to the lines that are left were delivered, or a front of them
-pub record AnswersLines (session : SessionValue) (reader : ReaderValue)
+pub record AnswersLines (R : Responder) (known : R.Known) (reader : ReaderValue)
     (before after : InputsTold) (old new : SinkTold) (status : Status) : Type 0 where
   pub text : Text
   -- where what is left isn't told, nor is the text
-  pub wanted : IfSome (replies_left session reader before) (λ replies. text ≡ replies)
+  pub wanted : IfSome (replies_left R known reader before) (λ replies. text ≡ replies)
   pub delivers : Delivers text.bytes (status_of_end text.whole) old new status
       ⊎ Breaks text.bytes text.parts before after old new status
   pub read_to_end : status ≡ ending.Done → IsAtEnd after.rest
@@ -146,7 +147,7 @@ abbrev pub status_of_lines : Result (Unit {0}) Stop → Status
 status_of_lines (Ok done) = ending.Done
 status_of_lines (Err why) = status_of_stop why
 
-abbrev pub AnswersEach : SessionValue → ReaderValue → InputsTold → InputsTold → SinkTold →
-    SinkTold → Result (Unit {0}) Stop → Type 0
-AnswersEach session reader before after old new result =
-    AnswersLines session reader before after old new (status_of_lines result)
+abbrev pub AnswersEach : (R : Responder) → R.Known → ReaderValue → InputsTold → InputsTold →
+    SinkTold → SinkTold → Result (Unit {0}) Stop → Type 0
+AnswersEach R known reader before after old new result =
+    AnswersLines R known reader before after old new (status_of_lines result)

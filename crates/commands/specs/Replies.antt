@@ -9,14 +9,15 @@ use Rattle.tree_edits.specs.declared.command.Command.{Command}
 use Rattle.tree_edits.specs.declared.command.Command.TheVariants.{Show, Change}
 use Rattle.tree_edits.specs.declared.edit.Edit.{Edit}
 use Rattle.tree_edits.specs.declared.edit.EditRefusal.{EditRefusal}
-use Rattle.tree_edits.specs.declared.edit.EditRefusal.TheVariants.{UnknownNode, NotText, IsText, IndexPast, RootFixed, BadName, RightToLeft, TextLong, TooDeep, TooMany, IdsSpent, Memory}
+use Rattle.tree_edits.specs.declared.edit.EditRefusal.TheVariants.{UnknownNode, NotText, IsText, IndexPast, RootFixed, BadName, RightToLeft, TextLong, TooDeep, TooMany, IdsSpent, IdTaken, Memory}
 use Rattle.layout_model.specs.Layout.{is_tree_in_range}
 use Rattle.box_writer.specs.Items.{IsOfFont}
 use Rattle.box_writer.specs.Lines.{text_of}
 use Rattle.box_writer.specs.declared.placed.PlacedItem.{PlacedItem}
 use Rattle.edit_session.specs.Session.{SessionValue, edited_session, page}
+use Rattle.commands.specs.Responders.{Responder, all_replies}
 use Rattle.commands.specs.declared.reply.Cause.{Cause}
-use Rattle.commands.specs.declared.reply.Cause.TheVariants.{NoCommand, Unmade, OutOfRange}
+use Rattle.commands.specs.declared.reply.Cause.TheVariants.{NoCommand, Unmade, OutOfRange, NoneHeld}
 use Rattle.commands.specs.declared.reply.Reply.{Reply}
 use Rattle.commands.specs.declared.reply.Reply.TheVariants.{Nothing, Accepted, Refused, Shown}
 
@@ -76,12 +77,14 @@ word_of_edit TextLong = codes "long"
 word_of_edit TooDeep = codes "depth"
 word_of_edit TooMany = codes "many"
 word_of_edit IdsSpent = codes "ids"
+word_of_edit IdTaken = codes "taken"
 word_of_edit Memory = codes "memory"
 
 abbrev pub word_of : Cause → List ℕ
 word_of NoCommand = codes "line"
 word_of (Unmade reason) = word_of_edit reason
 word_of OutOfRange = codes "range"
+word_of NoneHeld = codes "nothing"
 
 abbrev pub shown_text : MetricsValue → List PlacedItem → List ℕ
 shown_text metrics items = codes "shown\n" ++ text_of metrics items
@@ -106,13 +109,9 @@ IsReplyOfFont metrics (Shown items) = All (IsOfFont metrics) items
 abbrev pub told_of : SessionValue → List ℕ → List ℕ
 told_of session line = text_of_reply session.metrics (reply_to session line)
 
--- the replies to lines, each over the tree as edited so far
-abbrev pub replies : SessionValue → List (List ℕ) → List ℕ
-replies session [] = []
-replies session (line ∷ lines) = told_of session line ++ replies (after_line session line) lines
+-- a session answers lines, each over the tree as edited so far
+abbrev pub by_session : Responder
+by_session = record { Known = SessionValue; told_of = told_of; after_line = after_line }
 
--- the same replies, one by one
-abbrev pub each_reply : SessionValue → List (List ℕ) → List (List ℕ)
-each_reply session [] = []
-each_reply session (line ∷ lines) =
-    told_of session line ∷ each_reply (after_line session line) lines
+abbrev pub replies : SessionValue → List (List ℕ) → List ℕ
+replies session lines = all_replies by_session session lines

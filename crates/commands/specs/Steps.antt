@@ -17,67 +17,45 @@ use Rattle.kept_edits.specs.ByIds.{TakesNeeded}
 use Rattle.memo_tree.specs.Counted.{TakesVisits}
 use Rattle.edit_session.specs.Session.{SessionValue}
 use Rattle.generator.specs.Steps.{TakesForRun as TakesForGenerated}
-use Rattle.commands.specs.Command.{Asked, Job, OverTree, Generates, Work, LaysOut, Edits, Checks, Asks}
+use Rattle.commands.specs.Command.{Asked, Job, OverTree, Generates, Work, LaysOut, Edits, Checks, Asks, Remembers}
+pub use Rattle.commands.specs.EditSteps.{TakesForEdit, accepted_by, unless_refused}
+use Rattle.commands.specs.HistorySteps.{TakesForKept, by_history, kept_at_first}
 use Rattle.commands.specs.Script.{within}
-use Rattle.commands.specs.Replies.{after_line}
+use Rattle.commands.specs.Responders.{LineSteps, Responder, TakesForLines}
+use Rattle.commands.specs.Replies.{by_session}
 use Rattle.commands.specs.Answer.{content, metrics_in, started, tree_in}
 use Rattle.commands.specs.declared.refusal.Refusal.{Refusal}
 use Rattle.commands.specs.declared.replies.Stop.{Stop}
 
 -- ---- one line
 
--- an edit, where the tree has no reason to refuse it
-abbrev pub unless_refused : Option EditRefusal → Edit → Option Edit
-unless_refused None edit = Some edit
-unless_refused (Some reason) edit = None
-
--- the edit that a command asks for, where the tree has no reason to refuse it
-abbrev pub accepted_by : SessionValue → Option Command → Option Edit
-accepted_by session None = None
-accepted_by session (Some Show) = None
-accepted_by session (Some (Change edit)) = unless_refused (refusal_of session.tree edit) edit
-
 -- the edit that a line asks for, where the tree has no reason to refuse it
 unfoldable pub accepted_in : SessionValue → List ℕ → Option Edit
 accepted_in session line =
     if is_white_space line then None else accepted_by session (command_in line)
-
--- the steps of an accepted edit: layouts that it needs, none twice, be it then done, out of range
--- or cut short; where there is none, no step
-abbrev pub TakesForEdit : SessionValue → Option Edit → ℕ → ℕ → Type 0
-TakesForEdit session None from to = to ≡ from
-TakesForEdit session (Some edit) from to =
-    TakesNeeded session.metrics session.tree edit from to
 
 -- the steps of a line
 abbrev pub TakesForLine : SessionValue → List ℕ → ℕ → ℕ → Type 0
 TakesForLine session line from to = TakesForEdit session (accepted_in session line) from to
 
 -- the steps of the next line that a reader gives, if it gives one
-pub record TakesForNext (session : SessionValue) (reader reader' : ReaderValue)
-    (before after : InputsTold) (from to : ℕ) (result : Result Bool Stop) : Type 0 where
-  pub line : result ≡ Ok true → TakesForLine session reader'.line from to
+pub record TakesForNext (R : Responder) (Takes : LineSteps R) (known : R.Known)
+    (reader reader' : ReaderValue) (before after : InputsTold) (from to : ℕ)
+    (result : Result Bool Stop) : Type 0 where
+  pub line : result ≡ Ok true → Takes known reader'.line from to
   pub end : result ≡ Ok false → to ≡ from
   pub stop : IfErr result (λ why.
       (to ≡ from)
-      ⊎ (GivesLine reader reader' before after (Ok Whole)
-      × TakesForLine session reader'.line from to))
+      ⊎ (GivesLine reader reader' before after (Ok Whole) × Takes known reader'.line from to))
 
 -- ---- all lines
 
--- the steps of lines, one line after another, each over the tree as edited by those before it
-abbrev pub TakesForLines : SessionValue → List (List ℕ) → ℕ → ℕ → Type 0
-TakesForLines session [] from to = to ≡ from
-TakesForLines session (line ∷ lines) from to =
-    (between : ℕ) × TakesForLine session line from between
-    × TakesForLines (after_line session line) lines between to
-
 -- the steps of the lines that were answered: where the script is told, a front of its lines
-pub record TakesForScript (session : SessionValue) (script : Option (List (List ℕ)))
-    (from to : ℕ) : Type 0 where
+pub record TakesForScript (R : Responder) (Takes : LineSteps R) (known : R.Known)
+    (script : Option (List (List ℕ))) (from to : ℕ) : Type 0 where
   pub lines : List (List ℕ)
   pub front : IfSome script (λ all. (n : ℕ) × (lines ≡ take n all))
-  pub steps : TakesForLines session lines from to
+  pub steps : TakesForLines R Takes known lines from to
 
 -- the lines within their limits that are left to a reader, where they are told
 abbrev pub lines_left : ReaderValue → InputsTold → Option (List (List ℕ))
@@ -92,26 +70,33 @@ script_lines name files =
 
 -- ---- a run
 
--- the steps behind the first layout: none, where that is refused
-abbrev pub TakesBehindStart : Result SessionValue Refusal → Option (List (List ℕ)) → ℕ → ℕ → Type 0
-TakesBehindStart (Ok session) script from to = TakesForScript session script from to
-TakesBehindStart (Err refusal) script from to = to ≡ from
+-- the steps behind the first layout: none, where that is refused; `first` is what is known then
+abbrev pub TakesBehindStart : (R : Responder) → LineSteps R → (SessionValue → R.Known) →
+    Result SessionValue Refusal → Option (List (List ℕ)) → ℕ → ℕ → Type 0
+TakesBehindStart R Takes first (Ok session) script from to =
+    TakesForScript R Takes (first session) script from to
+TakesBehindStart R Takes first (Err refusal) script from to = to ≡ from
 
 -- the steps of a tree and a script: layouts that the tree needs, none twice, and then those of
 -- lines
-pub record TakesForEdits (metrics : MetricsValue) (tree : TreeValue)
-    (script : Option (List (List ℕ))) (from to : ℕ) : Type 0 where
+pub record TakesForEdits (R : Responder) (Takes : LineSteps R) (first : SessionValue → R.Known)
+    (metrics : MetricsValue) (tree : TreeValue) (script : Option (List (List ℕ)))
+    (from to : ℕ) : Type 0 where
   pub laid : ℕ
   pub start : TakesVisits metrics tree from laid
-  pub lines : TakesBehindStart (started metrics tree) script laid to
+  pub lines : TakesBehindStart R Takes first (started metrics tree) script laid to
 
 -- the steps of work on a tree
 abbrev pub TakesForWork : Work → MetricsValue → TreeValue → Option Files → ℕ → ℕ → Type 0
 TakesForWork LaysOut metrics tree files from to = TakesVisits metrics tree from to
 TakesForWork (Edits script) metrics tree files from to =
-    TakesForEdits metrics tree (script_lines script files) from to
+    TakesForEdits by_session TakesForLine (λ session. session) metrics tree
+    (script_lines script files) from to
 TakesForWork Checks metrics tree files from to = to ≡ from
 TakesForWork (Asks query) metrics tree files from to = TakesVisits metrics tree from to
+TakesForWork (Remembers depth script) metrics tree files from to =
+    TakesForEdits by_history TakesForKept (kept_at_first depth) metrics tree
+    (script_lines script files) from to
 
 -- the tree that was read, which is that of its file where the files are told, and the steps of the
 -- work on it

@@ -1,8 +1,8 @@
 ghost use Rattle.std.specs.Prelude.{◌≡◌, [], ◌∷◌, Some, None, IfOk, OnErr, map, string_bytes};
 ghost use Rattle.std.specs.Option.{option_map};
-ghost use Rattle.commands.specs.Command.{asked_by, asked_of, generation_of, job_named, job_of, work_named, work_of};
+ghost use Rattle.commands.specs.Command.{asked_by, asked_of, generation_of, job_named, job_of, remembering, work_named, work_of};
 
-use crate::numerals::{count_of, seed_of};
+use crate::numerals::{count_of, seed_of, depth_of};
 use crate::query::query_of;
 use queries::Query;
 use thiserror::Error;
@@ -10,7 +10,7 @@ use thiserror::Error;
 /// What the user is told whose words are no command.
 pub const USAGE: &str = "usage: mathlay layout METRICS TREE | edit METRICS TREE SCRIPT \
     | check METRICS TREE | gen METRICS SEED COUNT | paint METRICS TREE | hit METRICS TREE X Y \
-    | select METRICS TREE ID ID\n";
+    | select METRICS TREE ID ID | history DEPTH METRICS TREE SCRIPT\n";
 
 /// The words are no command.
 #[derive(Clone, Copy, Debug, PartialEq, Eq, Error)]
@@ -28,6 +28,8 @@ pub enum Task<'a> {
     Check,
     /// Answers what is asked of the page.
     Ask(Query),
+    /// Answers the lines of the script of that name, where so many edits can be undone.
+    Remember(u32, &'a str),
 }
 
 /// What is done with a metrics file.
@@ -48,8 +50,8 @@ pub struct Request<'a> {
 
 impl<'a> Request<'a> {
     /// Reads the words after the program's name: `layout METRICS TREE`, `edit METRICS TREE SCRIPT`,
-    /// `check METRICS TREE`, `gen METRICS SEED COUNT`, `paint METRICS TREE`, `hit METRICS TREE X Y` or
-    /// `select METRICS TREE ID ID`, and nothing else.
+    /// `check METRICS TREE`, `gen METRICS SEED COUNT`, `paint METRICS TREE`, `hit METRICS TREE X Y`,
+    /// `select METRICS TREE ID ID` or `history DEPTH METRICS TREE SCRIPT`, and nothing else.
     pub fn from_words(words: &'a [String]) -> Result<Request<'a>, NoCommand>
         ensures ok { IfOk result (λ request.
             asked_by (map string_bytes words.now) ≡ Some (asked_of request)) }
@@ -58,12 +60,38 @@ impl<'a> Request<'a> {
         if words.len() < 3 {
             return Err(NoCommand);
         }
+        if words[0].as_str() == "history" {
+            return Request::to_remember(words[1].as_str(), words[2].as_str(), &words[3..]);
+        }
         match Job::of_words(words[0].as_str(), words[2].as_str(), &words[3..]) {
             Some(job) => Ok(Request {
                 job,
                 metrics: words[1].as_str(),
             }),
             None => Err(NoCommand),
+        }
+    }
+}
+
+impl<'a> Request<'a> {
+    /// A script whose edits can be undone: a depth, the metrics file, and the words behind it.
+    fn to_remember(
+        depth: &str,
+        metrics: &'a str,
+        others: &'a [String],
+    ) -> Result<Request<'a>, NoCommand>
+        ensures ok { IfOk result (λ request.
+            remembering depth.now metrics.now (map string_bytes others.now)
+            ≡ Some (asked_of request)) }
+        ensures err { OnErr result
+            (remembering depth.now metrics.now (map string_bytes others.now) ≡ None) }
+    {
+        match (depth_of(depth), others) {
+            (Some(depth), [tree, script]) => Ok(Request {
+                job: Job::OverTree(Task::Remember(depth, script.as_str()), tree.as_str()),
+                metrics,
+            }),
+            _ => Err(NoCommand),
         }
     }
 }

@@ -2,7 +2,7 @@
 ghost use Rattle.std.specs.Prelude.{◌≡◌};
 ghost use Rattle.std.specs.Char.{is_ascii_digit};
 ghost use Rattle.std.specs.List.{list_all};
-ghost use Rattle.commands.specs.Numerals.{behind_minus, coordinate_in, count_in, id_in, is_short_numeral, number_in, seed_in};
+ghost use Rattle.commands.specs.Numerals.{behind_minus, coordinate_in, count_in, id_in, is_short_numeral, number_in, seed_in, depth_in};
 
 use math_tree::NodeId;
 
@@ -11,8 +11,13 @@ const SEED_DIGITS: usize = 20;
 
 const COUNT_DIGITS: usize = 5;
 
+const DEPTH_DIGITS: usize = 4;
+
 /// The most edits that are drawn.
 const MOST_GENERATED: u64 = 20_000;
+
+/// The most edits that can be undone.
+const MOST_UNDONE: u64 = 1_000;
 
 /// The seed that a word writes: at most 20 decimal digits, and below 2^64.
 pub fn seed_of(word: &str) -> Option<u64>
@@ -28,6 +33,18 @@ pub fn count_of(word: &str) -> Option<u32>
     let count = number_of(COUNT_DIGITS, word)?;
     if (1 <= count) & (count <= MOST_GENERATED) {
         Some(count as u32)
+    } else {
+        None
+    }
+}
+
+/// The depth that a word writes: at most 4 decimal digits, and from 1 to 1,000.
+pub fn depth_of(word: &str) -> Option<u32>
+    ensures { result ≡ depth_in word.now }
+{
+    let depth = number_of(DEPTH_DIGITS, word)?;
+    if (1 <= depth) & (depth <= MOST_UNDONE) {
+        Some(depth as u32)
     } else {
         None
     }

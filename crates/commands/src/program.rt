@@ -1,4 +1,4 @@
-ghost use Rattle.std.specs.Prelude.{◌≡◌, ◌≢◌, Some, None, All, IfOk, IfErr, Ok, Err, map, string_bytes};
+ghost use Rattle.std.specs.Prelude.{◌≡◌, ◌≢◌, ◌≤◌, Some, None, All, IfOk, IfErr, Ok, Err, map, string_bytes};
 ghost use Rattle.std.specs.Option.{option_map};
 ghost use Rattle.memo_tree.specs.Counted.{TakesVisits};
 ghost use Rattle.box_writer.specs.Items.{IsOfFont};
@@ -6,26 +6,31 @@ ghost use Rattle.box_writer.specs.Lines.{text_of};
 ghost use Rattle.queries.specs.Queries.{IsWritable, bytes_of};
 ghost use Rattle.generator.specs.Steps.{TakesForRun as TakesForGenerated};
 ghost use Rattle.generator.specs.Summary.{lines_of};
-ghost use Rattle.commands.specs.Command.{asked_by, asked_of, job_of, work_of, LaysOut, Edits};
+ghost use Rattle.commands.specs.Command.{asked_by, asked_of, job_of, work_of, LaysOut, Edits, Remembers};
 ghost use Rattle.commands.specs.Answer.{answer, answer_over, answer_with, answered, asked_of_page, checked, done, generates, laid_out, lines_of_page, scripted, started, whole_text};
 ghost use Rattle.commands.specs.Ends.{Answered, AnsweredJob, Delivers, Ends, EndsBeforeTree, EndsUnlaid, GivesOr, IsJobInParts, JobStepsStand, LacksFile, StepsStand, TakesNoSteps, Written};
 ghost use Rattle.commands.specs.Parts.{LacksNext, LacksScript, LacksTree};
-ghost use Rattle.commands.specs.Steps.{TakesForEdits, TakesForJob, TakesForRun, TakesForScript, TakesForWork, TakesOverMetrics, script_lines};
+ghost use Rattle.commands.specs.Steps.{TakesForEdits, TakesForJob, TakesForLine, TakesForRun, TakesForScript, TakesForWork, TakesOverMetrics, script_lines};
+ghost use Rattle.commands.specs.HistorySteps.{TakesForKept, by_history, kept_at_first, new_ring, ring_of};
+ghost use Rattle.commands.specs.Replies.{by_session};
 ghost use Rattle.commands.specs.Refusals.{line_of, status_of};
+ghost use Rattle.edit_session.specs.Session.{SessionValue};
 
 use crate::command::{Job, NoCommand, Request, Task, USAGE};
 use crate::load::{load_metrics, load_tree, open_script};
 use crate::refusal::Refusal;
-use crate::replies::answer_lines;
+use crate::replies::{Respond, answer_lines};
 use crate::status::Status;
 use box_writer::{Placed, write_placed};
 use doc_io::{Inputs, Sink, write_all};
+use edit_ring::Ring;
 use edit_session::Session;
 use fixed_units::{List, Memory, Steps};
 use font_metrics::Metrics;
 use generator::{Summary, generate};
 use math_tree::Tree;
 use queries::{Answer, Query, answer_query};
+use session_ring::Undoable;
 use std::alloc::Global;
 use std::sync::ledger::Ledger;
 
@@ -151,6 +156,9 @@ fn do_task<I: Inputs, O: Sink, L: Ledger>(
         Task::Layout => lay_out(alloc, metrics, tree, out, steps),
         Task::Edit(script) => edit(alloc, metrics, tree, script, inputs, out, steps),
         Task::Ask(query) => ask(alloc, metrics, tree, query, out, steps),
+        Task::Remember(depth, script) => {
+            remember(alloc, metrics, tree, depth, script, inputs, out, steps)
+        }
         Task::Check => {
             let status = check(alloc, &metrics, &tree, out);
             drop(metrics);
@@ -270,8 +278,8 @@ fn edit<I: Inputs, O: Sink, L: Ledger>(
         (I.told inputs.old) (I.told inputs.new)
         (O.told out.old) (O.told out.new) result }
     ensures late { ¬ EndsBeforeTree result }
-    ensures taken { TakesForEdits metrics tree (script_lines script.now (I.told inputs.old).files)
-        steps.old steps.new }
+    ensures taken { TakesForEdits by_session TakesForLine (λ session. session) metrics tree
+        (script_lines script.now (I.told inputs.old).files) steps.old steps.new }
 {
     match start(alloc, metrics, tree, steps) {
         Ok(mut session) => {
@@ -280,6 +288,62 @@ fn edit<I: Inputs, O: Sink, L: Ledger>(
             status
         }
         Err(refusal) => tell(out, refusal),
+    }
+}
+
+/// Lays out the tree and answers the lines of a script whose edits can be undone, or tells why it
+/// doesn't.
+fn remember<I: Inputs, O: Sink, L: Ledger>(
+    alloc: Global,
+    metrics: Metrics,
+    tree: Tree,
+    depth: u32,
+    script: &str,
+    inputs: &mut I,
+    out: &mut O,
+    steps: &mut Steps<L>,
+) -> Status
+    requires some { 1 ≤ depth }
+    requires few { depth ≤ 1000 }
+    ensures answered { Answered (Remembers depth script.now)
+        (option_map (done (Remembers depth script.now) metrics tree) (I.told inputs.old).files)
+        (LacksScript (Remembers depth script.now) metrics tree)
+        (I.told inputs.old) (I.told inputs.new)
+        (O.told out.old) (O.told out.new) result }
+    ensures late { ¬ EndsBeforeTree result }
+    ensures taken { TakesForEdits by_history TakesForKept (kept_at_first depth) metrics tree
+        (script_lines script.now (I.told inputs.old).files) steps.old steps.new }
+{
+    match start_ring(alloc, metrics, tree, depth, steps) {
+        Ok(mut ring) => {
+            let status = answer_script(alloc, &mut ring, script, inputs, out, steps);
+            drop(ring);
+            status
+        }
+        Err(refusal) => tell(out, refusal),
+    }
+}
+
+/// The session of a tree that is laid out, of which so many edits can be undone.
+fn start_ring<L: Ledger>(
+    alloc: Global,
+    metrics: Metrics,
+    tree: Tree,
+    depth: u32,
+    steps: &mut Steps<L>,
+) -> Result<Ring<Undoable>, Refusal>
+    requires some { 1 ≤ depth }
+    requires few { depth ≤ 1000 }
+    ensures ring { IfOk result (λ ring. (session : SessionValue)
+        × (started metrics tree ≡ Ok session) × (ring_of ring ≡ new_ring depth session)) }
+    ensures refused { IfErr result (λ refusal. GivesOr (started metrics tree) (Err refusal)) }
+    ensures late { IfErr result (λ refusal. ¬ EndsUnlaid (status_of refusal)) }
+    ensures taken { TakesVisits metrics tree steps.old steps.new }
+{
+    let session = start(alloc, metrics, tree, steps)?;
+    match Ring::make(alloc, Undoable { session }, depth as usize) {
+        Ok(ring) => Ok(ring),
+        Err(Memory) => Err(Refusal::Memory),
     }
 }
 
@@ -313,27 +377,27 @@ fn show<O: Sink>(alloc: Global, session: &mut Session, out: &mut O) -> Status
     }
 }
 
-/// Answers the lines of a script over a session, or tells why it doesn't.
-fn answer_script<I: Inputs, O: Sink, L: Ledger>(
+/// Answers the lines of a script, or tells why it doesn't.
+fn answer_script<A: Respond, I: Inputs, O: Sink, L: Ledger>(
     alloc: Global,
-    session: &mut Session,
+    answerer: &mut A,
     name: &str,
     inputs: &mut I,
     out: &mut O,
     steps: &mut Steps<L>,
 ) -> Status
-    ensures answered { Answered (Edits name.now)
-        (option_map (scripted name.now session.old.held) (I.told inputs.old).files)
+    ensures answered { AnsweredJob (Unit {0})
+        (option_map (scripted A.responder name.now (A.known answerer.old)) (I.told inputs.old).files)
         (λ files. files name.now ≡ None)
         (I.told inputs.old) (I.told inputs.new)
         (O.told out.old) (O.told out.new) result }
     ensures late { ¬ EndsBeforeTree result }
-    ensures taken { TakesForScript session.old.held
+    ensures taken { TakesForScript A.responder A.takes (A.known answerer.old)
         (script_lines name.now (I.told inputs.old).files) steps.old steps.new }
 {
     match open_script(alloc, name, inputs) {
         Ok(mut reader) => {
-            let status = answer_lines(alloc, session, &mut reader, inputs, out, steps);
+            let status = answer_lines(alloc, answerer, &mut reader, inputs, out, steps);
             drop(reader);
             status
         }

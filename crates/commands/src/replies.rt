@@ -1,12 +1,10 @@
 ghost use Rattle.std.specs.Prelude.{◌≡◌, OnOk};
 ghost use Rattle.commands.specs.Parts.{AnswersEach, AnswersLines, AnswersNext, ComesToLine, Tells, status_of_stop, stop_of};
-ghost use Rattle.commands.specs.Replies.{after_line, told_of};
-ghost use Rattle.commands.specs.Steps.{TakesForLine, TakesForNext, TakesForScript, lines_left};
+ghost use Rattle.commands.specs.Responders.{LineSteps, Responder};
+ghost use Rattle.commands.specs.Steps.{TakesForNext, TakesForScript, lines_left};
 
-use crate::reply::reply_to;
 use crate::status::Status;
 use doc_io::{Inputs, Line, LineReader, LineRefusal, Sink, WriteFault};
-use edit_session::Session;
 use fixed_units::{Memory, Steps};
 use std::alloc::Global;
 use std::sync::ledger::Ledger;
@@ -24,64 +22,91 @@ pub enum Stop {
     Memory,
 }
 
+/// What answers the lines of a script.
+pub trait Respond {
+    /// What is told of a line by what is known, and what is known then.
+    ghost responder: { Responder };
+
+    /// Which steps a line may take.
+    ghost takes: { LineSteps responder };
+
+    /// What is known.
+    ghost known: { Self → responder.Known };
+
+    /// Does what a line asks for, and writes the reply.
+    fn answer_line<O: Sink, L: Ledger>(
+        &mut self,
+        alloc: Global,
+        line: &[u8],
+        out: &mut O,
+        steps: &mut Steps<L>,
+    ) -> Result<(), Stop>
+        ensures told { Tells (responder.told_of (known self.old) line.now)
+            (O.told out.old) (O.told out.new) result }
+        ensures after { OnOk result
+            (known self.new ≡ responder.after_line (known self.old) line.now) }
+        ensures taken { takes (known self.old) line.now steps.old steps.new };
+}
+
 /// Answers the lines of a script, each before the next is read: to its end, or to the first line
 /// that passes a limit.
-pub fn answer_lines<I: Inputs, O: Sink, L: Ledger>(
+pub fn answer_lines<A: Respond, I: Inputs, O: Sink, L: Ledger>(
     alloc: Global,
-    session: &mut Session,
+    answerer: &mut A,
     reader: &mut LineReader,
     inputs: &mut I,
     out: &mut O,
     steps: &mut Steps<L>,
 ) -> Status
-    ensures answers { AnswersLines session.old.held reader.old
+    ensures answers { AnswersLines A.responder (A.known answerer.old) reader.old
         (I.told inputs.old) (I.told inputs.new) (O.told out.old) (O.told out.new) result }
-    ensures taken { TakesForScript session.old.held (lines_left reader.old (I.told inputs.old))
-        steps.old steps.new }
+    ensures taken { TakesForScript A.responder A.takes (A.known answerer.old)
+        (lines_left reader.old (I.told inputs.old)) steps.old steps.new }
 {
-    match answer_each(alloc, session, reader, inputs, out, steps) {
+    match answer_each(alloc, answerer, reader, inputs, out, steps) {
         Ok(()) => Status::Done,
         Err(stop) => stop.status(),
     }
 }
 
 /// Answers the lines of a script, each before the next is read.
-fn answer_each<I: Inputs, O: Sink, L: Ledger>(
+fn answer_each<A: Respond, I: Inputs, O: Sink, L: Ledger>(
     alloc: Global,
-    session: &mut Session,
+    answerer: &mut A,
     reader: &mut LineReader,
     inputs: &mut I,
     out: &mut O,
     steps: &mut Steps<L>,
 ) -> Result<(), Stop>
-    ensures answers { AnswersEach session.old.held reader.old
+    ensures answers { AnswersEach A.responder (A.known answerer.old) reader.old
         (I.told inputs.old) (I.told inputs.new) (O.told out.old) (O.told out.new) result }
-    ensures taken { TakesForScript session.old.held (lines_left reader.old (I.told inputs.old))
-        steps.old steps.new }
+    ensures taken { TakesForScript A.responder A.takes (A.known answerer.old)
+        (lines_left reader.old (I.told inputs.old)) steps.old steps.new }
 {
-    while answer_next(alloc, session, reader, inputs, out, steps)? {}
+    while answer_next(alloc, answerer, reader, inputs, out, steps)? {}
     Ok(())
 }
 
 /// Reads the next line of a script and answers it, and says whether there was one. When it returns,
 /// the reply to the line that was read is written.
-fn answer_next<I: Inputs, O: Sink, L: Ledger>(
+fn answer_next<A: Respond, I: Inputs, O: Sink, L: Ledger>(
     alloc: Global,
-    session: &mut Session,
+    answerer: &mut A,
     reader: &mut LineReader,
     inputs: &mut I,
     out: &mut O,
     steps: &mut Steps<L>,
 ) -> Result<bool, Stop>
-    ensures answers { AnswersNext session.old.held session.new.held reader.old reader.new
-        (I.told inputs.old) (I.told inputs.new) (O.told out.old) (O.told out.new) result }
-    ensures taken { TakesForNext session.old.held reader.old reader.new
+    ensures answers { AnswersNext A.responder (A.known answerer.old) (A.known answerer.new)
+        reader.old reader.new (I.told inputs.old) (I.told inputs.new)
+        (O.told out.old) (O.told out.new) result }
+    ensures taken { TakesForNext A.responder A.takes (A.known answerer.old) reader.old reader.new
         (I.told inputs.old) (I.told inputs.new) steps.old steps.new result }
 {
     if !next_line(reader, inputs)? {
         return Ok(false);
     }
-    answer_line(alloc, session, reader.line(), out, steps)?;
+    answerer.answer_line(alloc, reader.line(), out, steps)?;
     Ok(true)
 }
 
@@ -93,23 +118,6 @@ fn next_line<I: Inputs>(reader: &mut LineReader, inputs: &mut I) -> Result<bool,
         Ok(line) => Ok(line == Line::Whole),
         Err(refusal) => Err(Stop::of_reading(refusal)),
     }
-}
-
-/// Does what a line asks for, and writes the reply.
-fn answer_line<O: Sink, L: Ledger>(
-    alloc: Global,
-    session: &mut Session,
-    line: &[u8],
-    out: &mut O,
-    steps: &mut Steps<L>,
-) -> Result<(), Stop>
-    ensures told { Tells (told_of session.old.held line.now) (O.told out.old) (O.told out.new) result }
-    ensures session { OnOk result (session.new.held ≡ after_line session.old.held line.now) }
-    ensures taken { TakesForLine session.old.held line.now steps.old steps.new }
-{
-    let reply = reply_to(alloc, session, line, steps)?;
-    reply.write(out, session.metrics())?;
-    Ok(())
 }
 
 impl Stop {

@@ -8,6 +8,7 @@ ghost use Rattle.box_writer.specs.Items.{IsOfFont};
 ghost use Rattle.commands.specs.Replies.{IsReplyOfFont, after_command, after_line, after_reply, reply_to, reply_to_command, reply_to_edit, shown_text, text_of_reply, word_of, word_of_edit};
 ghost use Rattle.commands.specs.Steps.{TakesForEdit, TakesForLine, accepted_by, unless_refused};
 
+use crate::replies::{Respond, Stop};
 use crate::script::is_white_space;
 use box_writer::{Placed, write_placed};
 use doc_io::{ShortText, Sink, WriteFault, write_all};
@@ -27,6 +28,8 @@ pub enum Cause {
     Unmade(EditRefusal),
     /// A size of the edited tree's layout is out of range.
     OutOfRange,
+    /// There is nothing to undo or redo.
+    NoneHeld,
 }
 
 /// What is answered to a line of a script.
@@ -41,9 +44,32 @@ pub enum Reply {
     Shown(Placed),
 }
 
+impl Respond for Session {
+    ghost use Rattle.commands.specs.Replies.{by_session};
+    ghost use Rattle.commands.specs.Steps.{TakesForLine};
+
+    ghost responder = { by_session };
+
+    ghost takes = { TakesForLine };
+
+    ghost known = { λ session. session.held };
+
+    fn answer_line<O: Sink, L: Ledger>(
+        &mut self,
+        alloc: Global,
+        line: &[u8],
+        out: &mut O,
+        steps: &mut Steps<L>,
+    ) -> Result<(), Stop> {
+        let reply = reply_to(alloc, self, line, steps)?;
+        reply.write(out, self.metrics())?;
+        Ok(())
+    }
+}
+
 /// Does what a line of a script asks for, and says what is answered.
 #[tactic(auto, unfolding(crate::specs::Replies::reply_to, crate::specs::Replies::after_line, crate::specs::Steps::accepted_in))]
-pub fn reply_to<L: Ledger>(
+fn reply_to<L: Ledger>(
     alloc: Global,
     session: &mut Session,
     line: &[u8],
@@ -157,6 +183,7 @@ impl Cause {
             Cause::NoCommand => "line",
             Cause::Unmade(reason) => word_of_edit(reason),
             Cause::OutOfRange => "range",
+            Cause::NoneHeld => "nothing",
         }
     }
 }
@@ -178,6 +205,7 @@ fn word_of_edit(reason: EditRefusal) -> &'static str
         EditRefusal::TooDeep => "depth",
         EditRefusal::TooMany => "many",
         EditRefusal::IdsSpent => "ids",
+        EditRefusal::IdTaken => "taken",
         EditRefusal::Memory => "memory",
     }
 }

@@ -17,8 +17,8 @@ returns-in-Ok-clause-answered g c =
     let a = c.answer_lines-status.ensures.answers in
     record {
       result = Ok a.text;
-      answers = with_script name c.args.session.now.held before mid after old new _ _ c.in-Ok.ensures a;
-      delivers = in_parts name a.text before mid after old new _ c.in-Ok.ensures.selects.faults a.delivers;
+      answers = with_script g.A.Respond.responder name (g.A.Respond.known c.args.answerer.now) before mid after old new _ _ c.in-Ok.ensures a;
+      delivers = in_parts a.text before mid after old new _ c.in-Ok.ensures.selects.faults a.delivers;
       read_to_end = λ done parts. a.read_to_end done;
     }
 
@@ -34,7 +34,7 @@ returns-in-Ok-clause-late g c =
 pub returns-in-Err-clause-answered : goal.returns-in-Err-clause-answered
 returns-in-Err-clause-answered g c = record {
   result = Err c.in-Err.refusal;
-  answers = without_script c.args.name.now c.args.session.now.held (g.I.Inputs.told c.args.inputs.now) (g.I.Inputs.told c.open_script.new.inputs) c.in-Err.refusal c.in-Err.ensures;
+  answers = without_script g.A.Respond.responder c.args.name.now (g.A.Respond.known c.args.answerer.now) (g.I.Inputs.told c.args.inputs.now) (g.I.Inputs.told c.open_script.new.inputs) c.in-Err.refusal c.in-Err.ensures;
   delivers = inl c.tell.ensures;
   read_to_end = λ done parts. absurd (told_not_done c.in-Err.refusal _ _ _ _ c.tell.ensures done);
 }
@@ -44,8 +44,8 @@ returns-in-Err-clause-late g c = later _ _ _ (g.O.Sink.told c.args.out.now) (g.O
 
 pub returns-in-Ok-clause-taken : goal.returns-in-Ok-clause-taken
 returns-in-Ok-clause-taken g c =
-    for_file c.args.session.now.held c.args.name.now (g.I.Inputs.told c.args.inputs.now) (g.I.Inputs.told c.open_script.new.inputs) c.in-Ok.reader _ _
+    for_file g.A.Respond.responder g.A.Respond.takes (g.A.Respond.known c.args.answerer.now) c.args.name.now (g.I.Inputs.told c.args.inputs.now) (g.I.Inputs.told c.open_script.new.inputs) c.in-Ok.reader _ _
     c.in-Ok.ensures c.answer_lines-status.ensures.taken
 
 pub returns-in-Err-clause-taken : goal.returns-in-Err-clause-taken
-returns-in-Err-clause-taken g c = for_no_lines _ _ _ _ refl
+returns-in-Err-clause-taken g c = for_no_lines g.A.Respond.responder g.A.Respond.takes _ _ _ _ refl

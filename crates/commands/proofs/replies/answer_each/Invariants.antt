@@ -8,10 +8,10 @@ use Rattle.commands.proofs.replies.answer_each.Given as goal
 -- its reply written; and the steps are those of the lines that were given
 abbrev pub invariant-loop : goal.invariant-loop
 invariant-loop g l =
-    Stands l.fn.session.held l.fn.reader (g.I.Inputs.told l.fn.inputs) (g.O.Sink.told l.fn.out)
-    l.session.held l.reader (g.I.Inputs.told l.inputs) (g.O.Sink.told l.out)
-    × Took l.fn.session.held l.fn.reader (g.I.Inputs.told l.fn.inputs) l.fn.steps
-    l.session.held l.reader (g.I.Inputs.told l.inputs) l.steps
+    Stands g.A.Respond.responder (g.A.Respond.known l.fn.answerer) l.fn.reader (g.I.Inputs.told l.fn.inputs) (g.O.Sink.told l.fn.out)
+    (g.A.Respond.known l.answerer) l.reader (g.I.Inputs.told l.inputs) (g.O.Sink.told l.out)
+    × Took g.A.Respond.responder g.A.Respond.takes (g.A.Respond.known l.fn.answerer) l.fn.reader (g.I.Inputs.told l.fn.inputs) l.fn.steps
+    (g.A.Respond.known l.answerer) l.reader (g.I.Inputs.told l.inputs) l.steps
 
 abbrev pub decreases-loop : goal.decreases-loop
 decreases-loop g l = most_lines - l.reader.given
