@@ -1,0 +1,121 @@
+"""One process of `mathlay history`, which is spoken to line by line over a pipe."""
+
+import os
+import select
+import subprocess
+import tempfile
+import time
+from dataclasses import dataclass, field
+
+from companion import command, refusals
+from companion.command import Fault
+from companion.program import Inputs
+from companion.trees import json_text
+
+# How many edits can be undone.
+DEPTH = 1000
+# The limits of a script: its lines, and the bytes of one.
+MOST_LINES, LONGEST_LINE = 65_536, 1_048_576
+# How long the program may be silent, in seconds.
+SILENCE = 60
+# A line that is no command: its reply shows where the reply to a show ends.
+END, ENDED = '{"op":"end"}', "refused line"
+SHOW, UNDO, REDO = {"op": "show"}, {"op": "undo"}, {"op": "redo"}
+PIECE = 65_536
+
+
+class Broken(Exception):
+    """The engine can't go on: why, as one sentence."""
+
+
+@dataclass
+class Answer:
+    """The reply to each edit, the lines of boxes and marks behind them, and how long that took."""
+
+    replies: list = field(default_factory=list)
+    shown: list = field(default_factory=list)
+    microseconds: int = 0
+
+
+class Engine:
+    """A process with a tree. `room` is how many lines it still takes."""
+
+    def __init__(self, program, metrics, tree_text):
+        handle, self.tree = tempfile.mkstemp(prefix="mathlay-", suffix=".json")
+        with os.fdopen(handle, "w", encoding="utf-8") as file:
+            file.write(tree_text)
+        self.metrics, self.room, self.held = metrics, MOST_LINES, b""
+        words = [*program, "history", str(DEPTH), metrics, self.tree, "/dev/stdin"]
+        try:
+            self.child = subprocess.Popen(words, stdin=subprocess.PIPE, stdout=subprocess.PIPE, stderr=subprocess.DEVNULL)
+        except (OSError, ValueError) as fault:
+            os.unlink(self.tree)
+            raise Fault(f"{words[0]}: {command.reason(fault)}") from None
+
+    @property
+    def pid(self):
+        return self.child.pid
+
+    def ask(self, edits):
+        """Says the edits, then asks to be shown the tree; raises Broken."""
+        lines = [json_text(edit) for edit in [*edits, SHOW]] + [END]
+        data = "".join(line + "\n" for line in lines).encode()
+        began = time.perf_counter_ns()
+        self.say(data, len(lines))
+        answer = Answer([self.line() for _ in edits])
+        first = self.line()
+        if first != "shown":
+            raise Broken(f"the engine wrote `{first[:80]}` where it was to show the formula")
+        while (line := self.line()) != ENDED:
+            answer.shown.append(line)
+        answer.microseconds = (time.perf_counter_ns() - began) // 1000
+        return answer
+
+    def say(self, data, count):
+        """Writes lines; raises Broken."""
+        self.room -= count
+        try:
+            self.child.stdin.write(data)
+            self.child.stdin.flush()
+        except (OSError, ValueError):
+            raise Broken(self.ending()) from None
+
+    def line(self):
+        """The next line that the engine writes; raises Broken."""
+        while b"\n" not in self.held:
+            ready, _, _ = select.select([self.child.stdout], [], [], SILENCE)
+            if not ready:
+                raise Broken(f"the engine was silent for {SILENCE} seconds")
+            piece = os.read(self.child.stdout.fileno(), PIECE)
+            if not piece:
+                raise Broken(self.ending())
+            self.held += piece
+        line, _, self.held = self.held.partition(b"\n")
+        return line.decode("utf-8", "replace")
+
+    def ending(self):
+        """Why the engine has ended, as a sentence."""
+        try:
+            status = self.child.wait(timeout=5)
+        except subprocess.TimeoutExpired:
+            return "the engine has closed its output"
+        if status == 0:
+            return "the engine's pipe was closed"
+        written = self.held.decode("utf-8", "replace")
+        if written.startswith("usage:") and " history " not in written:
+            return "the program has no command `history`: it is an older one"
+        return refusals.ending(status, written, "", Inputs(self.metrics, self.tree, None, "the formula"))
+
+    def close(self):
+        """Ends the process."""
+        self.child.kill()
+        self.child.wait()
+        for stream in (self.child.stdin, self.child.stdout):
+            try:
+                stream.close()
+            except OSError:
+                pass
+        try:
+            os.unlink(self.tree)
+        except OSError:
+            pass
