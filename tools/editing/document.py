@@ -145,19 +145,19 @@ class Document:
 
     def asked(self, edits):
         """The answer to edits; an engine that ends on the way is replaced once. Raises Broken where the other ends too."""
-        if self.engine is None or self.engine.room < SPARE_LINES:
-            self.begin()
-        try:
-            return self.engine.ask(self.translated(edits))
-        except Broken as fault:
-            self.told = f"{fault}; it was started anew, and nothing is lost."
-            self.sleep()
-        self.begin()
-        try:
-            return self.engine.ask(self.translated(edits))
-        except Broken:
-            self.sleep()
-            raise
+        ended = None
+        while True:
+            try:
+                if self.engine is None or self.engine.room < SPARE_LINES:
+                    self.begin()
+                answer = self.engine.ask(self.translated(edits))
+                self.told = f"{ended} It was started anew, and nothing is lost." if ended else self.told
+                return answer
+            except Broken as fault:
+                self.sleep()
+                if ended:
+                    raise
+                ended = fault
 
     def translated(self, edits):
         """The edits as the engine is told them."""
@@ -179,7 +179,7 @@ class Document:
         said += [UNDO] * sum(len(step.edits) for step in self.future)
         for place in range(0, len(said), AT_ONCE):
             if set(self.engine.ask(said[place:place + AT_ONCE]).replies) != {"ok"}:
-                raise Broken("The engine refused an edit that it had made before")
+                raise Broken("The engine refused an edit that it had made before.")
 
     def sleep(self):
         """Ends the engine; another one is begun when it is needed."""
@@ -194,7 +194,7 @@ class Document:
             if isinstance(mark, Box):
                 mark.id = self.names.ours.get(mark.id)
                 if mark.id not in self.map.nodes or self.map.nodes[mark.id].name != mark.name:
-                    raise Broken("The engine shows another formula than the one that was edited")
+                    raise Broken("The engine shows another formula than the one that was edited.")
         self.count.microseconds, self.count.elements = answer.microseconds, len(self.map.nodes)
         return Page(marks)
 

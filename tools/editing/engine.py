@@ -65,7 +65,7 @@ class Engine:
         answer = Answer([self.line() for _ in edits])
         first = self.line()
         if first != "shown":
-            raise Broken(f"the engine wrote `{first[:80]}` where it was to show the formula")
+            raise Broken(f"The engine wrote `{first[:80]}` where it was to show the formula.")
         while (line := self.line()) != ENDED:
             answer.shown.append(line)
         answer.microseconds = (time.perf_counter_ns() - began) // 1000
@@ -85,7 +85,7 @@ class Engine:
         while b"\n" not in self.held:
             ready, _, _ = select.select([self.child.stdout], [], [], SILENCE)
             if not ready:
-                raise Broken(f"the engine was silent for {SILENCE} seconds")
+                raise Broken(f"The engine was silent for {SILENCE} seconds.")
             piece = os.read(self.child.stdout.fileno(), PIECE)
             if not piece:
                 raise Broken(self.ending())
@@ -98,13 +98,14 @@ class Engine:
         try:
             status = self.child.wait(timeout=5)
         except subprocess.TimeoutExpired:
-            return "the engine has closed its output"
+            return "The engine has closed its output."
         if status == 0:
-            return "the engine's pipe was closed"
+            return "The engine's pipe was closed, and it ended."
         written = self.held.decode("utf-8", "replace")
         if written.startswith("usage:") and " history " not in written:
-            return "the program has no command `history`: it is an older one"
-        return refusals.ending(status, written, "", Inputs(self.metrics, self.tree, None, "the formula"))
+            return "The program has no command `history`: it is an older one."
+        told = refusals.ending(status, written, "", Inputs(self.metrics, self.tree, None, "the formula"))
+        return f"The engine ended: {told}."
 
     def close(self):
         """Ends the process."""

@@ -15,6 +15,7 @@ from editing.engine import Broken
 from editing.keys import Editor
 from editing.shapes import is_gap, with_rows, without_gaps
 from second.tree_print import print_tree, value_of
+from second.tree_reading import TreeFault, tree_of
 
 # Pages whose formulas are kept, and engines that run at a time.
 MOST_PAGES, MOST_ENGINES = 64, 8
@@ -57,10 +58,12 @@ class Pages:
 
 
 class FormulaPage:
-    """A page: the editor of its formula, how many events it has done, and which outlines it was given."""
+    """A page: the editor of its formula, how many events it has done, which outlines it was given, and how many microseconds the
+    engine took for each of the last events."""
 
     def __init__(self, studio, value, start, counter):
         self.studio, self.lock, self.number, self.given = studio, threading.Lock(), 0, set()
+        self.took = []
         self.document = Document(start, value, counter)
         self.editor = Editor(self.document)
 
@@ -74,11 +77,12 @@ class FormulaPage:
         """Does events, the first of which has a number. Those that were done before aren't done again, and none is done where
         one is missing before them."""
         with self.lock:
-            told = []
+            told, self.took = [], []
             if number <= self.number + 1:
                 for event in events[self.number + 1 - number:]:
                     self.number += 1
                     told.append(self.done(event))
+                    self.took.append(self.document.count.microseconds)
             return self.state(" ".join(dict.fromkeys(filter(None, told))))
 
     def done(self, event):
@@ -91,7 +95,7 @@ class FormulaPage:
         except Refusal as refusal:
             told = str(refusal)
         except (Broken, Fault) as fault:
-            told = f"{fault}. The formula is kept, and the next key tries again."
+            told = f"{str(fault).rstrip('.')}. The formula is kept, and the next key tries again."
         return " ".join(filter(None, [self.document.told, told]))
 
     def state(self, told):
@@ -108,7 +112,7 @@ class FormulaPage:
             "boxes": [[box.id, box.x, box.y - box.ascent, box.width, box.ascent + box.descent] for box in page.boxes.values()],
             "caret": page.caret(map, editor.caret), "areas": page.areas(map, span),
             "gaps": [[box.x, box.y - box.ascent, box.width, box.ascent + box.descent] for box in self.gap_boxes()],
-            "tree": tree_lines(map, chosen, editor.caret.node), "count": vars(document.count),
+            "tree": tree_lines(map, chosen, editor.caret.node), "count": vars(document.count), "took": self.took,
             "name": None if editor.name is None else {"text": editor.name, "names": symbols.beginning(editor.name)},
             "undo": len(document.past), "redo": len(document.future),
             "formula": speech.formula(map.root), "place": speech.place(map, editor.caret, span),
@@ -175,11 +179,11 @@ def pasted(text):
     """The elements of a formula in MathML, or of a tree; raises Refusal."""
     try:
         if text.startswith("{"):
-            root = json.loads(text)
+            root = value_of(tree_of(json.loads(text)).root)
         else:
             root = made_tree(mathml3.modern(read_formulas("the pasted text", text.encode())[0], mathml3.Told())).root
         return with_rows(root).get("children", [])
     except Fault as fault:
         raise Refusal(f"{command.one_line(fault)}. The formula is as it was.") from None
-    except (ValueError, RecursionError, AttributeError):
-        raise Refusal("The pasted text is no tree. The formula is as it was.") from None
+    except (ValueError, RecursionError, TreeFault):
+        raise Refusal("The pasted text begins as a tree and is none. The formula is as it was.") from None

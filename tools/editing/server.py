@@ -15,6 +15,8 @@ FILES = {"": ("editor.html", "text/html"), "editor.css": ("editor.css", "text/cs
 HOST = "127.0.0.1"
 # Bytes of a request, events of one, and letters of a page's name.
 MOST_BYTES, MOST_EVENTS, LONGEST_NAME = 4_194_304, 1_000, 64
+# Bytes that are read and passed over of a request that is too long.
+MOST_PASSED = 67_108_864
 # Lengths of keys and places of points that are taken.
 LONGEST_KEY, FARTHEST = 16, 2 ** 31
 SAFE = {
@@ -112,7 +114,8 @@ class Handler(BaseHTTPRequestHandler):
         length = self.headers.get("Content-Length", "")
         if not length.isascii() or not length.isdigit():
             raise Wrong(HTTPStatus.LENGTH_REQUIRED, "a call has a length")
-        if int(length) > MOST_BYTES:
+        if int(length[:12]) > MOST_BYTES:
+            self.pass_over(int(length[:12]))
             raise Wrong(HTTPStatus.REQUEST_ENTITY_TOO_LARGE, f"That is too long: a call may have {MOST_BYTES:,} bytes")
         try:
             value = json.loads(self.rfile.read(int(length)))
@@ -121,6 +124,12 @@ class Handler(BaseHTTPRequestHandler):
         if not isinstance(value, dict) or not is_name(value.get("page")):
             raise Wrong(HTTPStatus.BAD_REQUEST, "a call is a JSON object with the name of a page")
         return value
+
+    def pass_over(self, length):
+        """Reads what is too long, so that the page hears of it, and keeps nothing."""
+        left = min(length, MOST_PASSED)
+        while left > 0 and (piece := self.rfile.read(min(left, 65_536))):
+            left -= len(piece)
 
     def log_message(self, *_words):
         """Nothing is told of requests."""

@@ -5,6 +5,7 @@ const at = id => document.getElementById('page-' + id);
 const PX = 3 / 1024;  // px of the screen for a unit
 const KEYS = new Set(['ArrowLeft', 'ArrowRight', 'ArrowUp', 'ArrowDown', 'Home', 'End', 'Backspace', 'Delete', 'Enter', 'Tab', 'Escape']);
 const CONTROLS = {z: 'Undo', y: 'Redo', a: 'All', Home: 'Start', End: 'Finish'};
+const LONGEST = 1000000;  // characters of what is pasted
 const RETRY = 500;  // ms until a request that failed is sent again
 
 const own = {name: '', done: 0, waiting: [], busy: false, gaps: 0, leaving: false, times: [], engine: [], told: []};
@@ -55,7 +56,7 @@ async function send() {
       show(state);
       const now = performance.now();
       for (const one of sent) own.times.push(now - one.began);
-      own.engine.push(state.count.microseconds);
+      own.engine.push(...state.took);
       at('milliseconds').textContent = Math.round(now - sent[sent.length - 1].began);
     } catch (fault) {
       if (fault.final) {
@@ -263,7 +264,9 @@ addEventListener('load', async () => {
   at('keys').addEventListener('compositionend', typed);
   at('keys').addEventListener('paste', event => {
     event.preventDefault();
-    put({paste: event.clipboardData.getData('text/plain')});
+    const text = event.clipboardData.getData('text/plain');
+    if (text.length > LONGEST) tell('That is too long to paste. The formula is as it was.');
+    else put({paste: text});
   });
   at('paper').addEventListener('pointerdown', point);
   at('paper').addEventListener('pointermove', drag);
