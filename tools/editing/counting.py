@@ -19,12 +19,14 @@ class Counter:
     def __call__(self, trees):
         """How many layouts are made on the way from the first tree to the last one, which is shown; none where they aren't
         counted."""
+        if not trees:
+            return 0
         if any(tree.root.count > MOST_ELEMENTS or spans(tree.root) for tree in trees):
             self.tree = None
             return None
         try:
             kept = self.kept if self.tree is trees[0].root else needed(self.metrics, trees[0])
-            made = 0
+            made, layouts = 0, kept
             for before, after in zip(trees, trees[1:]):
                 old = {id(node) for node in nodes(before.root)}
                 calm = {node.id for node in nodes(after.root) if id(node) in old}
@@ -32,7 +34,7 @@ class Counter:
                 stay = {pair for pair in kept if pair[0] in calm}
                 made += len(layouts - stay)
                 kept = stay | layouts
-            self.tree, self.kept = trees[-1].root, needed(self.metrics, trees[-1])
+            self.tree, self.kept = trees[-1].root, layouts
         except OutOfRange:
             self.tree = None
             return None

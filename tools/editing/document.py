@@ -35,11 +35,12 @@ class Step:
 
 @dataclass
 class Count:
-    """What the last key took: microseconds of the engine, layouts, or none where they weren't counted, and elements."""
+    """What the last key took: microseconds of the engine, how many elements there are, and the trees on the way, by which the
+    layouts are counted that it made."""
 
-    microseconds: int = 0
-    layouts: int | None = 0
-    elements: int = 1
+    microseconds: int
+    elements: int
+    trees: list = field(default_factory=list)
 
 
 @dataclass
@@ -67,13 +68,12 @@ class Names:
 
 
 class Document:
-    """A formula and its engine. `start` makes an engine of the text of a tree; `counter` counts layouts, or is none."""
+    """A formula and its engine. `start` makes an engine of the text of a tree."""
 
-    def __init__(self, start, value, counter=None):
-        self.start, self.counter, self.engine = start, counter, None
+    def __init__(self, start, value):
+        self.start, self.engine = start, None
         self.tree = tree_of(value)
-        self.past, self.future = [], []
-        self.told, self.count = "", Count()
+        self.past, self.future, self.told = [], [], ""
         self.map = Map(self.tree.root)
         self.caret = self.map.stops[-1]
         self.page = self.shown(self.asked([]))
@@ -139,7 +139,11 @@ class Document:
         self.map = Map(self.tree.root)
         self.caret = self.map.settled(caret)
         self.page = self.shown(answer)
-        self.count = Count(answer.microseconds, self.counter(trees) if self.counter else None, len(self.map.nodes))
+        self.count.trees = trees
+
+    def rest(self):
+        """Nothing is asked of the engine, until something is."""
+        self.told, self.count = "", Count(0, len(self.map.nodes))
 
     # The engine
 
@@ -195,7 +199,7 @@ class Document:
                 mark.id = self.names.ours.get(mark.id)
                 if mark.id not in self.map.nodes or self.map.nodes[mark.id].name != mark.name:
                     raise Broken("The engine shows another formula than the one that was edited.")
-        self.count.microseconds, self.count.elements = answer.microseconds, len(self.map.nodes)
+        self.count = Count(answer.microseconds, len(self.map.nodes))
         return Page(marks)
 
 

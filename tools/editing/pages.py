@@ -10,7 +10,7 @@ from companion.mathml import read_formulas
 from companion.program import Inputs, run
 from companion.trees import json_text, made_tree
 from editing import picture, speech, symbols
-from editing.document import Count, Document, Refusal
+from editing.document import Document, Refusal
 from editing.engine import Broken
 from editing.keys import Editor
 from editing.shapes import is_gap, with_rows, without_gaps
@@ -64,7 +64,7 @@ class FormulaPage:
     def __init__(self, studio, value, start, counter):
         self.studio, self.lock, self.number, self.given = studio, threading.Lock(), 0, set()
         self.took = []
-        self.document = Document(start, value, counter)
+        self.document, self.counter = Document(start, value), counter
         self.editor = Editor(self.document)
 
     def open(self):
@@ -87,8 +87,8 @@ class FormulaPage:
 
     def done(self, event):
         """Does an event, and tells what is to be told of it."""
-        told, self.document.told = "", ""
-        self.document.count = Count(0, 0, len(self.document.map.nodes))
+        told = ""
+        self.document.rest()
         try:
             for each in keys_of(event):
                 self.editor.do(each)
@@ -112,11 +112,18 @@ class FormulaPage:
             "boxes": [[box.id, box.x, box.y - box.ascent, box.width, box.ascent + box.descent] for box in page.boxes.values()],
             "caret": page.caret(map, editor.caret), "areas": page.areas(map, span),
             "gaps": [[box.x, box.y - box.ascent, box.width, box.ascent + box.descent] for box in self.gap_boxes()],
-            "tree": tree_lines(map, chosen, editor.caret.node), "count": vars(document.count), "took": self.took,
+            "tree": tree_lines(map, chosen, editor.caret.node), "microseconds": document.count.microseconds,
+            "elements": document.count.elements, "took": self.took,
             "name": None if editor.name is None else {"text": editor.name, "names": symbols.beginning(editor.name)},
             "undo": len(document.past), "redo": len(document.future),
             "formula": speech.formula(map.root), "place": speech.place(map, editor.caret, span),
         }
+
+    def layouts(self):
+        """How many layouts the last event made, or none where they aren't counted. That takes longer than the engine does, so it
+        is asked for when no key waits."""
+        with self.lock:
+            return {"number": self.number, "layouts": self.counter(self.document.count.trees)}
 
     def gap_boxes(self):
         """The boxes of gaps."""

@@ -4,6 +4,7 @@ No path of a file is taken from a request. What there is to be had stands in one
 
 import json
 import secrets
+import traceback
 from http import HTTPStatus
 from http.server import BaseHTTPRequestHandler, ThreadingHTTPServer
 from pathlib import Path
@@ -75,7 +76,10 @@ class Handler(BaseHTTPRequestHandler):
             status, (data, kind) = wrong.status, as_json({"error": str(wrong)})
             self.close_connection = True
         except Fault as fault:
-            status, (data, kind) = HTTPStatus.OK, as_json({"error": f"{one_line(fault)} The formula is kept."})
+            status, (data, kind) = HTTPStatus.OK, as_json({"error": f"{one_line(fault)}. The formula is kept."})
+        except Exception as fault:
+            status, (data, kind) = HTTPStatus.INTERNAL_SERVER_ERROR, as_json({"error": f"The editor has a fault ({one_line(repr(fault))})."})
+            traceback.print_exc()
         self.send_response(status)
         for name, value in SAFE.items():
             self.send_header(name, value)
@@ -160,7 +164,11 @@ def copy_formula(pages, value):
     return {"text": pages.page(value["page"]).copy(value["what"])}
 
 
-CALLS = {"open": open_page, "do": do_events, "copy": copy_formula}
+def count_layouts(pages, value):
+    return pages.page(value["page"]).layouts()
+
+
+CALLS = {"open": open_page, "do": do_events, "copy": copy_formula, "count": count_layouts}
 
 
 def is_event(event):

@@ -1,6 +1,4 @@
 // The page of the editor: sends keys in their order, and shows what the server answers. What a key does, the server decides.
-'use strict';
-
 const at = id => document.getElementById('page-' + id);
 const PX = 3 / 1024;  // px of the screen for a unit
 const KEYS = new Set(['ArrowLeft', 'ArrowRight', 'ArrowUp', 'ArrowDown', 'Home', 'End', 'Backspace', 'Delete', 'Enter', 'Tab', 'Escape']);
@@ -70,6 +68,17 @@ async function send() {
     }
   }
   own.busy = false;
+  count();
+}
+
+// How many layouts the last key made is counted when no key waits.
+async function count() {
+  try {
+    const {number, layouts} = await call('count', {});
+    if (number === own.done) at('layouts').textContent = layouts ?? 'not counted';
+  } catch {
+    at('layouts').textContent = 'not counted';
+  }
 }
 
 function tell(text) {
@@ -104,9 +113,9 @@ function show(state) {
   at('place').textContent = state.place;
   at('undo').disabled = !state.undo;
   at('redo').disabled = !state.redo;
-  at('microseconds').textContent = state.count.microseconds;
-  at('layouts').textContent = state.count.layouts ?? 'not counted';
-  at('elements').textContent = state.count.elements;
+  at('microseconds').textContent = state.microseconds;
+  at('layouts').textContent = '…';
+  at('elements').textContent = state.elements;
 }
 
 function showCaret(place) {

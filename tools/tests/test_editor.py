@@ -178,10 +178,12 @@ class Editing(unittest.TestCase):
                     self.assertTrue(gaps == 0 if len(node.children) > 1 else node.children, (seed, number, event))
 
     def test_layouts_are_counted(self):
-        _, state = typed(" ab")
-        self.assertEqual(state["count"], {"microseconds": 0, "layouts": 2, "elements": 3})
-        _, state = typed(" ab", "ArrowLeft")
-        self.assertEqual(state["count"]["layouts"], 0)
+        page, state = typed(" ab")
+        self.assertEqual((page.layouts(), state["elements"]), ({"number": 2, "layouts": 2}, 3))
+        page, _ = typed("ArrowLeft", page=page)
+        self.assertEqual(page.layouts(), {"number": 3, "layouts": 0})
+        page, _ = typed("Undo", page=page)
+        self.assertEqual(page.layouts(), {"number": 4, "layouts": 1})
 
     def test_formulas_that_are_given_get_rows(self):
         value = {"name": "math", "children": [{"name": "mfrac", "children": [{"name": "mi", "text": "x"}, {"name": "mn", "text": "2"}]},
@@ -358,8 +360,8 @@ class WithProgram(unittest.TestCase):
         for number, event in enumerate(random_events(1, 1000, page), 1):
             state = page.do(number, [event])
             self.assertEqual(state["number"], number)
-            if state["count"]["microseconds"]:
-                engine.append(state["count"]["microseconds"])
+            if state["microseconds"]:
+                engine.append(state["microseconds"])
             if number % 100 == 0:
                 self.assert_fresh(page, state)
         self.assert_fresh(page, state)
@@ -592,9 +594,9 @@ class InBrowser(unittest.TestCase):
 
     def test_two_pages_do_not_disturb_each_other(self):
         self.press(" ab")
-        first, name = self.browser.windows()[0], self.name
+        (first,), name = self.browser.windows(), self.name
         self.browser.run("window.open(location.href)")
-        self.browser.use(self.browser.windows()[-1])
+        self.browser.use(next(window for window in self.browser.windows() if window != first))
         self.browser.wait("return window.mathlay && mathlay.ready")
         self.name = self.browser.run("return mathlay.name")
         self.assertNotEqual(self.name, name)
