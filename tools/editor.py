@@ -18,10 +18,12 @@ import tempfile
 from companion import command, drawing
 from companion.command import Fault
 from editing.counting import Counter, metrics_of
-from editing.engine import Engine
+from editing.engine import Broken, Engine, lacking
 from editing.pages import Pages
 from editing.server import Server
 from editing.shapes import with_rows
+from second.tree_print import value_of
+from second.tree_reading import TreeFault, tree_of
 
 EMPTY = {"attributes": {"display": "block"}, "name": "math"}
 
@@ -54,11 +56,18 @@ def work(words):
 def server_of(words):
     """The server of pages; raises a Fault where the formula can't be laid out."""
     studio = drawing.studio_of("editor", words)
+    if missing := lacking(studio.program, ("history", "paint")):
+        raise Fault(f"{studio.program[0]}: has no command `{missing}`, which the editor needs: build it by `rt run` in crates/mathlay")
     value = formula_of(words)
     metrics = metrics_of(studio.metrics)
     pages = Pages(studio, value, lambda tree: Engine(studio.program, studio.metrics, tree), lambda: Counter(metrics))
-    pages.page("first").document.sleep()
-    pages.pages.clear()
+    try:
+        pages.page("first").document.sleep()
+        pages.pages.clear()
+    except Broken as fault:
+        raise Fault(str(fault)) from None
+    except TreeFault as fault:
+        raise Fault(f"{words.formula}: with a row in each place it has too many levels or elements (tree {fault.element} {fault.kind})") from None
     try:
         return Server(pages, words.port)
     except (OSError, OverflowError) as fault:
@@ -70,9 +79,10 @@ def formula_of(words):
     if words.formula is None:
         return with_rows(EMPTY)
     formula = drawing.formulas_of("editor", words.formula, words)[0]
-    if not isinstance(formula.root, dict):
-        raise Fault(f"{words.formula}: isn't a tree")
-    return with_rows(formula.root)
+    try:
+        return with_rows(value_of(tree_of(formula.root).root))
+    except TreeFault as fault:
+        raise Fault(f"{words.formula}: tree {fault.element} {fault.kind}: explain.py says what that means") from None
 
 
 if __name__ == "__main__":

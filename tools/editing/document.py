@@ -97,7 +97,10 @@ class Document:
         self.become(trees, caret, answer)
 
     def trees_of(self, edits):
-        """The trees before each edit and behind the last, and why the first refused one is; raises Refusal at a long line."""
+        """The trees before each edit and behind the last, and why the first refused one is; raises Refusal where edits are too
+        many, or one is too long."""
+        if len(edits) > AT_ONCE:
+            raise Refusal(f"That is too much at once: a key makes {AT_ONCE} edits at most. The formula is as it was.")
         trees, why = [self.tree], None
         for edit in edits:
             if len(json_text(edit).encode()) > LONGEST_LINE - 64:
@@ -226,6 +229,8 @@ def command_of(edit):
 def in_words(reply):
     """A sentence for a refused edit."""
     row = formats.reply(reply)
+    if reply == "refused line":
+        return "That isn't done: what was to be put in has more than 60 levels, or more than a tree may have. The formula is as it was."
     if row is None:
         return f"The engine refused that (`{reply}`). The formula is as it was."
     return f"That isn't done: {row['when']}. Right would be {row['what would be right']}. The formula is as it was."

@@ -9,7 +9,7 @@ from dataclasses import dataclass, field
 
 from companion import command, refusals
 from companion.command import Fault
-from companion.program import Inputs
+from companion.program import Inputs, ended
 from companion.trees import json_text
 
 # How many edits can be undone.
@@ -22,6 +22,12 @@ SILENCE = 60
 END, ENDED = '{"op":"end"}', "refused line"
 SHOW, UNDO, REDO = {"op": "show"}, {"op": "undo"}, {"op": "redo"}
 PIECE = 65_536
+
+
+def lacking(program, commands):
+    """The first of some commands that a program's usage line doesn't name, or none; raises a Fault."""
+    usage = ended(program, "the program").stdout.decode("utf-8", "replace")
+    return next((word for word in commands if f" {word} " not in usage), None)
 
 
 class Broken(Exception):
@@ -101,10 +107,7 @@ class Engine:
             return "The engine has closed its output."
         if status == 0:
             return "The engine's pipe was closed, and it ended."
-        written = self.held.decode("utf-8", "replace")
-        if written.startswith("usage:") and " history " not in written:
-            return "The program has no command `history`: it is an older one."
-        told = refusals.ending(status, written, "", Inputs(self.metrics, self.tree, None, "the formula"))
+        told = refusals.ending(status, self.held.decode("utf-8", "replace"), "", Inputs(self.metrics, self.tree, None, "the formula"))
         return f"The engine ended: {told}."
 
     def close(self):

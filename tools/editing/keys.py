@@ -87,12 +87,16 @@ class Editor:
         for parent, child in zip(path[-2::-1], path[:0:-1]):
             target = beside(self.map, parent, child, by)
             if target is not None:
-                inside = [stop for stop in self.map.stops if target in self.map.path(stop.node)]
-                if inside:
-                    x = here[0] if here else 0
-                    page = self.document.page
-                    self.go(min(inside, key=lambda stop: abs((page.caret(self.map, stop) or (0,))[0] - x)), extend)
-                    return
+                inside = [stop for stop in self.map.stops if target in self.map.path(stop.node)] or [self.behind(parent)]
+                x, page = here[0] if here else 0, self.document.page
+                return self.go(min(inside, key=lambda stop: abs((page.caret(self.map, stop) or (0,))[0] - x)), extend)
+        return None
+
+    def behind(self, node):
+        """The stop behind an element, in the row that holds it."""
+        path = self.map.path(node.id)
+        place = next(place for place in range(len(path) - 2, -1, -1) if is_row(path[place]))
+        return self.map.settled(Caret(path[place].id, self.map.index(path[place + 1].id) + 1))
 
     def next_gap(self, by, _extend=False):
         """To the next gap, from the last one to the first one."""
@@ -123,11 +127,9 @@ class Editor:
 
     def leave(self):
         """Out of the row to the right, past what holds it."""
-        path = self.map.path(self.caret.node)
-        for parent, child in zip(path[-2::-1], path[:0:-1]):
-            if is_row(parent):
-                self.go(self.map.settled(Caret(parent.id, self.map.index(child.id) + 1)))
-                return
+        node = self.map.nodes[self.caret.node]
+        if self.map.parents[node.id] is not None:
+            self.go(self.behind(node))
 
     # Changes
 

@@ -14,6 +14,7 @@ from editing.document import Document, Refusal
 from editing.engine import Broken
 from editing.keys import Editor
 from editing.shapes import is_gap, with_rows, without_gaps
+from second.tree import Node
 from second.tree_print import print_tree, value_of
 from second.tree_reading import TreeFault, tree_of
 
@@ -49,7 +50,7 @@ class Pages:
                 page.document.sleep()
                 page.lock.release()
         while len(self.pages) > MOST_PAGES:
-            self.pages.pop(next(iter(self.pages)))
+            self.pages.pop(next(iter(self.pages))).document.sleep()
 
     def close(self):
         """Ends all engines."""
@@ -115,9 +116,14 @@ class FormulaPage:
             "tree": tree_lines(map, chosen, editor.caret.node), "microseconds": document.count.microseconds,
             "elements": document.count.elements, "took": self.took,
             "name": None if editor.name is None else {"text": editor.name, "names": symbols.beginning(editor.name)},
-            "undo": len(document.past), "redo": len(document.future),
+            "undo": len(document.past), "redo": len(document.future), "chosen": self.chosen(),
             "formula": speech.formula(map.root), "place": speech.place(map, editor.caret, span),
         }
+
+    def chosen(self):
+        """The MathML of what is selected, to be copied."""
+        parts = chosen_of(self.document.map, self.editor.span)
+        return picture.mathml(Node(0, "math", {}, "", tuple(parts))) if parts else ""
 
     def layouts(self):
         """How many layouts the last event made, or none where they aren't counted. That takes longer than the engine does, so it

@@ -5,7 +5,10 @@ from dataclasses import dataclass
 from companion.marks import Box, Glyph
 from editing.shapes import HIDDEN, TOKENS, is_gap, is_row
 
+# Tokens between whose characters a caret can stand.
 MANY_STOPS = {"mn", "mtext", "ms"}
+# How high a caret is at least, in units.
+LEAST_RISE = 12_288
 
 
 @dataclass(frozen=True)
@@ -176,7 +179,8 @@ class Page:
     def rise(self, box):
         """From where to how far below a caret reaches in a box, which may have no height."""
         height = box.ascent + box.descent
-        return (box.y - box.ascent, height) if height > 4096 else (box.y - 12_288, 16_384)
+        more = max(LEAST_RISE - height, 0) // 2
+        return box.y - box.ascent - more, height + 2 * more
 
     def hit(self, x, y):
         """The id of the last deepest box that holds a point, or none. What is inside an element comes behind it, so the last

@@ -143,8 +143,13 @@ def as_json(value):
     return json.dumps(value, ensure_ascii=False, separators=(",", ":")).encode("utf-8", "replace"), "application/json"
 
 
+def is_text(value):
+    """Whether a value is a text without halves of surrogate pairs."""
+    return isinstance(value, str) and not any("\ud800" <= letter <= "\udfff" for letter in value)
+
+
 def is_name(value):
-    return isinstance(value, str) and 0 < len(value) <= LONGEST_NAME
+    return is_text(value) and 0 < len(value) <= LONGEST_NAME
 
 
 def open_page(pages, value):
@@ -177,12 +182,12 @@ def is_event(event):
         return False
     match sorted(set(event) - {"extend"}):
         case ["key"]:
-            return isinstance(event["key"], str) and 0 < len(event["key"]) <= LONGEST_KEY
+            return is_text(event["key"]) and 0 < len(event["key"]) <= LONGEST_KEY
         case ["point"]:
             point = event["point"]
             return isinstance(point, list) and len(point) == 2 and all(type(at) is int and abs(at) < FARTHEST for at in point)
         case ["choose"]:
             return type(event["choose"]) is int
         case ["paste"]:
-            return isinstance(event["paste"], str)
+            return is_text(event["paste"])
     return False

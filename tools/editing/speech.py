@@ -47,7 +47,7 @@ def place(map, caret, span):
         return f"in {node.text}, behind {node.text[:caret.offset]}"
     where = inside(map, node)
     if map.is_gap(caret):
-        return f"in {where}, which is a gap"
+        return f"in {where}, which is empty"
     if caret.offset:
         return f"in {where}, behind {said(node.children[caret.offset - 1])}"
     return f"at the start of {where}"

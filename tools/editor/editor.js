@@ -4,6 +4,7 @@ const PX = 3 / 1024;  // px of the screen for a unit
 const KEYS = new Set(['ArrowLeft', 'ArrowRight', 'ArrowUp', 'ArrowDown', 'Home', 'End', 'Backspace', 'Delete', 'Enter', 'Tab', 'Escape']);
 const CONTROLS = {z: 'Undo', y: 'Redo', a: 'All', Home: 'Start', End: 'Finish'};
 const LONGEST = 1000000;  // characters of what is pasted
+const DEEP = 10;  // levels of the tree that are indented; deeper ones have a number
 const RETRY = 500;  // ms until a request that failed is sent again
 
 const own = {name: '', done: 0, waiting: [], busy: false, gaps: 0, leaving: false, times: [], engine: [], told: []};
@@ -48,6 +49,7 @@ async function send() {
   own.busy = true;
   while (own.waiting.length) {
     const sent = own.waiting.slice(0, 100);
+    for (const one of sent) one.sent = true;
     try {
       const state = await call('do', {number: own.done + 1, events: sent.map(one => one.event)});
       own.waiting.splice(0, sent.length);
@@ -111,6 +113,7 @@ function show(state) {
   tell(state.told);
   at('words').textContent = state.formula;
   at('place').textContent = state.place;
+  own.chosen = state.chosen;
   at('undo').disabled = !state.undo;
   at('redo').disabled = !state.redo;
   at('microseconds').textContent = state.microseconds;
@@ -152,7 +155,7 @@ function showTree(lines) {
     line.classList.toggle('here', here);
     line.tabIndex = -1;
     line.dataset.id = id;
-    line.textContent = '  '.repeat(level - 1) + text;
+    line.textContent = (level > DEEP ? `${'  '.repeat(DEEP)}${level}: ` : '  '.repeat(level - 1)) + text;
     return line;
   }));
   const line = tree.querySelector(`[data-id="${focused}"]`);
@@ -214,7 +217,18 @@ function point(event) {
 }
 
 function drag(event) {
-  if (event.buttons & 1 && at('paper').hasPointerCapture(event.pointerId)) put({point: pointOf(event), extend: true});
+  if (!(event.buttons & 1 && at('paper').hasPointerCapture(event.pointerId))) return;
+  const last = own.waiting[own.waiting.length - 1], moved = {point: pointOf(event), extend: true};
+  if (last && !last.sent && last.event.point && last.event.extend) last.event = moved;
+  else put(moved);
+}
+
+// What is selected, to the clipboard
+function take(event) {
+  event.preventDefault();
+  if (!own.chosen) return;
+  event.clipboardData.setData('text/plain', own.chosen);
+  if (event.type === 'cut') put({key: 'Delete'});
 }
 
 // The tree
@@ -264,6 +278,7 @@ async function copy(what) {
   }
 }
 
+addEventListener('beforeunload', event => own.waiting.length && event.preventDefault());
 addEventListener('load', async () => {
   const [name, like] = await nameOf();
   own.name = name;
@@ -277,6 +292,7 @@ addEventListener('load', async () => {
     if (text.length > LONGEST) tell('That is too long to paste. The formula is as it was.');
     else put({paste: text});
   });
+  for (const kind of ['copy', 'cut']) at('keys').addEventListener(kind, take);
   at('paper').addEventListener('pointerdown', point);
   at('paper').addEventListener('pointermove', drag);
   at('tree').addEventListener('keydown', climb);

@@ -4,16 +4,19 @@ import json
 import os
 import random
 import subprocess
+import tempfile
 from functools import cache
 
-from companion import drawing
+from companion import command, drawing
+from companion.fonts import NO_FONT_TOOLS, TTFont
+from companion.marks import Box, read_marks
 from companion.metrics import read_drawn
 from companion.program import BUILT
-from companion.fonts import TTFont, NO_FONT_TOOLS
 from editing.counting import Counter
-from editing.engine import Answer
+from editing.engine import Answer, lacking
 from editing.pages import FormulaPage
-from editing.shapes import with_rows
+from editing.picture import PREFIX
+from editing.shapes import is_gap, is_row, with_rows
 from second.edits import Refused, edited
 from second.layout import OutOfRange, lay_tree
 from second.metrics_reading import read_metrics
@@ -27,6 +30,9 @@ METRICS = TOP / "samples" / "latin-modern-math.metrics"
 # A program that the tests take in place of the built one.
 PROGRAM = os.environ.get("MATHLAY", str(BUILT))
 EMPTY = with_rows({"attributes": {"display": "block"}, "name": "math"})
+QUADRATIC = [" x=/-b\\pm \\sqrt b^2 -4ac", "Tab", " 2a"]
+KEYS_OF_QUADRATIC = 26
+SAID = "x equals fraction minus b plus or minus square root b to the 2 minus 4 a c end of square root over 2 a end of fraction"
 NAMES = ("sqrt frac sum root matrix pmatrix row column delrow delcolumn wider taller narrower shorter hat lim alpha int over cases sin "
          "nosuch").split()
 KEYS = [*"abcxyz0123456789+-=()/^_ &,.\\'|<", "ArrowLeft", "ArrowRight", "ArrowUp", "ArrowDown", "Home", "End", "Backspace", "Delete", "Tab",
@@ -44,10 +50,8 @@ def lacks(*commands):
     """Why the program can't be tried, or none."""
     if not os.access(PROGRAM, os.X_OK):
         return "no program: `rt ci` builds crates/mathlay/out/mathlay"
-    usage = subprocess.run([PROGRAM], capture_output=True, text=True, timeout=60).stdout
-    missing = [word for word in commands if f" {word} " not in usage]
-    if missing:
-        return f"the program has no command `{missing[0]}` yet"
+    if missing := lacking([PROGRAM], commands):
+        return f"the program has no command `{missing}` yet"
     if not TTFont:
         return NO_FONT_TOOLS
     return None if drawing.usual_fonts() else "no Latin Modern Math: Debian's fonts-lmodern has it"
@@ -128,3 +132,61 @@ def random_events(seed, count, page=None):
             key = chance.choice(KEYS)
             events.append({"key": key, "extend": len(key) > 1 and key not in ("Escape", "Enter", "Backspace", "Delete") and chance.random() < 0.2})
     return events[:count]
+
+
+def told(page):
+    """A formula in short words, with a bar at the caret."""
+    caret = page.document.caret
+
+    def words(node):
+        if is_row(node):
+            parts = [each(child) for child in node.children]
+            if node.id == caret.node:
+                parts.insert(caret.offset, "|")
+            return " ".join(parts)
+        return each(node)
+
+    def each(node):
+        if is_gap(node):
+            return "gap"
+        if node.text:
+            return f"{node.text} [{caret.offset}]" if node.id == caret.node else node.text
+        inner = words(node) if is_row(node) else ", ".join(map(cell, node.children))
+        return f"{node.name}({inner})"
+
+    def cell(node):
+        spans = "".join(f"{name}{node.attributes[name]}" for name in ("columnspan", "rowspan") if name in node.attributes)
+        return f"{spans}({words(node)})" if spans else words(node)
+
+    return words(page.document.tree.root)
+
+
+def studio():
+    """The studio with which the program's formulas are drawn."""
+    words = command.parser_of("editor", "")
+    drawing.add_fonts(words)
+    given = words.parse_args(["--program", PROGRAM])
+    drawing.settle_fonts("editor", given, "")
+    return drawing.studio_of("editor", given)
+
+
+def written(verb, tree, *words):
+    """What the program writes of a tree, as text."""
+    with tempfile.NamedTemporaryFile("w", suffix=".json") as file:
+        file.write(tree)
+        file.flush()
+        done = subprocess.run([PROGRAM, verb, str(METRICS), file.name, *map(str, words)], capture_output=True, text=True, timeout=120)
+    if done.returncode:
+        raise AssertionError(f"{verb}: {done.returncode} {done.stdout}")
+    return done.stdout
+
+
+def painted(tree):
+    """The lines of glyphs and rules that the program paints, with the names that the page has for outlines."""
+    return [line.replace('href="#', f'href="#{PREFIX}') for line in written("paint", tree).splitlines()[1:-1]]
+
+
+def boxes_of(tree):
+    """The boxes that the program gives a tree laid out afresh: left, top, width and height each, in document order."""
+    marks = read_marks(written("layout", tree))
+    return [[box.x, box.y - box.ascent, box.width, box.ascent + box.descent] for box in marks if isinstance(box, Box)]
