@@ -68,10 +68,8 @@ class Engine:
         data = "".join(line + "\n" for line in lines).encode()
         began = time.perf_counter_ns()
         self.say(data, len(lines))
-        answer = Answer([self.line() for _ in edits])
-        first = self.line()
-        if first != "shown":
-            raise Broken(f"The engine wrote `{first[:80]}` where it was to show the formula.")
+        answer = Answer([self.reply() for _ in edits])
+        self.reply()
         while (line := self.line()) != ENDED:
             answer.shown.append(line)
         answer.microseconds = (time.perf_counter_ns() - began) // 1000
@@ -86,6 +84,13 @@ class Engine:
         except (OSError, ValueError):
             raise Broken(self.ending()) from None
 
+    def reply(self):
+        """The next reply of one line; raises Broken where the engine wrote something else, as it does when it ends."""
+        line = self.line()
+        if line not in ("ok", "shown") and not line.startswith("refused "):
+            raise Broken(self.ending(line))
+        return line
+
     def line(self):
         """The next line that the engine writes; raises Broken."""
         while b"\n" not in self.held:
@@ -99,15 +104,15 @@ class Engine:
         line, _, self.held = self.held.partition(b"\n")
         return line.decode("utf-8", "replace")
 
-    def ending(self):
-        """Why the engine has ended, as a sentence."""
+    def ending(self, last=""):
+        """Why the engine has ended, as a sentence; what it wrote last may tell."""
         try:
             status = self.child.wait(timeout=5)
         except subprocess.TimeoutExpired:
             return "The engine has closed its output."
         if status == 0:
             return "The engine's pipe was closed, and it ended."
-        told = refusals.ending(status, self.held.decode("utf-8", "replace"), "", Inputs(self.metrics, self.tree, None, "the formula"))
+        told = refusals.ending(status, last, "", Inputs(self.metrics, self.tree, None, "the formula"))
         return f"The engine ended: {told}."
 
     def close(self):

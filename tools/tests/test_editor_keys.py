@@ -2,10 +2,12 @@
 
 import unittest
 
+from editing import symbols
 from editing.counting import Counter
 from editing.pages import FormulaPage
 from editing.shapes import is_gap, is_row, with_rows
 from second.tree_print import print_tree
+from tests.common import TOP
 from tests.editing import KEYS_OF_QUADRATIC, QUADRATIC, SAID, NoStudio, SecondEngine, metrics, random_events, told, typed
 
 # Keys, and what then stands there: short words for the elements, a bar at the caret.
@@ -153,3 +155,8 @@ class Editing(unittest.TestCase):
         state = page.do(2, [{"paste": deep}])
         self.assertIn("levels", state["told"])
         self.assertEqual(told(page), "a |")
+
+    def test_the_document_has_each_structure(self):
+        text = (TOP / "docs" / "EDITOR.md").read_text(encoding="utf-8")
+        for name in symbols.STRUCTURES:
+            self.assertIn(f"`\\{name}`", text)

@@ -141,7 +141,7 @@ class Starting(InFolder):
             self.assert_refused(run(editor, self.file("t", '{"name":"mi"}'), "--program", PROGRAM), "tree 1 3")
             self.assert_refused(run(editor, self.file("f", "<math><mi>x</math>"), "--program", PROGRAM), "f:1:14")
             wide = '{"name":"math","attributes":{"mathsize":"2000000px"}}'
-            self.assert_refused(run(editor, self.file("w", wide), "--program", PROGRAM), "out of range")
+            self.assert_refused(run(editor, self.file("w", wide), "--program", PROGRAM), "below 1,048,576 px")
 
     @unittest.skipIf(LACK, LACK)
     def test_it_prints_its_address_and_ends_with_ctrl_c(self):
