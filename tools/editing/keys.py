@@ -2,13 +2,13 @@
 
 import unicodedata
 
-from editing import symbols, tables
+from editing import erasing, names, scripts, symbols, tables
 from editing.document import Refusal
-from editing.places import Caret, Span
+from editing.places import Caret
 from editing.plan import Plan
-from editing.shapes import CLOSING, OPENING, TOKENS, WITH_LIMITS, element, gap, is_gap, is_row, slot, token, values
+from editing.scripts import SCRIPTS
+from editing.shapes import CLOSING, OPENING, WITH_LIMITS, is_gap, is_row, slot, token, values
 
-SCRIPTS = {"_": ("msub", "munder"), "^": ("msup", "mover")}
 DIGITS = set("0123456789")
 
 
@@ -44,7 +44,7 @@ class Editor:
 
     def press(self, key, extend=False):
         """A key: one character, or the name of a key."""
-        if self.name is not None and self.press_in_name(key):
+        if self.name is not None and names.press(self, key):
             return
         if key in MOVES:
             MOVES[key](self, extend)
@@ -119,9 +119,10 @@ class Editor:
         if node is None:
             raise Refusal("That element isn't there any more.")
         parent = self.map.parents[id]
-        if parent is not None and is_row(parent) and not is_gap(node):
-            place = self.map.index(id)
-            self.anchor, self.document.caret = Caret(parent.id, place), Caret(parent.id, place + 1)
+        place = self.map.index(id) if parent is not None else 0
+        ends = [Caret(parent.id, place), Caret(parent.id, place + 1)] if parent is not None and not is_gap(node) else []
+        if ends and all(end in self.map.numbers for end in ends):
+            self.anchor, self.document.caret = ends
         else:
             self.go(self.map.settled(Caret(id if is_row(node) else (parent or node).id, 0)))
 
@@ -189,9 +190,9 @@ class Editor:
         if key == "\\":
             self.name = ""
         elif key == "/":
-            self.fraction()
+            scripts.fraction(self)
         elif key in SCRIPTS:
-            self.script(key)
+            scripts.script(self, key)
         elif key == " ":
             self.leave()
         elif key == "&":
@@ -270,118 +271,6 @@ class Editor:
             plan.remove(child.id)
         return self.make(plan, Caret(plan.id_of(inside), 0))
 
-    def fraction(self):
-        def make(items):
-            top, bottom = slot(*items), slot()
-            return element("mfrac", top, bottom), bottom if items else top
-        self.wrap(self.before(is_one=False), make)
-
-    def script(self, key):
-        """A script of what stands before the caret. Behind a base with the other script it joins that; where there is such a script
-        already, the caret goes into it."""
-        row, start, end = taken = self.before(is_one=True)
-        base = self.map.nodes[row].children[start] if row is not None and end == start + 1 else None
-        if base is not None and not self.span and base.name in JOINED and self.join(base, key):
-            return
-
-        def make(items):
-            script = slot()
-            limits = len(items) == 1 and items[0].get("text") in WITH_LIMITS
-            body = items[0] if len(items) == 1 and items[0]["name"] in TOKENS else slot(*items)
-            return element(SCRIPTS[key][limits], body, script), script if items else body
-        self.wrap(taken, make)
-
-    def join(self, base, key):
-        """A second script for a base that has one, or the caret into the one that is asked for."""
-        under, both, over = JOINED[base.name]
-        place = under if key == "_" else over
-        if place is not None:
-            row = base.children[place]
-            self.go(self.map.settled(Caret(row.id, len(row.children))))
-            return True
-        script, parts = slot(), values(base.children)
-        parts[1:] = [script, parts[1]] if key == "_" else [parts[1], script]
-        whole = element(both, *parts, **base.attributes)
-        plan = Plan(self.document.tree)
-        plan.replace(base.id, whole)
-        self.make(plan, Caret(plan.id_of(script), 0))
-        return True
-
-    def erase(self, by):
-        """What is selected; or a character or a token before the caret or behind it; what is larger is selected first. At an end
-        of a place, what holds the place gives way to what it holds."""
-        if self.span:
-            return self.erase_span(self.span)
-        node, offset = self.map.nodes[self.caret.node], self.caret.offset
-        if not is_row(node):
-            place = offset - 1 if by < 0 else offset
-            return self.cut(node, place, Caret(node.id, place))
-        place = offset - 1 if by < 0 else offset
-        if self.map.is_gap(self.caret) or not 0 <= place < len(node.children):
-            return self.dissolve(node, by)
-        child = node.children[place]
-        if child.name in ("mn", "mtext", "ms") and len(child.text) > 1:
-            at = len(child.text) - 1 if by < 0 else 0
-            return self.cut(child, at, Caret(child.id, at))
-        if child.name in TOKENS or child.name == "mspace":
-            return self.erase_span(Span(node.id, place, place + 1))
-        self.anchor, self.document.caret = Caret(node.id, offset), Caret(node.id, place + (by > 0))
-        return None
-
-    def cut(self, node, place, caret):
-        """A character less in a token."""
-        plan = Plan(self.document.tree)
-        plan.text(node.id, node.text[:place] + node.text[place + 1:])
-        self.make(plan, caret)
-
-    def erase_span(self, span):
-        """Children of a row less; a row that would be empty gets a gap."""
-        row = self.map.nodes[span.row]
-        chosen = row.children[span.start:span.end]
-        plan = Plan(self.document.tree)
-        if len(chosen) == len(row.children):
-            plan.replace(chosen[0].id, gap())
-            chosen = chosen[1:]
-        for child in chosen:
-            plan.remove(child.id)
-        self.make(plan, Caret(row.id, span.start))
-
-    def dissolve(self, row, by):
-        """At an end of a row: what holds the row gives way to its content. A cell lets the caret go on."""
-        path = self.map.path(row.id)
-        if len(path) == 1:
-            return None
-        if row.name == "mtd":
-            return tables.erase(self, row, by)
-        place = len(path) - 2
-        while not is_row(path[place]) and place > 0:
-            place -= 1
-        if row.name != "mrow" and is_row(path[-2]):
-            place = len(path) - 2
-        parent, whole = path[place], path[place + 1]
-        return self.give_way(parent, whole, row)
-
-    def give_way(self, parent, whole, row):
-        """Puts what an element holds in its place; the caret goes where the row began."""
-        items, before = [], 0
-        for stop in rows_in(whole):
-            if stop.id == row.id:
-                before = len(items)
-            items += values(stop.children if is_row(stop) else [stop])
-        plan = Plan(self.document.tree)
-        place = self.map.index(whole.id)
-        if not items:
-            if len(parent.children) > 1:
-                plan.remove(whole.id)
-            else:
-                plan.replace(whole.id, gap())
-        for number, item in enumerate(items):
-            if number == 0:
-                plan.replace(whole.id, item)
-            else:
-                plan.insert(parent.id, place + number, item)
-        self.make(plan, Caret(parent.id, place + before))
-
     def enter(self):
         """In a table another row; else out of the place."""
         if tables.cell_of(self) is not None:
@@ -392,121 +281,12 @@ class Editor:
     def escape(self):
         self.anchor = None
 
-    # Names
-
-    def press_in_name(self, key):
-        """A key while a name is typed; tells whether that is all that it does."""
-        if len(key) == 1 and (key.isascii() and key.isalpha()):
-            self.name += key
-        elif key == "Backspace":
-            self.name = self.name[:-1] if self.name else None
-        elif key == "Escape":
-            self.name = None
-        elif self.name == "" and len(key) == 1 and key != " ":
-            self.name = None
-            self.put([token("mo", key)])
-        elif len(key) == 1 or key in ("Enter", "Tab"):
-            self.commit()
-            return key in (" ", "Enter", "Tab")
-        else:
-            self.name = None
-            return False
-        return True
-
-    def commit(self):
-        """What the typed name stands for."""
-        name, self.name = self.name, None
-        if name in symbols.LETTERS:
-            self.put([token("mi", symbols.LETTERS[name])])
-        elif name in symbols.OPERATORS:
-            self.put([token("mo", symbols.OPERATORS[name])])
-        elif name in symbols.FUNCTIONS:
-            self.put([token("mi", symbols.FUNCTIONS[name])])
-        elif name in symbols.LIMITS:
-            self.put([token("mo", name, movablelimits="true", form="prefix")])
-        elif name in symbols.ACCENTS:
-            self.accent(symbols.ACCENTS[name])
-        elif name in symbols.STRUCTURES:
-            self.structure(name)
-        else:
-            raise Refusal(f"There is no name \\{name}. The formula is as it was." if name else
-                          "A name is to stand behind the backslash. The formula is as it was.")
-
-    def accent(self, sign):
-        """An accent on what stands before the caret."""
-        def make(items):
-            body = slot(*items)
-            return element("mover", body, token("mo", sign), accent="true"), body
-        row, start, end = self.before(is_one=True)
-        if start == end:
-            return self.wrap((row, start, end), make)
-        made, _ = make(values(self.map.nodes[row].children[start:end]))
-        self.document.caret, self.anchor = Caret(row, end), Caret(row, start)
-        return self.put([made])
-
-    def structure(self, name):
-        """What has places to be filled, or a change of a table."""
-        if name in tables.CHANGES:
-            return tables.CHANGES[name](self)
-        if name in ("sup", "sub"):
-            return self.script("^" if name == "sup" else "_")
-        if name == "frac":
-            return self.fraction()
-        chosen = self.map.nodes[self.span.row].children[self.span.start:self.span.end] if self.span else []
-        made, inside = STRUCTURES[name](values(chosen))
-        return self.put(made, inside)
-
     def paste(self, items):
         """Elements, which are to stand at the caret."""
         if items:
             self.put(items)
 
 
-def square_root(items):
-    made = element("msqrt", *(items or [gap()]))
-    return [made], made
-
-
-def root(items):
-    body, index = slot(*items), slot()
-    return [element("mroot", body, index)], index
-
-
-def over(items):
-    body, above = slot(*items), slot()
-    return [element("mover", body, above)], above if items else body
-
-
-def under(items):
-    body, below = slot(*items), slot()
-    return [element("munder", body, below)], below if items else body
-
-
-def cells(items):
-    """A table of two rows and two columns."""
-    made = [element("mtd", *(items if place == 0 and items else [gap()])) for place in range(4)]
-    return element("mtable", element("mtr", *made[:2]), element("mtr", *made[2:])), made[1 if items else 0]
-
-
-def matrix(items):
-    table, first = cells(items)
-    return [table], first
-
-
-def fenced(items):
-    table, first = cells(items)
-    return [token("mo", "("), table, token("mo", ")")], first
-
-
-def cases(items):
-    table, first = cells(items)
-    return [token("mo", "{"), table], first
-
-
-STRUCTURES = {"sqrt": square_root, "root": root, "over": over, "under": under, "matrix": matrix, "pmatrix": fenced, "cases": cases}
-# Of an element with one script or two: the place of the lower one, the name with both, the place of the upper one.
-JOINED = {"msub": (1, "msubsup", None), "msup": (None, "msubsup", 1), "msubsup": (1, "msubsup", 2),
-          "munder": (1, "munderover", None), "mover": (None, "munderover", 1), "munderover": (1, "munderover", 2)}
 MOVES = {
     "ArrowLeft": lambda editor, extend: editor.step(-1, extend), "ArrowRight": lambda editor, extend: editor.step(1, extend),
     "ArrowUp": lambda editor, extend: editor.rise(-1, extend), "ArrowDown": lambda editor, extend: editor.rise(1, extend),
@@ -515,7 +295,7 @@ MOVES = {
     "Tab": lambda editor, extend: editor.next_gap(-1 if extend else 1), "All": lambda editor, extend: editor.select_all(),
 }
 ACTS = {
-    "Backspace": lambda editor: editor.erase(-1), "Delete": lambda editor: editor.erase(1), "Enter": Editor.enter,
+    "Backspace": lambda editor: erasing.erase(editor, -1), "Delete": lambda editor: erasing.erase(editor, 1), "Enter": Editor.enter,
     "Escape": Editor.escape, "Undo": Editor.undo, "Redo": Editor.redo,
 }
 
@@ -553,13 +333,3 @@ def opening_of(children, place):
 def is_large(node):
     """Whether an operator takes limits or scripts as a base."""
     return node.text in WITH_LIMITS or node.text in set("∫∬∮")
-
-
-def rows_in(whole):
-    """The rows of the places in an element, in their order, and tokens that stand for one."""
-    if is_row(whole) or whole.name in TOKENS:
-        yield whole
-        return
-    for child in whole.children:
-        yield from rows_in(child)
-

@@ -13,7 +13,7 @@ from editing import picture, speech, symbols
 from editing.document import Document, Refusal
 from editing.engine import Broken
 from editing.keys import Editor
-from editing.shapes import is_gap, with_rows, without_gaps
+from editing.shapes import is_gap, is_gap_value, with_rows, without_gaps
 from second.tree import Node
 from second.tree_print import print_tree, value_of
 from second.tree_reading import TreeFault, tree_of
@@ -104,12 +104,11 @@ class FormulaPage:
         document, editor = self.document, self.editor
         map, page, span = document.map, document.page, editor.span
         lines, names = picture.paints(page.marks, self.studio.drawn)
-        upem, outlines = self.studio.drawn.upem, self.studio.outlines
-        new = {name: picture.outline(outlines.path(name), upem, picture.PREFIX + name) for name in sorted(names - self.given)}
+        new = [picture.outline(self.studio, name, picture.PREFIX) for name in sorted(names - self.given)]
         self.given |= names
         chosen = {id for child in chosen_of(map, span) for id in below(child)}
         return {
-            "number": self.number, "told": told, "frame": picture.frame(page.boxes[1]), "lines": "".join(lines), "outlines": "".join(new.values()),
+            "number": self.number, "told": told, "frame": picture.frame(page.boxes[1]), "lines": "".join(lines), "outlines": "".join(new),
             "boxes": [[box.id, box.x, box.y - box.ascent, box.width, box.ascent + box.descent] for box in page.boxes.values()],
             "caret": page.caret(map, editor.caret), "areas": page.areas(map, span),
             "gaps": [[box.x, box.y - box.ascent, box.width, box.ascent + box.descent] for box in self.gap_boxes()],
@@ -152,7 +151,7 @@ class FormulaPage:
             file.write(tree.encode())
             file.flush()
             written = run(self.studio.program, "paint", Inputs(self.studio.metrics, file.name, None, "the formula"))
-        return picture.with_outlines(written, self.studio.outlines, self.studio.drawn.upem)
+        return picture.with_outlines(written, self.studio)
 
 
 def chosen_of(map, span):
@@ -195,7 +194,7 @@ def pasted(text):
             root = value_of(tree_of(json.loads(text)).root)
         else:
             root = made_tree(mathml3.modern(read_formulas("the pasted text", text.encode())[0], mathml3.Told())).root
-        return with_rows(root).get("children", [])
+        return [child for child in with_rows(root).get("children", []) if not is_gap_value(child)]
     except Fault as fault:
         raise Refusal(f"{command.one_line(fault)}. The formula is as it was.") from None
     except (ValueError, RecursionError, TreeFault):

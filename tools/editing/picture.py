@@ -1,5 +1,6 @@
 """What the page shows: the marks as SVG, and the formula as MathML to copy."""
 
+import threading
 from html import escape
 
 from companion.marks import Box, Built, Glyph, pieces_of
@@ -9,9 +10,10 @@ from editing.shapes import is_gap
 PREFIX = "glyph."
 # How far what is shown reaches past the formula's box, in units, so that the caret and ink that sticks out are seen.
 ROOM = 2048
+FONTS = threading.Lock()
 
 
-def paints(marks, drawn, outline=lambda name: True):
+def paints(marks, drawn):
     """The glyphs and rules of a page, each as a line of SVG, the pieces of assemblies each by itself: what `mathlay paint`
     writes."""
     lines, names = [], set()
@@ -27,9 +29,12 @@ def paints(marks, drawn, outline=lambda name: True):
     return lines, names
 
 
-def outline(path, upem, id):
-    """The outline of a glyph, one em of which is one unit, with y downward."""
-    return f'<path id="{id}" transform="scale({1 / upem:.9f} {-1 / upem:.9f})" d="{path}"/>'
+def outline(studio, name, prefix=""):
+    """The outline of a glyph, one em of which is one unit, with y downward. Fonts are read by one thread at a time."""
+    with FONTS:
+        path = studio.outlines.path(name)
+    scale = f"{1 / studio.drawn.upem:.9f}"
+    return f'<path id="{prefix}{name}" transform="scale({scale} -{scale})" d="{path}"/>'
 
 
 def frame(box):
@@ -39,11 +44,11 @@ def frame(box):
     return box.x - ROOM, top - ROOM, max(box.width, 8192) + 2 * ROOM, bottom - top + 2 * ROOM
 
 
-def with_outlines(painted, outlines, upem):
+def with_outlines(painted, studio):
     """The SVG that `mathlay paint` wrote, with the outlines of its glyphs; raises a Fault."""
     head, _, rest = painted.partition("\n")
     names = dict.fromkeys(part.split('"', 1)[0] for part in painted.split('href="#')[1:])
-    paths = [outline(path, upem, name) for name in names if (path := outlines.path(name))]
+    paths = [outline(studio, name) for name in names]
     return "\n".join([head, "<defs>", *paths, "</defs>", rest])
 
 

@@ -62,8 +62,8 @@ def with_rows(value):
     children = [with_rows(child) for child in value.get("children", [])]
     if name in SLOTTED:
         children = [child if is_whole(name, place, child) else element("mrow", child) for place, child in enumerate(children)]
-    if name in ROWS and not children:
-        children = [gap()]
+    if name in ROWS:
+        children = [child for child in children if not is_gap_value(child)] or [gap()]
     made = {**value, "children": children}
     return made if children else {key: part for key, part in made.items() if key != "children"}
 

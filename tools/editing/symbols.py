@@ -23,7 +23,7 @@ LIMITS = {name: name for name in ("lim", "max", "min", "sup", "inf")}
 ACCENTS = {"hat": "^", "bar": "¯", "tilde": "~", "vec": "→", "dot": "˙", "overline": "¯", "widehat": "^"}
 # What makes a structure or changes a table: how each is told.
 STRUCTURES = {
-    "frac": "a fraction", "sqrt": "a square root", "root": "a root with an index", "sup": "a superscript", "sub": "a subscript",
+    "frac": "a fraction", "sqrt": "a square root", "root": "a root with an index",
     "over": "something above", "under": "something below", "matrix": "a table of two rows and two columns",
     "pmatrix": "the same within parentheses", "cases": "the same behind a brace", "row": "a row of the table below this one",
     "column": "a column of the table behind this one", "delrow": "without this row", "delcolumn": "without this column",

@@ -3,6 +3,7 @@
 import re
 from dataclasses import dataclass
 
+from editing import erasing
 from editing.document import Refusal
 from editing.places import Caret, Span
 from editing.plan import Plan
@@ -175,7 +176,7 @@ def without_table(editor, table):
     row = editor.map.parents[table.id]
     place = editor.map.index(table.id)
     if row is not None and is_row(row):
-        editor.erase_span(Span(row.id, place, place + 1))
+        erasing.erase_span(editor, Span(row.id, place, place + 1))
     else:
         raise Refusal("The table stands alone in its place and can't be taken out. The formula is as it was.")
 
@@ -230,7 +231,7 @@ def shorter(editor):
     editor.make(plan, editor.caret)
 
 
-def erase(editor, cell, by):
+def erase(editor, by):
     """Backspace or Delete at an end of a cell: an empty table goes, then an empty row; else the caret goes on."""
     now = here(editor)
     if all(is_empty(each.node) for each in now.cells):

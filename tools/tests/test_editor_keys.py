@@ -1,14 +1,14 @@
 """The editor in a page: what keys do to a formula. An engine in Python lays it out, so no program is needed."""
 
+import json
 import unittest
 
 from editing import symbols
-from editing.counting import Counter
 from editing.pages import FormulaPage
 from editing.shapes import is_gap, is_row, with_rows
 from second.tree_print import print_tree
 from tests.common import TOP
-from tests.editing import KEYS_OF_QUADRATIC, QUADRATIC, SAID, NoStudio, SecondEngine, metrics, random_events, told, typed
+from tests.editing import KEYS_OF_QUADRATIC, QUADRATIC, SAID, NoStudio, SecondEngine, random_events, told, typed
 
 # Keys, and what then stands there: short words for the elements, a bar at the caret.
 ROWS = [
@@ -141,6 +141,25 @@ class Editing(unittest.TestCase):
         page = FormulaPage(NoStudio(), with_rows(value), SecondEngine, None)
         self.assertEqual(told(page), "mfrac(x, 2) msup(y, 3) |")
         self.assertEqual(len(page.document.map.nodes), 1 + 5 + 4)
+
+    def test_gaps_among_others_are_left_out(self):
+        gap = {"name": "mspace", "attributes": {"class": "gap"}}
+        value = {"name": "math", "children": [gap, {"name": "mi", "text": "x"}, gap, {"name": "mrow", "children": [gap, gap]}]}
+        page = FormulaPage(NoStudio(), with_rows(value), SecondEngine, None)
+        self.assertEqual([node.name for node in page.document.map.order], ["math", "mi", "mrow", "mspace"])
+        page.do(1, [{"paste": json.dumps({"name": "math", "children": [gap]})}])
+        self.assertEqual(len(page.document.map.nodes), 4)
+
+    def test_an_element_in_which_no_caret_stands(self):
+        text = ("<math><semantics><mi>x</mi><annotation-xml><mrow><mi>y</mi></mrow></annotation-xml><annotation>z</annotation></semantics>"
+                "<mphantom><mi>q</mi></mphantom></math>")
+        page, _ = typed(" a")
+        page.do(2, [{"paste": text}])
+        for node in page.document.map.order:
+            state = page.do(page.number + 1, [{"choose": node.id}])
+            self.assertEqual(state["told"], "")
+            self.assertIn(page.document.caret, page.document.map.numbers)
+        self.assertIn("isn't there", page.do(page.number + 1, [{"choose": 99}])["told"])
 
     def test_more_at_once_than_can_be_undone(self):
         many = with_rows({"name": "math", "children": [{"name": "mi", "text": "x"}] * 600})
