@@ -67,7 +67,8 @@ def server_of(words):
     except Broken as fault:
         raise Fault(str(fault)) from None
     except TreeFault as fault:
-        raise Fault(f"{words.formula}: with a row in each place it has too many levels or elements (tree {fault.element} {fault.kind})") from None
+        told = f"with a row in each place it has too many levels or elements (tree {fault.element} {fault.kind})"
+        raise Fault(f"{words.formula}: {told}") from None
     try:
         return Server(pages, words.port)
     except (OSError, OverflowError) as fault:

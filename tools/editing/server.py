@@ -78,7 +78,8 @@ class Handler(BaseHTTPRequestHandler):
         except Fault as fault:
             status, (data, kind) = HTTPStatus.OK, as_json({"error": f"{one_line(fault)}. The formula is kept."})
         except Exception as fault:
-            status, (data, kind) = HTTPStatus.INTERNAL_SERVER_ERROR, as_json({"error": f"The editor has a fault ({one_line(repr(fault))})."})
+            told = f"The editor has a fault ({one_line(repr(fault))}). The formula is kept."
+            status, (data, kind) = HTTPStatus.INTERNAL_SERVER_ERROR, as_json({"error": told})
             traceback.print_exc()
         self.send_response(status)
         for name, value in SAFE.items():

@@ -90,7 +90,8 @@ function tell(text) {
 
 function rect([x, y, width, height], id) {
   const made = document.createElementNS('http://www.w3.org/2000/svg', 'rect');
-  for (const [name, value] of Object.entries({x, y, width: Math.max(width, 0), height: Math.max(height, 0)})) made.setAttribute(name, value);
+  const numbers = {x, y, width: Math.max(width, 0), height: Math.max(height, 0)};
+  for (const [name, value] of Object.entries(numbers)) made.setAttribute(name, value);
   if (id) made.dataset.id = id;
   return made;
 }

@@ -16,8 +16,8 @@ DRIVER = shutil.which("chromedriver")
 NO_DRIVER = "no Chromium with a driver here: Debian's chromium and chromium-driver have them"
 SECONDS = 120
 ELEMENT = "element-6066-11e4-a52e-4f735466cecf"
-WORDS = ["--headless=new", "--no-sandbox", "--disable-gpu", "--disable-dev-shm-usage", "--window-size=1100,760", "--force-color-profile=srgb",
-         "--disable-background-networking", "--no-first-run"]
+WORDS = ["--headless=new", "--no-sandbox", "--disable-gpu", "--disable-dev-shm-usage", "--window-size=1100,760",
+         "--force-color-profile=srgb", "--disable-background-networking", "--no-first-run"]
 # The keys that have no character, as WebDriver names them.
 KEYS = {"Backspace": "\ue003", "Tab": "\ue004", "Enter": "\ue007", "Shift": "\ue008", "Control": "\ue009", "Escape": "\ue00c",
         "End": "\ue010", "Home": "\ue011", "ArrowLeft": "\ue012", "ArrowUp": "\ue013", "ArrowRight": "\ue014", "ArrowDown": "\ue015",

@@ -35,8 +35,8 @@ KEYS_OF_QUADRATIC = 26
 SAID = "x equals fraction minus b plus or minus square root b to the 2 minus 4 a c end of square root over 2 a end of fraction"
 NAMES = ("sqrt frac sum root matrix pmatrix row column delrow delcolumn wider taller narrower shorter hat lim alpha int over cases sin "
          "nosuch").split()
-KEYS = [*"abcxyz0123456789+-=()/^_ &,.\\'|<", "ArrowLeft", "ArrowRight", "ArrowUp", "ArrowDown", "Home", "End", "Backspace", "Delete", "Tab",
-        "Enter", "Escape"]
+MOVES = ["ArrowLeft", "ArrowRight", "ArrowUp", "ArrowDown", "Home", "End", "Tab"]
+KEYS = [*"abcxyz0123456789+-=()/^_ &,.\\'|<", *MOVES, "Backspace", "Delete", "Enter", "Escape"]
 COMMANDS = ["Undo", "Redo", "All", "Start", "Finish"]
 
 
@@ -125,12 +125,13 @@ def random_events(seed, count, page=None):
         if part < 0.15:
             events += [{"key": letter} for letter in f"\\{chance.choice(NAMES)} "]
         elif part < 0.25 and page:
-            events.append({"point": [chance.randrange(-5_000, 200_000), chance.randrange(-50_000, 50_000)], "extend": chance.random() < 0.4})
+            point = [chance.randrange(-5_000, 200_000), chance.randrange(-50_000, 50_000)]
+            events.append({"point": point, "extend": chance.random() < 0.4})
         elif part < 0.35:
             events.append({"key": chance.choice(COMMANDS), "extend": False})
         else:
             key = chance.choice(KEYS)
-            events.append({"key": key, "extend": len(key) > 1 and key not in ("Escape", "Enter", "Backspace", "Delete") and chance.random() < 0.2})
+            events.append({"key": key, "extend": key in MOVES and chance.random() < 0.2})
     return events[:count]
 
 

@@ -107,7 +107,8 @@ class Editing(unittest.TestCase):
     def test_what_is_pasted(self):
         page, _ = typed(" a")
         for text, wanted in (("<math><mfrac><mi>x</mi><mn>2</mn></mfrac></math>", "a mfrac(x, 2) |"),
-                             ('{"name":"math","children":[{"name":"mi","text":"q"}]}', "a mfrac(x, 2) q |"), ("1+y", "a mfrac(x, 2) q 1 + y |")):
+                             ('{"name":"math","children":[{"name":"mi","text":"q"}]}', "a mfrac(x, 2) q |"),
+                             ("1+y", "a mfrac(x, 2) q 1 + y |")):
             state = page.do(page.number + 1, [{"paste": text}])
             self.assertEqual((told(page), state["told"]), (wanted, ""))
         for text in ("<math><mi>x</math>", "{", '{"name":5}', "[1]" * 1000, "<math>" + "<mrow>" * 70 + "</mrow>" * 70 + "</math>",

@@ -26,6 +26,13 @@ WORDS = "return document.getElementById('page-words').textContent"
 TOLD = "return document.getElementById('page-told').textContent"
 
 
+def line_of(tag, href, move, x, y, width, height):
+    """A mark of the page as the program paints it."""
+    if tag == "use":
+        return f'<use href="{href}" transform="{move}"/>'
+    return f'<rect x="{x}" y="{y}" width="{width}" height="{height}"/>'
+
+
 @unittest.skipIf(NO_BROWSER, NO_BROWSER)
 class InBrowser(unittest.TestCase):
     """The page in a browser, by keys and clicks."""
@@ -64,10 +71,13 @@ class InBrowser(unittest.TestCase):
         return self.pages.pages[self.name]
 
     def press(self, *keys, held=(), events=None):
-        """Presses keys, and waits until they were done; each makes one event, or all make so many."""
-        wanted = self.browser.run("return mathlay.done") + (sum(len(key) if key[0] == " " else 1 for key in keys) if events is None else events)
+        """Presses keys, and waits until they were done: names of keys, or texts of characters behind a blank. Each makes one event,
+        or all make so many."""
+        if events is None:
+            events = sum(len(key) - 1 if key[0] == " " else 1 for key in keys)
+        done = self.browser.run("return mathlay.done")
         self.browser.keys(*[key[1:] if key[0] == " " else key for key in keys], held=held)
-        self.settle(wanted - sum(key[0] == " " for key in keys) if events is None else wanted)
+        self.settle(done + events)
 
     def settle(self, number):
         self.browser.wait("return mathlay.done >= arguments[0] && !mathlay.waiting.length && !mathlay.busy", number)
@@ -78,9 +88,7 @@ class InBrowser(unittest.TestCase):
         tree = print_tree(self.page.document.tree)
         boxes, marks = self.browser.run(SHOWN)
         self.assertEqual(boxes, boxes_of(tree))
-        lines = [f'<use href="{href}" transform="{move}"/>' if tag == "use" else f'<rect x="{x}" y="{y}" width="{width}" height="{height}"/>'
-                 for tag, href, move, x, y, width, height in marks]
-        self.assertEqual(lines, painted(tree))
+        self.assertEqual([line_of(*mark) for mark in marks], painted(tree))
 
     def box(self, text):
         """Where the box of the element with a text is seen: left, top, width and height in px."""
@@ -130,8 +138,8 @@ class InBrowser(unittest.TestCase):
         times, engine = self.browser.run("return [mathlay.times, mathlay.engine]")
         self.assertEqual(len(times), len(events))
         edits = [each for each in engine if each]
-        print(f"editor in a page: 1,000 keys: {statistics.median(times):.1f} ms median, {max(times):.0f} ms worst; {len(edits)} with an edit: "
-              f"engine {statistics.median(edits):.0f} us median, {max(edits)} us worst")
+        print(f"editor in a page: 1,000 keys: {statistics.median(times):.1f} ms median, {max(times):.0f} ms worst; "
+              f"{len(edits)} with an edit: engine {statistics.median(edits):.0f} us median, {max(edits)} us worst")
 
     def test_a_page_that_is_loaded_anew_has_its_formula(self):
         self.press(" x^2")
@@ -228,8 +236,8 @@ class InBrowser(unittest.TestCase):
     def test_names_and_roles(self):
         self.press(" a/b")
         for selector, role, name in (("#page-keys", "textbox", "Formula"), ("#page-formula", "image", "fraction a over b end of fraction"),
-                                     ("#page-tree", "tree", "Tree"), ("#page-tree li", "treeitem", "math"), ("#page-undo", "button", "Undo"),
-                                     ("#page-svg", "button", "Copy SVG"), ("#page-told", "alert", ""), ("#page-place", "status", ""),
+                                     ("#page-tree", "tree", "Tree"), ("#page-tree li", "treeitem", "math"),
+                                     ("#page-undo", "button", "Undo"), ("#page-svg", "button", "Copy SVG"), ("#page-told", "alert", ""), ("#page-place", "status", ""),
                                      ("#page-commands", "toolbar", "Commands"), ("nav", "navigation", "Tree of the formula")):
             with self.subTest(selector):
                 element = next(iter(self.browser.call("/element", {"using": "css selector", "value": selector}).values()))

@@ -56,7 +56,8 @@ class Serving(unittest.TestCase):
                 ("another origin", "open", {"Origin": foreign}, 403), ("no origin", "open", {"Origin": None}, 403),
                 ("a null origin", "open", {"Origin": "null"}, 403), ("another port", "open", {"Origin": "http://127.0.0.1:1"}, 403),
                 ("another site", "open", {"Sec_Fetch_Site": "cross-site"}, 403), ("another name", "open", {"Host": "localhost:80"}, 403),
-                ("no token", "/open", {}, 404), ("a wrong token", "/x/open", {}, 404), ("half a token", f"/{self.server.token[:9]}/open", {}, 404)):
+                ("no token", "/open", {}, 404), ("a wrong token", "/x/open", {}, 404),
+                ("half a token", f"/{self.server.token[:9]}/open", {}, 404)):
             with self.subTest(what):
                 status, data, answer = self.ask("POST", path, body, **headers)
                 self.assertEqual(status, wanted, data)
@@ -73,13 +74,13 @@ class Serving(unittest.TestCase):
                 self.assertEqual(self.ask("GET", path)[0], 404)
 
     def test_what_is_no_call(self):
+        events = [[{"key": ""}], [{"point": [1, 1e99]}], [{}], [{"key": "a", "paste": "b"}], [{"key": "\ud800"}], [5], {}, [{"key": "a"}] * 1001,
+                  [{"choose": "1"}], [{"key": "a", "extend": 1}]]
         for name, body, wanted in (
-                ("open", b"", 400), ("open", b"[]", 400), ("open", b"[" * 100_000, 400), ("open", {"page": ""}, 400), ("open", {"page": "x" * 65}, 400),
-                ("do", {"page": "a"}, 400), ("do", {"page": "a", "number": 1, "events": [{"key": ""}]}, 400),
-                ("do", {"page": "a", "number": 1, "events": [{"point": [1, 1e99]}]}, 400), ("do", {"page": "a", "number": 1, "events": [{}]}, 400),
-                ("do", {"page": "a", "number": 1, "events": [{"key": "a", "paste": "b"}]}, 400),
-                ("do", {"page": "a", "number": 1, "events": [{"key": "\ud800"}]}, 400), ("open", {"page": "\ud800"}, 400), ("copy", {"page": "a", "what": "/etc/passwd"}, 400),
-                ("none", {"page": "a"}, 404)):
+                ("open", b"", 400), ("open", b"[]", 400), ("open", b"[" * 100_000, 400), ("open", {"page": ""}, 400),
+                ("open", {"page": "x" * 65}, 400), ("open", {"page": "\ud800"}, 400), ("do", {"page": "a"}, 400), ("none", {"page": "a"}, 404),
+                ("copy", {"page": "a", "what": "/etc/passwd"}, 400), ("do", {"page": "a", "number": "1", "events": []}, 400),
+                *(("do", {"page": "a", "number": 1, "events": each}, 400) for each in events)):
             with self.subTest(body):
                 self.assertEqual(self.ask("POST", name, body)[0], wanted)
         self.assertEqual(self.ask("POST", "open", b"x" * (MOST_BYTES + 1))[0], 413)
