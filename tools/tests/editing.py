@@ -50,8 +50,11 @@ def lacks(*commands):
     """Why the program can't be tried, or none."""
     if not os.access(PROGRAM, os.X_OK):
         return "no program: `rt ci` builds crates/mathlay/out/mathlay"
-    if missing := lacking([PROGRAM], commands):
-        return f"the program has no command `{missing}` yet"
+    try:
+        if missing := lacking([PROGRAM], commands):
+            return f"the program has no command `{missing}` yet"
+    except command.Fault as fault:
+        return str(fault)
     if not TTFont:
         return NO_FONT_TOOLS
     return None if drawing.usual_fonts() else "no Latin Modern Math: Debian's fonts-lmodern has it"
