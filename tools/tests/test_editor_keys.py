@@ -94,6 +94,9 @@ class Editing(unittest.TestCase):
                 _, state = typed(*keys, page=page)
                 self.assertIn(sentence, state["told"])
                 self.assertEqual(print_tree(page.document.tree), before)
+        _, state = typed("Finish", " +x/y", page=page)
+        self.assertEqual(state["told"], "")
+        self.assertTrue(told(page).endswith(" mfrac(x, y |)"))
 
     def test_selections_and_deletes_by_shift(self):
         page, _ = typed(" abc")
