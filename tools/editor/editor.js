@@ -300,9 +300,15 @@ addEventListener('load', async () => {
   at('tree').addEventListener('click', event => {
     const line = event.target.closest('li');
     if (line) put({choose: Number(line.dataset.id)});
+    if (line && event.detail) at('keys').focus();
   });
   for (const kind of ['mouseover', 'mouseout', 'focusin', 'focusout']) at('tree').addEventListener(kind, pointOut);
-  for (const [id, key] of [['undo', 'Undo'], ['redo', 'Redo']]) at(id).addEventListener('click', () => put({key}));
+  for (const [id, key] of [['undo', 'Undo'], ['redo', 'Redo']]) {
+    at(id).addEventListener('click', event => {
+      put({key});
+      if (event.detail) at('keys').focus();
+    });
+  }
   at('mathml').addEventListener('click', () => copy('mathml'));
   at('svg').addEventListener('click', () => copy('svg'));
   at('keys').focus();

@@ -43,6 +43,7 @@ ROWS = [
     ([" abc", "All", "Delete"], "| gap"),
     ([" ab", "Undo"], "a |"),
     ([" ab", "Undo", "Redo"], "a b |"),
+    ([" ab", "Home", " c", "Undo"], "| a b"),
     ([" \\matrix 1", "Tab", " 2", "Tab", " 3", "Tab", " 4"], "mtable(mtr(1, 2), mtr(3, 4 |))"),
     ([" \\matrix 1", "Enter", " 2"], "mtable(mtr(1, gap), mtr(2 |, gap), mtr(gap, gap))"),
     ([" \\matrix 1&2&3"], "mtable(mtr(1, 2, 3 |), mtr(gap, gap, gap))"),
@@ -81,6 +82,8 @@ class Editing(unittest.TestCase):
         _, again = typed(*["Redo"] * steps, page=page)
         for part in ("lines", "boxes", "caret", "tree", "formula"):
             self.assertEqual(again[part], last[part], part)
+        _, state = typed("Undo", " q", page=page)
+        self.assertEqual(state["redo"], 0)
 
     def test_refused_edits_say_why_and_change_nothing(self):
         page, _ = typed(*["/"] * 40)
