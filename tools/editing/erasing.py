@@ -3,7 +3,7 @@
 from editing import tables
 from editing.places import Caret, Span
 from editing.plan import Plan
-from editing.shapes import TOKENS, gap, is_row, values
+from editing.shapes import TOKENS, gap, is_group, is_row, values
 
 
 def erase(editor, by):
@@ -18,7 +18,11 @@ def erase(editor, by):
     place = offset - 1 if by < 0 else offset
     if editor.map.is_gap(editor.caret) or not 0 <= place < len(node.children):
         return dissolve(editor, node, by)
-    child = node.children[place]
+    child, parent = node.children[place], editor.map.parents[node.id]
+    if is_group(child):
+        return ungroup(editor, node, child, len(child.children) - 1 if by < 0 else 0)
+    if is_group(node) and is_row(parent) and place in (0, len(node.children) - 1):
+        return ungroup(editor, parent, node, place)
     if child.name in ("mn", "mtext", "ms") and len(child.text) > 1:
         at = len(child.text) - 1 if by < 0 else 0
         return cut(editor, child, at, Caret(child.id, at))
@@ -26,6 +30,16 @@ def erase(editor, by):
         return erase_span(editor, Span(node.id, place, place + 1))
     editor.anchor, editor.document.caret = Caret(node.id, offset), Caret(node.id, place + (by > 0))
     return None
+
+
+def ungroup(editor, row, group, place):
+    """A sign of a group less, whose other parts then stand in the row that holds it."""
+    plan, start = Plan(editor.document.tree), editor.map.index(group.id)
+    items = values(group.children[:place] + group.children[place + 1:])
+    plan.replace(group.id, items[0])
+    for number, item in enumerate(items[1:], 1):
+        plan.insert(row.id, start + number, item)
+    editor.make(plan, Caret(row.id, start + place))
 
 
 def cut(editor, node, place, caret):

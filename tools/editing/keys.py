@@ -7,7 +7,8 @@ from editing.document import Refusal
 from editing.places import Caret
 from editing.plan import Plan
 from editing.scripts import SCRIPTS
-from editing.shapes import CLOSING, OPENING, WITH_LIMITS, is_gap, is_row, slot, token, values
+from editing.shapes import (CLOSING, WITH_LIMITS, element, is_closing, is_gap, is_group, is_opening, is_row, slot, token,
+                            values)
 
 DIGITS = set("0123456789")
 
@@ -202,9 +203,24 @@ class Editor:
         elif unicodedata.category(key)[0] == "L" or unicodedata.category(key) == "Nd":
             self.put([token("mi" if not key.isdigit() else "mn", key)])
         elif unicodedata.category(key)[0] in "SP":
-            self.put([token("mo", symbols.KEYS.get(key, key))])
+            self.sign(symbols.KEYS.get(key, key))
         else:
             raise Refusal(f"The character U+{ord(key):04X} isn't taken.")
+
+    def sign(self, text):
+        """An operator. A closing one makes a group of what stands from the opening one on, so that both grow with that alone."""
+        node, end = self.map.nodes[self.caret.node], self.caret.offset
+        start = None
+        if text in CLOSING and is_row(node) and not self.span and not self.map.is_gap(self.caret):
+            start = open_sign(node, end, self.map.parents[node.id])
+        if start is None:
+            return self.put([token("mo", text)])
+        chosen = node.children[start:end]
+        plan = Plan(self.document.tree)
+        plan.replace(chosen[0].id, element("mrow", *values(chosen), token("mo", text)))
+        for child in chosen[1:]:
+            plan.remove(child.id)
+        return self.make(plan, Caret(node.id, start + 1))
 
     def is_beside_number(self):
         """Whether the caret stands in a number or behind one."""
@@ -245,7 +261,7 @@ class Editor:
             return node.id, 0, 0
         while start > 0 and not (is_one and start < end):
             last = node.children[start - 1]
-            if last.name == "mo" and last.text in CLOSING:
+            if is_closing(last):
                 opening = opening_of(node.children, start - 1)
                 if opening is None:
                     break
@@ -318,15 +334,25 @@ def beside(map, parent, child, by):
     return None
 
 
+def open_sign(row, end, parent):
+    """The index of the last opening sign before a place that no closing one answers, or none. That of a group is answered."""
+    depth = 0
+    first = 1 if parent is not None and is_row(parent) and is_group(row) else 0
+    for place in range(end - 1, first - 1, -1):
+        depth += is_closing(row.children[place]) - is_opening(row.children[place])
+        if depth < 0:
+            return place
+    return None
+
+
 def opening_of(children, place):
     """The index of the opening sign that a closing one answers, or none."""
     depth = 0
     for at in range(place, -1, -1):
         child = children[at]
-        if child.name == "mo":
-            depth += (child.text in CLOSING) - (child.text in OPENING)
-            if depth == 0:
-                return at
+        depth += is_closing(child) - is_opening(child)
+        if depth == 0:
+            return at
     return None
 
 

@@ -103,12 +103,12 @@ def matrix(items):
 
 def fenced(items):
     table, first = cells(items)
-    return [token("mo", "("), table, token("mo", ")")], first
+    return [element("mrow", token("mo", "("), table, token("mo", ")"))], first
 
 
 def cases(items):
     table, first = cells(items)
-    return [token("mo", "{"), table], first
+    return [element("mrow", token("mo", "{"), table)], first
 
 
 MAKERS = {"sqrt": square_root, "root": root, "over": over, "under": under, "matrix": matrix, "pmatrix": fenced, "cases": cases}

@@ -115,7 +115,7 @@ class FormulaPage:
             "tree": tree_lines(map, chosen, editor.caret.node), "microseconds": document.count.microseconds,
             "elements": document.count.elements, "took": self.took,
             "name": None if editor.name is None else {"text": editor.name, "names": symbols.beginning(editor.name)},
-            "undo": len(document.past), "redo": len(document.future), "chosen": self.chosen(),
+            "others": sum(stop != editor.caret for stop in map.gaps()), "undo": len(document.past), "redo": len(document.future), "chosen": self.chosen(),
             "formula": speech.formula(map.root), "place": speech.place(map, editor.caret, span),
         }
 

@@ -3,7 +3,7 @@
 from dataclasses import dataclass
 
 from companion.marks import Box, Glyph
-from editing.shapes import HIDDEN, TOKENS, is_gap, is_row
+from editing.shapes import HIDDEN, TOKENS, is_gap, is_group, is_row
 
 # Tokens between whose characters a caret can stand.
 MANY_STOPS = {"mn", "mtext", "ms"}
@@ -71,14 +71,14 @@ class Map:
         place = Caret(node.id, min(caret.offset, len(node.children)))
         if place in self.numbers:
             return place
-        return Caret(node.id, 0) if Caret(node.id, 0) in self.numbers else self.near(node.id)
+        return Caret(node.id, 0) if Caret(node.id, 0) in self.numbers else self.near(node.id, caret.offset > 0)
 
-    def near(self, id):
-        """The stop before the element that holds one, where a caret can't stand in it."""
+    def near(self, id, is_behind=False):
+        """The stop before the element that holds one, or behind it, where a caret can't stand in it."""
         node = self.nodes[id]
         while (parent := self.parents[node.id]) is not None:
             if is_row(parent):
-                return self.settled(Caret(parent.id, self.index(node.id)))
+                return self.settled(Caret(parent.id, self.index(node.id) + is_behind))
             node = parent
         return self.stops[0]
 
@@ -118,8 +118,9 @@ class Map:
         return place, place + 1
 
 
-def stops_of(node):
-    """The stops of a row, or those inside of another element, in document order."""
+def stops_of(node, in_row=False):
+    """The stops of a row, or those inside of another element, in document order. In a group that stands in a row there is none
+    before its opening sign nor behind its closing one: those of the row stand there."""
     if node.name in TOKENS:
         if node.name in MANY_STOPS:
             yield from (Caret(node.id, place) for place in range(1, len(node.text)))
@@ -127,14 +128,15 @@ def stops_of(node):
     if node.name in HIDDEN:
         return
     row = is_row(node)
-    if row:
+    group = in_row and is_group(node)
+    if row and not group:
         yield Caret(node.id, 0)
         if len(node.children) == 1 and is_gap(node.children[0]):
             return
     children = node.children[:1] if node.name in ("semantics", "maction") else node.children
     for place, child in enumerate(children):
-        yield from stops_of(child)
-        if row:
+        yield from stops_of(child, row)
+        if row and not (group and place + 1 == len(children)):
             yield Caret(node.id, place + 1)
 
 
@@ -211,9 +213,9 @@ class Page:
 
 def around(map, node):
     """The stops in an element; for one that has none, those beside it, or those of what holds it."""
-    own = list(stops_of(node))
     parent = map.parents[node.id]
-    if parent is not None and is_row(parent) and not is_row(node):
+    own = list(stops_of(node, parent is not None and is_row(parent)))
+    if parent is not None and is_row(parent) and (not is_row(node) or is_group(node)):
         place = map.index(node.id)
         own += [map.settled(Caret(parent.id, place)), map.settled(Caret(parent.id, place + 1))]
     return own or (around(map, parent) if parent is not None else map.stops)

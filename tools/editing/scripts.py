@@ -28,7 +28,7 @@ def script(editor, key):
     def make(items):
         script = slot()
         limits = len(items) == 1 and items[0].get("text") in WITH_LIMITS
-        body = items[0] if len(items) == 1 and items[0]["name"] in TOKENS else slot(*items)
+        body = items[0] if items and items[0]["name"] in TOKENS and len(items) == 1 else slot(*items)
         return element(SCRIPTS[key][limits], body, script), script if items else body
     editor.wrap(taken, make)
 

@@ -30,7 +30,9 @@ def token(name, text, **attributes):
 
 
 def slot(*children):
-    """A row with what fills it, or with a gap."""
+    """A row with what fills it, or with a gap; a group is a row already."""
+    if len(children) == 1 and children[0]["name"] == "mrow":
+        return children[0]
     return element("mrow", *(children or (gap(),)))
 
 
@@ -41,6 +43,19 @@ def is_gap(node):
 def is_row(node):
     """Whether a caret can stand between the children of a node."""
     return node.name in ROWS
+
+
+def is_opening(node):
+    return node.name == "mo" and node.text in OPENING
+
+
+def is_closing(node):
+    return node.name == "mo" and node.text in CLOSING
+
+
+def is_group(node):
+    """Whether a row that stands in another is what parentheses hold, with them."""
+    return node.name == "mrow" and len(node.children) > 1 and is_opening(node.children[0]) and is_closing(node.children[-1])
 
 
 def is_empty(row):

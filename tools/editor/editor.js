@@ -98,7 +98,7 @@ function rect([x, y, width, height], id) {
 
 function show(state) {
   own.done = state.number;
-  own.gaps = state.gaps.length;
+  own.gaps = state.others;
   at('outlines').firstElementChild.insertAdjacentHTML('beforeend', state.outlines);
   const [left, top, width, height] = state.frame, formula = at('formula');
   formula.setAttribute('viewBox', state.frame.join(' '));

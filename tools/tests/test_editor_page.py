@@ -202,8 +202,11 @@ class InBrowser(unittest.TestCase):
         self.assertNotIn("evil", self.pages.pages)
 
     def test_from_the_keyboard_alone(self):
-        self.press(" a/b")
         focus = "return document.activeElement.id || document.activeElement.textContent.trim()"
+        self.browser.keys("Tab")
+        self.assertEqual(self.browser.run(focus), "math")
+        self.browser.keys("Tab", held=["Shift"])
+        self.press(" a/b")
         self.assertEqual(self.browser.run(focus), "page-keys")
         self.press("Escape", events=1)
         self.browser.keys("Tab")
