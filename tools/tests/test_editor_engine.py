@@ -8,13 +8,17 @@ import signal
 import statistics
 import unittest
 
+from companion import mathml3
+from companion.mathml import read_formulas
+from companion.trees import made_tree
 from editing.counting import Counter
 from editing.document import Refusal
 from editing.engine import Broken, Engine
 from editing.pages import FormulaPage
 from editing.places import Span
-from editing.shapes import is_row
+from editing.shapes import is_row, with_rows
 from second.tree_print import print_tree
+from tests.common import TOP
 from tests.editing import EMPTY, METRICS, PROGRAM, QUADRATIC, SAID, boxes_of, lacks, metrics, painted, random_events, studio, typed, written
 
 LACK = lacks("history", "paint", "hit", "select")
@@ -53,6 +57,19 @@ class WithProgram(unittest.TestCase):
                 self.assert_fresh(page, state)
         self.assert_fresh(page, state)
         print(f"editor: 1,000 keys, {len(engine)} with an edit: engine {statistics.median(engine):.0f} us median, {max(engine)} us worst")
+
+    def test_the_samples_and_keys_by_chance_in_each(self):
+        for path in sorted((TOP / "samples").glob("*.mml")):
+            with self.subTest(path.name):
+                root = made_tree(mathml3.modern(read_formulas(path.name, path.read_bytes())[0], mathml3.Told())).root
+                page = self.page(with_rows(root))
+                self.assert_fresh(page, page.open())
+                for event in random_events(3, 60, page):
+                    state = page.do(page.number + 1, [event])
+                self.assert_fresh(page, state)
+                _, state = typed(*["Undo"] * state["undo"], page=page)
+                self.assert_fresh(page, page.open())
+                page.document.sleep()
 
     def test_points_and_selections_are_the_programs(self):
         page, _ = typed(*QUADRATIC, page=self.page())
