@@ -1,10 +1,10 @@
 #!/usr/bin/env python3
 """An editor of formulas in a page of a browser: each key is an edit, and the engine lays it out at once.
 
-    editor.py [FORMULA] [--font FONT] [--metrics FILE] [--fallback FONT].. [--program COMMAND] [--port N]
+    editor.py [FORMULA] [--number K] [--font FONT] [--metrics FILE] [--fallback FONT].. [--program COMMAND] [--port N]
 
 Prints the address of the page, which a browser on this machine opens, and ends with Ctrl-C. FORMULA is a tree file, MathML or an
-HTML page, whose first formula each new page begins with; without one they begin empty. A page that is loaded anew has its formula
+HTML page, with whose first formula, or the Kth, each new page begins; without one they begin empty. A page that is loaded anew has its formula
 still, and two pages have two formulas, until the editor ends. docs/EDITOR.md has the keys.
 
 The server listens on 127.0.0.1 alone and answers only who knows the address, which has a token in it. Nothing is loaded that
@@ -32,7 +32,8 @@ def main(argv=None):
     parser = command.parser_of("editor", __doc__)
     parser.add_argument("formula", metavar="FORMULA", nargs="?")
     drawing.add_fonts(parser)
-    drawing.add_choice(parser)
+    parser.add_argument("--number", metavar="K", type=command.whole, default=None, help="the Kth formula of a page, from 1 on")
+    parser.set_defaults(all=False)
     parser.add_argument("--port", metavar="N", type=int, default=0, help="the port of the page (one that is free)")
     return command.run(parser, work, argv)
 

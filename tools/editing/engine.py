@@ -73,6 +73,7 @@ class Engine:
         while (line := self.line()) != ENDED:
             answer.shown.append(line)
         answer.microseconds = (time.perf_counter_ns() - began) // 1000
+        self.drop_tree()
         return answer
 
     def say(self, data, count):
@@ -124,6 +125,10 @@ class Engine:
                 stream.close()
             except OSError:
                 pass
+        self.drop_tree()
+
+    def drop_tree(self):
+        """Removes the file of the tree, which the engine has read."""
         try:
             os.unlink(self.tree)
         except OSError:

@@ -25,10 +25,13 @@ async function nameOf() {
 }
 
 function lock(name) {
-  return new Promise(tell => navigator.locks.request('mathlay ' + name, {ifAvailable: true}, got => {
-    tell(Boolean(got));
-    return got && new Promise(() => {});
-  }));
+  return new Promise(tell => {
+    if (!navigator.locks) return tell(true);
+    return navigator.locks.request('mathlay ' + name, {ifAvailable: true}, got => {
+      tell(Boolean(got));
+      return got && new Promise(() => {});
+    }).catch(() => tell(true));
+  });
 }
 
 async function call(what, value) {
