@@ -5,6 +5,7 @@ const KEYS = new Set(['ArrowLeft', 'ArrowRight', 'ArrowUp', 'ArrowDown', 'Home',
 const CONTROLS = {z: 'Undo', y: 'Redo', a: 'All', Home: 'Start', End: 'Finish'};
 const LONGEST = 1000000;  // characters of what is pasted
 const DEEP = 10;  // levels of the tree that are indented; deeper ones have a number
+const EDGE = 24;  // px between the caret and the edge of what is seen
 const RETRY = 500;  // ms until a request that failed is sent again
 
 const own = {name: '', done: 0, waiting: [], busy: false, gaps: 0, leaving: false, times: [], engine: [], told: []};
@@ -131,9 +132,17 @@ function showCaret(place) {
   caret.setAttribute('x', x - 256);
   caret.setAttribute('y', y);
   caret.setAttribute('height', height);
-  const seen = caret.getBoundingClientRect(), paper = at('paper').getBoundingClientRect(), keys = at('keys').style;
-  keys.left = seen.left - paper.left + at('paper').scrollLeft + 'px';
-  keys.top = seen.top - paper.top + at('paper').scrollTop + 'px';
+  const paper = at('paper'), keys = at('keys').style;
+  const seen = caret.getBoundingClientRect(), frame = paper.getBoundingClientRect();
+  keys.left = seen.left - frame.left + paper.scrollLeft + 'px';
+  keys.top = seen.top - frame.top + paper.scrollTop + 'px';
+  paper.scrollLeft += past(seen.left, seen.right, frame.left, frame.right);
+  paper.scrollTop += past(seen.top, seen.bottom, frame.top, frame.bottom);
+}
+
+// How far something has to move to stand within a frame.
+function past(start, end, first, last) {
+  return start < first + EDGE ? start - first - EDGE : end > last - EDGE ? end - last + EDGE : 0;
 }
 
 function showName(name) {
@@ -156,6 +165,7 @@ function showTree(lines) {
     line.setAttribute('role', 'treeitem');
     line.setAttribute('aria-level', level);
     line.setAttribute('aria-selected', chosen);
+    line.setAttribute('aria-current', here);
     line.classList.toggle('here', here);
     line.tabIndex = -1;
     line.dataset.id = id;
@@ -165,7 +175,13 @@ function showTree(lines) {
   const line = tree.querySelector(`[data-id="${focused}"]`);
   (line || tree.querySelector('[aria-selected="true"], .here') || tree.firstElementChild).tabIndex = 0;
   if (focused) (line || tree.querySelector('[tabindex="0"]')).focus();
-  else tree.querySelector('[aria-selected="true"], .here')?.scrollIntoView({block: 'nearest'});
+  else bring(tree.querySelector('[aria-selected="true"], .here'));
+}
+
+// A line of the tree comes into sight, and the page stays where it is.
+function bring(line) {
+  const list = at('tree').parentElement, seen = line?.getBoundingClientRect(), frame = list.getBoundingClientRect();
+  if (line) list.scrollTop += past(seen.top, seen.bottom, frame.top, frame.bottom);
 }
 
 async function open(like) {

@@ -236,6 +236,22 @@ class InBrowser(unittest.TestCase):
         self.assertEqual(self.browser.run(WORDS), "fraction a over b end of fraction")
         self.assert_fresh()
 
+    def test_the_caret_stays_in_sight(self):
+        seen = """const caret = document.getElementById('page-caret').getBoundingClientRect(),
+            frame = document.getElementById('page-paper').getBoundingClientRect();
+            return frame.left <= caret.left && caret.right <= frame.right && frame.top <= caret.top && caret.bottom <= frame.bottom"""
+        self.press(" " + "x+y=" * 12)
+        self.assertTrue(self.browser.run(seen))
+        self.press("Home")
+        self.assertTrue(self.browser.run(seen))
+        self.press(*"/" * 8)
+        self.assertTrue(self.browser.run(seen))
+        self.browser.call("/window/rect", {"width": 500, "height": 500})
+        self.press(" a")
+        self.assertTrue(self.browser.run(seen))
+        self.assertEqual(self.browser.run("return scrollY"), 0)
+        self.browser.call("/window/rect", {"width": 1100, "height": 760})
+
     def test_names_and_roles(self):
         self.press(" a/b")
         for selector, role, name in (("#page-keys", "textbox", "Formula"), ("#page-formula", "image", "fraction a over b end of fraction"),
