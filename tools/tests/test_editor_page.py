@@ -23,6 +23,7 @@ SHOWN = """return [Array.from(document.querySelectorAll('#page-boxes rect'), box
     name => Number(box.getAttribute(name)))), Array.from(document.querySelectorAll('#page-marks > *'), mark => [mark.tagName,
     mark.getAttribute('href'), mark.getAttribute('transform'), ...['x', 'y', 'width', 'height'].map(name => mark.getAttribute(name))])]"""
 WORDS = "return document.getElementById('page-words').textContent"
+FOCUS = "return document.activeElement.id || document.activeElement.textContent.trim()"
 TOLD = "return document.getElementById('page-told').textContent"
 
 
@@ -201,25 +202,33 @@ class InBrowser(unittest.TestCase):
         self.assertEqual(self.browser.wait("return window.found"), "refused")
         self.assertNotIn("evil", self.pages.pages)
 
-    def test_from_the_keyboard_alone(self):
-        focus = "return document.activeElement.id || document.activeElement.textContent.trim()"
+    def test_escape_and_tab_leave_a_formula_with_gaps(self):
+        self.press(" /")
+        self.press("Tab")
+        self.assertEqual(self.browser.run(FOCUS), "page-keys")
+        self.press("Escape")
         self.browser.keys("Tab")
-        self.assertEqual(self.browser.run(focus), "math")
+        self.assertNotEqual(self.browser.run(FOCUS), "page-keys")
+        self.assertEqual(self.browser.run("return mathlay.done"), 3)
+
+    def test_from_the_keyboard_alone(self):
+        self.browser.keys("Tab")
+        self.assertEqual(self.browser.run(FOCUS), "math")
         self.browser.keys("Tab", held=["Shift"])
         self.press(" a/b")
-        self.assertEqual(self.browser.run(focus), "page-keys")
+        self.assertEqual(self.browser.run(FOCUS), "page-keys")
         self.press("Escape", events=1)
         self.browser.keys("Tab")
-        self.assertEqual(self.browser.run(focus), "mrow")
+        self.assertEqual(self.browser.run(FOCUS), "mrow")
         self.browser.keys("ArrowDown", "Enter")
         self.settle(5)
         self.assertEqual(self.browser.run("return document.getElementById('page-place').textContent"), "selected: b")
         self.browser.keys("Tab", held=["Shift"])
-        self.assertEqual(self.browser.run(focus), "page-keys")
+        self.assertEqual(self.browser.run(FOCUS), "page-keys")
         self.press(" c")
         self.assertEqual(self.browser.run(WORDS), "fraction a over c end of fraction")
         self.browser.keys("Tab", held=["Shift"])
-        self.assertEqual(self.browser.run(focus), "page-svg")
+        self.assertEqual(self.browser.run(FOCUS), "page-svg")
         self.browser.keys("Enter")
         svg = self.browser.wait("return mathlay.copied")
         self.assertIn("<defs>", svg)
