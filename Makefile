@@ -4,6 +4,8 @@
 #
 # The program is built and proved by `rt run` in crates/mathlay. What is proved and tested, `rt ci` and tools/quick.py say.
 
+# The packages of the tools, beside their commands.
+PARTS = companion editing second
 PREFIX = /usr/local
 BIN = $(DESTDIR)$(PREFIX)/bin
 SHARE = $(DESTDIR)$(PREFIX)/share/mathlay
@@ -11,7 +13,7 @@ MAN = $(DESTDIR)$(PREFIX)/share/man/man1
 LIB = $(DESTDIR)$(PREFIX)/lib
 INCLUDE = $(DESTDIR)$(PREFIX)/include
 PROGRAM = crates/mathlay/out/mathlay
-TOOLS = page formula picture font_metrics mathml_tree explain
+TOOLS = page formula picture font_metrics mathml_tree explain editor
 
 KIT = $(dir $(shell rt doc))
 ARCHIVE = crates/embed/out/libembed.a
@@ -28,15 +30,16 @@ $(PROGRAM):
 	@exit 1
 
 install: $(PROGRAM)
-	mkdir -p $(BIN) $(MAN) $(SHARE)/tools/companion $(SHARE)/docs $(SHARE)/samples
+	mkdir -p $(BIN) $(MAN) $(PARTS:%=$(SHARE)/tools/%) $(SHARE)/tools/editor $(SHARE)/docs $(SHARE)/samples
 	install -m 755 $(PROGRAM) $(BIN)/mathlay
 	install -m 644 docs/mathlay.1 $(MAN)/mathlay.1
 	install -m 644 VERSION LICENSE-MIT LICENSE-APACHE $(SHARE)
-	install -m 644 docs/FORMATS.md docs/TOOLS.md docs/MATHML.md docs/DIFFERENCES.md $(SHARE)/docs
+	install -m 644 docs/FORMATS.md docs/TOOLS.md docs/EDITOR.md docs/MATHML.md docs/DIFFERENCES.md $(SHARE)/docs
 	install -m 644 samples/latin-modern-math.metrics samples/README.md samples/*.mml samples/*.html \
 	    samples/*.json samples/*.script $(SHARE)/samples
 	install -m 644 tools/operators.txt tools/stand_ins.txt $(TOOLS:%=tools/%.py) $(SHARE)/tools
-	install -m 644 tools/companion/*.py $(SHARE)/tools/companion
+	for part in $(PARTS); do install -m 644 tools/$$part/*.py $(SHARE)/tools/$$part || exit 1; done
+	install -m 644 tools/editor/editor.html tools/editor/editor.css tools/editor/editor.js $(SHARE)/tools/editor
 	for tool in $(TOOLS); do \
 	    sed "s|@TOOL@|$$tool.py|" tools/installed.sh > $(BIN)/mathlay-$$tool && chmod 755 $(BIN)/mathlay-$$tool || exit 1; \
 	done

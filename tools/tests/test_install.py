@@ -61,7 +61,7 @@ class Installed(InFolder):
     def test_program_and_tools(self):
         subprocess.run(["make", "-C", TOP, "install", f"PREFIX={self.folder}"], check=True, capture_output=True)
         names = sorted(os.listdir(self.folder / "bin"))
-        self.assertEqual(names, ["mathlay", "mathlay-explain", "mathlay-font_metrics", "mathlay-formula", "mathlay-mathml_tree",
+        self.assertEqual(names, ["mathlay", "mathlay-editor", "mathlay-explain", "mathlay-font_metrics", "mathlay-formula", "mathlay-mathml_tree",
                                  "mathlay-page", "mathlay-picture"])
         samples = self.folder / "share" / "mathlay" / "samples"
         tree = self.folder / "q.json"
