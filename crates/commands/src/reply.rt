@@ -69,7 +69,7 @@ impl Respond for Session {
 
 /// Does what a line of a script asks for, and says what is answered.
 #[tactic(auto, unfolding(crate::specs::Replies::reply_to, crate::specs::Replies::after_line, crate::specs::Steps::accepted_in))]
-fn reply_to<L: Ledger>(
+pub fn reply_to<L: Ledger>(
     alloc: Global,
     session: &mut Session,
     line: &[u8],
