@@ -52,7 +52,7 @@ class Sentences(InFolder):
 
     def test_the_statuses_are_on_the_first_screen(self):
         first = (TOP / "docs" / "FORMATS.md").read_text().split("\n")[:40]
-        self.assertEqual(sum(bool(re.match(r"\| \d \|", line)) for line in first), 9)
+        self.assertEqual(sum(bool(re.match(r"\| \d+ \|", line)) for line in first), 11)
 
     def test_what_is_no_refusal(self):
         for words in (("hello",), ("metrics", 1, 16), ("tree", 1, 12), ("refused", "everything")):
