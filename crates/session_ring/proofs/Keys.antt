@@ -1,0 +1,25 @@
+-- The keys of an object.
+use Rattle.std.proofs.Common.{◌≡◌, ap, refl, ℕ, List, [], ◌∷◌, Bool, true, false, ◌&&◌, Some, None, String, Global, string_bytes, BTreeMap}
+use Rattle.std.proofs.lemmas.Str.{IsUtf8-from_is_utf8, is_utf8-from_IsUtf8}
+use Rattle.std.specs.List.{list_all}
+use Rattle.std.specs.Map.{keys_of as keys_of_entries}
+use Rattle.std.specs.Str.{IsUtf8, is_utf8}
+use Rattle.serde_json.specs.Data.{Data}
+use Rattle.serde_json.specs.Read.{read}
+use Rattle.serde_json.specs.View.{view, members_view}
+use Rattle.serde_json.specs.declared.value.Value.{Value, Object}
+use Rattle.serde_json.proofs.Views.{view-Object}
+use Rattle.math_tree.specs.Elements.{keys_of}
+use Rattle.session_ring.specs.Moves.{has_op_alone, is_op}
+
+all_keys : (test : List ℕ → Bool) (entries : List (String Global × Value))
+    → list_all (λ key. test (string_bytes key)) (keys_of_entries entries)
+    ≡ list_all test (keys_of (members_view entries))
+all_keys test [] = refl
+all_keys test (entry ∷ entries) = ap (λ rest. test (string_bytes entry.0) && rest) (all_keys test entries)
+
+pub no_other_keys : (members : BTreeMap (String Global) Value)
+    → list_all (λ key. is_op (string_bytes key)) (keys_of_entries members.entries)
+    ≡ has_op_alone (view (Object members))
+unfolding has_op_alone
+no_other_keys members = rw (view-Object members) (all_keys is_op members.entries)
