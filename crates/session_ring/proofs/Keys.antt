@@ -1,4 +1,4 @@
--- The keys of an object.
+-- The JSON value of a line, and the keys of an object.
 use Rattle.std.proofs.Common.{◌≡◌, ap, refl, ℕ, List, [], ◌∷◌, Bool, true, false, ◌&&◌, Some, None, String, Global, string_bytes, BTreeMap}
 use Rattle.std.proofs.lemmas.Str.{IsUtf8-from_is_utf8, is_utf8-from_IsUtf8}
 use Rattle.std.specs.List.{list_all}
@@ -10,7 +10,19 @@ use Rattle.serde_json.specs.View.{view, members_view}
 use Rattle.serde_json.specs.declared.value.Value.{Value, Object}
 use Rattle.serde_json.proofs.Views.{view-Object}
 use Rattle.math_tree.specs.Elements.{keys_of}
+use Rattle.tree_edits.specs.Commands.{json_in}
 use Rattle.session_ring.specs.Moves.{has_op_alone, is_op}
+
+-- a text that `serde_json` reads, and bytes that have no reading
+pub json_of_text : (bytes : List ℕ) (value : Data) → IsUtf8 bytes → read bytes ≡ Some value → json_in bytes ≡ Some value
+json_of_text bytes value text is = let yes : is_utf8 bytes ≡ true = is_utf8-from_IsUtf8 bytes text in rw yes is
+
+no_json_by : (bytes : List ℕ) (text : Bool) → is_utf8 bytes ≡ text → (IsUtf8 bytes → read bytes ≡ None) → json_in bytes ≡ None
+no_json_by bytes true text none = rw text (none (IsUtf8-from_is_utf8 bytes text))
+no_json_by bytes false text none = rw text refl
+
+pub no_json : (bytes : List ℕ) → (IsUtf8 bytes → read bytes ≡ None) → json_in bytes ≡ None
+no_json bytes none = no_json_by bytes (is_utf8 bytes) refl none
 
 all_keys : (test : List ℕ → Bool) (entries : List (String Global × Value))
     → list_all (λ key. test (string_bytes key)) (keys_of_entries entries)

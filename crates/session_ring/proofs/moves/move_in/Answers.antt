@@ -3,7 +3,7 @@ use Rattle.std.specs.Option.{option_map_or}
 use Rattle.serde_json.specs.Errors.{IsMemory}
 use Rattle.session_ring.specs.Moves.{move_of}
 use Rattle.session_ring.specs.declared.moves.Move.TheVariants.{Other}
-use Rattle.tree_edits.proofs.Reading.{json_of_text, no_json}
+use Rattle.session_ring.proofs.Keys.{json_of_text, no_json}
 use Rattle.session_ring.proofs.moves.move_in.Goals as goal
 
 pub returns-in-Ok : goal.returns-in-Ok
