@@ -9,5 +9,6 @@ mod Parts
 mod Replying
 mod RepliesLaws
 mod DigitWords
+mod Limits
 mod Histories
 mod Worked

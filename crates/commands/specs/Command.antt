@@ -1,8 +1,8 @@
 -- The words after the program's name.
-use Rattle.std.specs.Prelude.{ℕ, List, [], ◌∷◌, ◌++◌, codes, if◌then◌else◌, Option, Some, None}
+use Rattle.std.specs.Prelude.{ℕ, ◌≤◌, List, [], ◌∷◌, ◌++◌, codes, if◌then◌else◌, Option, Some, None}
 use Rattle.std.specs.Option.{option_and_then, option_map}
 use Rattle.std.specs.Str.{bytes_eq}
-use Rattle.commands.specs.Numerals.{count_in, depth_in, seed_in}
+use Rattle.commands.specs.Numerals.{count_in, depth_in, most_undone, seed_in}
 use Rattle.commands.specs.declared.command.Job.{Job as JobOfWords}
 use Rattle.commands.specs.declared.command.Job.TheVariants.{OverTree as WithTree, Generate}
 use Rattle.commands.specs.declared.command.Request.{Request}
@@ -29,6 +29,17 @@ pub data Job : Type 0 where
 pub record Asked : Type 0 where
   pub job : Job
   pub metrics : List ℕ
+
+-- the depth of a history is 1 to 1,000
+abbrev pub IsWorkInLimits : Work → Type 0
+IsWorkInLimits LaysOut = Unit {0}
+IsWorkInLimits (Edits script) = Unit {0}
+IsWorkInLimits Checks = Unit {0}
+IsWorkInLimits (Remembers depth script) = (1 ≤ depth) × (depth ≤ most_undone)
+
+abbrev pub IsInLimits : Job → Type 0
+IsInLimits (OverTree work tree) = IsWorkInLimits work
+IsInLimits (Generates seed count) = Unit {0}
 
 -- the work that a word names, by the words behind the two files; words are compared exactly
 abbrev pub work_named : List ℕ → List (List ℕ) → Option Work
