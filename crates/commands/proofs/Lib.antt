@@ -10,5 +10,6 @@ mod Replying
 mod RepliesLaws
 mod CoordinateWords
 mod DigitWords
+mod Limits
 mod Histories
 mod Worked

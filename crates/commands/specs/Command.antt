@@ -1,10 +1,10 @@
 -- The words after the program's name.
-use Rattle.std.specs.Prelude.{ℕ, List, [], ◌∷◌, ◌++◌, codes, if◌then◌else◌, Option, Some, None}
+use Rattle.std.specs.Prelude.{ℕ, ◌≤◌, List, [], ◌∷◌, ◌++◌, codes, if◌then◌else◌, Option, Some, None}
 use Rattle.std.specs.Option.{option_and_then, option_map}
 use Rattle.std.specs.Str.{bytes_eq}
 use Rattle.queries.specs.declared.query.Query.{Query}
 use Rattle.queries.specs.declared.query.Query.TheVariants.{Paint, Hit, Select}
-use Rattle.commands.specs.Numerals.{coordinate_in, count_in, id_in, seed_in, depth_in}
+use Rattle.commands.specs.Numerals.{coordinate_in, count_in, depth_in, id_in, most_undone, seed_in}
 use Rattle.commands.specs.declared.command.Job.{Job as JobOfWords}
 use Rattle.commands.specs.declared.command.Job.TheVariants.{OverTree as WithTree, Generate}
 use Rattle.commands.specs.declared.command.Request.{Request}
@@ -33,6 +33,18 @@ pub data Job : Type 0 where
 pub record Asked : Type 0 where
   pub job : Job
   pub metrics : List ℕ
+
+-- the depth of a history is 1 to 1,000
+abbrev pub IsWorkInLimits : Work → Type 0
+IsWorkInLimits LaysOut = Unit {0}
+IsWorkInLimits (Edits script) = Unit {0}
+IsWorkInLimits Checks = Unit {0}
+IsWorkInLimits (Asks query) = Unit {0}
+IsWorkInLimits (Remembers depth script) = (1 ≤ depth) × (depth ≤ most_undone)
+
+abbrev pub IsInLimits : Job → Type 0
+IsInLimits (OverTree work tree) = IsWorkInLimits work
+IsInLimits (Generates seed count) = Unit {0}
 
 -- which element a point lies in
 abbrev pub point_of : List ℕ → List ℕ → Option Query

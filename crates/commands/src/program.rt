@@ -6,7 +6,7 @@ ghost use Rattle.box_writer.specs.Lines.{text_of};
 ghost use Rattle.queries.specs.Queries.{IsWritable, bytes_of};
 ghost use Rattle.generator.specs.Steps.{TakesForRun as TakesForGenerated};
 ghost use Rattle.generator.specs.Summary.{lines_of};
-ghost use Rattle.commands.specs.Command.{asked_by, asked_of, job_of, work_of, LaysOut, Edits, Remembers};
+ghost use Rattle.commands.specs.Command.{IsInLimits, IsWorkInLimits, asked_by, asked_of, job_of, work_of, LaysOut, Edits, Remembers};
 ghost use Rattle.commands.specs.Answer.{answer, answer_over, answer_with, answered, asked_of_page, checked, done, generates, laid_out, lines_of_page, scripted, started, whole_text};
 ghost use Rattle.commands.specs.Ends.{Answered, AnsweredJob, Delivers, Ends, EndsBeforeTree, EndsUnlaid, GivesOr, IsJobInParts, JobStepsStand, LacksFile, StepsStand, TakesNoSteps, Written};
 ghost use Rattle.commands.specs.Parts.{LacksNext, LacksScript, LacksTree};
@@ -64,6 +64,7 @@ fn answer<I: Inputs, O: Sink, L: Ledger>(
     out: &mut O,
     steps: &mut Steps<L>,
 ) -> Status
+    requires limits { IsInLimits (asked_of request).job }
     ensures answered { AnsweredJob (IsJobInParts (asked_of request.entry).job)
         (option_map (answer (asked_of request.entry)) (I.told inputs.old).files)
         (LacksFile (Some (asked_of request.entry)))
@@ -88,6 +89,7 @@ fn answer_with<I: Inputs, O: Sink, L: Ledger>(
     out: &mut O,
     steps: &mut Steps<L>,
 ) -> Status
+    requires limits { IsInLimits (job_of job) }
     ensures answered { AnsweredJob (IsJobInParts (job_of job.entry))
         (option_map (answer_with (job_of job.entry) metrics) (I.told inputs.old).files)
         (LacksNext (job_of job.entry) metrics)
@@ -113,6 +115,7 @@ fn answer_over<I: Inputs, O: Sink, L: Ledger>(
     out: &mut O,
     steps: &mut Steps<L>,
 ) -> Status
+    requires limits { IsWorkInLimits (work_of task) }
     ensures answered { Answered (work_of task.entry)
         (option_map (answer_over (work_of task.entry) metrics name.now) (I.told inputs.old).files)
         (LacksTree (work_of task.entry) metrics name.now)
@@ -143,6 +146,7 @@ fn do_task<I: Inputs, O: Sink, L: Ledger>(
     out: &mut O,
     steps: &mut Steps<L>,
 ) -> Status
+    requires limits { IsWorkInLimits (work_of task) }
     ensures answered { Answered (work_of task.entry)
         (option_map (done (work_of task.entry) metrics tree) (I.told inputs.old).files)
         (LacksScript (work_of task.entry) metrics tree)

@@ -1,5 +1,5 @@
 -- A later next id makes no difference to the layouts that an edit needs which gives no ids.
-use Rattle.std.specs.Prelude.{◌≡◌, ◌⊎◌, inl, inr, sym, subst, ℕ, ◌≤◌, ◌^◌, List, [], ◌∷◌}
+use Rattle.std.proofs.Common.{◌≡◌, ◌⊎◌, inl, inr, sym, subst, ℕ, ◌≤◌, ◌^◌, List, [], ◌∷◌}
 use Rattle.std.specs.List.{AllByRecursion}
 use Rattle.font_metrics.specs.Metrics.{MetricsValue}
 use Rattle.math_tree.specs.Trees.{TreeValue}

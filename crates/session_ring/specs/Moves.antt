@@ -10,11 +10,18 @@ use Rattle.tree_edits.specs.Commands.{json_in}
 use Rattle.session_ring.specs.declared.moves.Move.{Move}
 use Rattle.session_ring.specs.declared.moves.Move.TheVariants.{Undo, Redo, Other}
 
+abbrev pub is_op : List ℕ → Bool
+is_op key = bytes_eq key (codes "op")
+
+-- there is no key but `op`
+unfoldable pub has_op_alone : Data → Bool
+has_op_alone value = list_all is_op (keys_in value)
+
 -- an object with the one key `op`, under which this word stands
 abbrev pub asks_for : List ℕ → Data → Bool
 asks_for word value =
     option_map_or (bytes_eq word) (option_and_then as_str (get (codes "op") value)) false
-    && list_all (bytes_eq (codes "op")) (keys_in value)
+    && has_op_alone value
 
 unfoldable pub move_of : Data → Move
 move_of value =

@@ -1,10 +1,7 @@
 //! Lines of a script that go through its history.
-ghost use Rattle.std.specs.Prelude.{◌≡◌, IfOk, codes};
-ghost use Rattle.std.specs.List.{list_all};
-ghost use Rattle.std.specs.Str.{bytes_eq};
+ghost use Rattle.std.specs.Prelude.{◌≡◌, IfOk};
 ghost use Rattle.serde_json.specs.View.{view};
-ghost use Rattle.math_tree.specs.Elements.{keys_in};
-ghost use Rattle.session_ring.specs.Moves.{asks_for, move_in, move_of};
+ghost use Rattle.session_ring.specs.Moves.{asks_for, has_op_alone, is_op, move_in, move_of};
 
 use fixed_units::Memory;
 use serde_json::Value;
@@ -38,7 +35,7 @@ pub fn move_in(alloc: Global, line: &[u8]) -> Result<Move, Memory>
 }
 
 /// The way that the value of a line asks for.
-#[tactic(auto, unfolding(crate::specs::History::move_of))]
+#[tactic(auto, unfolding(crate::specs::Moves::move_of))]
 fn move_of(value: &Value) -> Move
     ensures { result ≡ move_of (view value.now) }
 {
@@ -62,11 +59,19 @@ fn asks_for(word: &str, value: &Value) -> bool
         && has_op_alone(value)
 }
 
+/// Whether the value has no key but `op`.
+#[tactic(auto, unfolding(crate::specs::Moves::has_op_alone))]
 fn has_op_alone(value: &Value) -> bool
-    ensures { result ≡ list_all (bytes_eq (codes "op")) (keys_in (view value.now)) }
+    ensures { result ≡ has_op_alone (view value.now) }
 {
     match value {
-        Value::Object(members) => members.keys().all(|key| key.as_str() == "op"),
+        Value::Object(members) => members.keys().all(|key| is_op(key)),
         _ => true,
     }
+}
+
+fn is_op(key: &str) -> bool
+    ensures { result ≡ is_op key.now }
+{
+    key == "op"
 }

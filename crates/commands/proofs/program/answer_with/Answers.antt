@@ -1,12 +1,15 @@
 use Rattle.std.proofs.Common.{inl, subst, sym, ap}
 use Rattle.std.specs.Option.{option_map}
 use Rattle.commands.specs.Answer.{answer_with}
-use Rattle.commands.specs.Command.{Job, job_of, work_of}
+use Rattle.commands.specs.Command.{IsInLimits, Job, job_of, work_of}
 use Rattle.commands.specs.Ends.{AnsweredJob, IsJobInParts, JobStepsStand}
 use Rattle.commands.specs.Parts.{LacksNext}
 use Rattle.commands.specs.Steps.{TakesForJob}
 use Rattle.commands.proofs.Answering.{generated_answers, over_tree_answers}
 use Rattle.commands.proofs.program.answer_with.Goals as goal
+
+pub answer_over-requires : goal.answer_over-requires
+answer_over-requires g c = subst (λ (job : Job). IsInLimits job) (ap job_of c.in-OverTree.is) c.requires
 
 pub returns-in-OverTree-clause-answered : goal.returns-in-OverTree-clause-answered
 returns-in-OverTree-clause-answered g c =

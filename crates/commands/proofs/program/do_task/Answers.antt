@@ -1,12 +1,18 @@
 use Rattle.std.proofs.Common.{inl, refl, subst, sym, ap}
 use Rattle.std.specs.Option.{option_map}
 use Rattle.commands.specs.Answer.{done}
-use Rattle.commands.specs.Command.{Work, work_of}
+use Rattle.commands.specs.Command.{IsWorkInLimits, Work, work_of}
 use Rattle.commands.specs.Ends.{Answered}
 use Rattle.commands.specs.Parts.{LacksScript}
 use Rattle.commands.specs.Steps.{TakesForWork}
 use Rattle.commands.proofs.Answering.{asked_answers, checked_answers, laid_out_answers}
 use Rattle.commands.proofs.program.do_task.Goals as goal
+
+pub remember-requires-clause-some : goal.remember-requires-clause-some
+remember-requires-clause-some g c = (subst (λ (work : Work). IsWorkInLimits work) (ap work_of c.in-Remember.is) c.requires).0
+
+pub remember-requires-clause-few : goal.remember-requires-clause-few
+remember-requires-clause-few g c = (subst (λ (work : Work). IsWorkInLimits work) (ap work_of c.in-Remember.is) c.requires).1
 
 pub returns-in-Layout-clause-answered : goal.returns-in-Layout-clause-answered
 returns-in-Layout-clause-answered g c =

@@ -6,7 +6,7 @@ use Rattle.commands.specs.Replies.{IsReplyOfFont, text_of_reply}
 use Rattle.commands.specs.declared.replies.Stop.TheVariants as stop
 use Rattle.commands.proofs.Histories.{history_keeps}
 use Rattle.commands.proofs.Replying.{not_told, told}
-use Rattle.commands.proofs.history.RingRespond.answer_line.Goals as goal
+use Rattle.commands.proofs.history.RingUndoableRespond.answer_line.Goals as goal
 
 -- the metrics with which the reply is written are those of before
 pub write-requires : goal.write-requires
