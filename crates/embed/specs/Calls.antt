@@ -77,7 +77,7 @@ abbrev pub Tells : Seen → Seen → Answer → Type 0
 Tells old new Done = Keeps old.kept (λ desk. Copies (text desk) old.bytes new.bytes new.told) × (new.kept ≡ old.kept)
 Tells old new Short =
     Keeps old.kept (λ desk. (length old.bytes < length (text desk))
-      × (new ≡ record old { told = length (text desk) }))
+    × (new ≡ record old { told = length (text desk) }))
 Tells old new Memory = (old.kept ≢ None) × (new ≡ old)
 Tells old new Closed = (old.kept ≡ None) × (new ≡ old)
 Tells old new answer = ⊥

@@ -25,8 +25,6 @@ impl Model for Handle {
     ghost also_owns = { λ handle. handle_owns handle.at handle.kept };
 }
 
-unsafe impl Send for Handle {}
-
 impl Handle {
     /// A handle that keeps nothing.
     pub(crate) fn closed() -> Handle
