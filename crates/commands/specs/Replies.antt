@@ -9,7 +9,7 @@ use Rattle.tree_edits.specs.declared.command.Command.{Command}
 use Rattle.tree_edits.specs.declared.command.Command.TheVariants.{Show, Change}
 use Rattle.tree_edits.specs.declared.edit.Edit.{Edit}
 use Rattle.tree_edits.specs.declared.edit.EditRefusal.{EditRefusal}
-use Rattle.tree_edits.specs.declared.edit.EditRefusal.TheVariants.{UnknownNode, NotText, IsText, IndexPast, RootFixed, BadName, RightToLeft, TextLong, TooDeep, TooMany, IdsSpent, Memory}
+use Rattle.tree_edits.specs.declared.edit.EditRefusal.TheVariants.{UnknownNode, NotText, IsText, IndexPast, RootFixed, BadName, RightToLeft, TextLong, TooDeep, TooMany, IdsSpent, IdTaken, Memory}
 use Rattle.layout_model.specs.Layout.{is_tree_in_range}
 use Rattle.box_writer.specs.Items.{IsOfFont}
 use Rattle.box_writer.specs.Lines.{text_of}
@@ -76,6 +76,7 @@ word_of_edit TextLong = codes "long"
 word_of_edit TooDeep = codes "depth"
 word_of_edit TooMany = codes "many"
 word_of_edit IdsSpent = codes "ids"
+word_of_edit IdTaken = codes "taken"
 word_of_edit Memory = codes "memory"
 
 abbrev pub word_of : Cause → List ℕ

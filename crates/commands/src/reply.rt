@@ -178,6 +178,7 @@ fn word_of_edit(reason: EditRefusal) -> &'static str
         EditRefusal::TooDeep => "depth",
         EditRefusal::TooMany => "many",
         EditRefusal::IdsSpent => "ids",
+        EditRefusal::IdTaken => "taken",
         EditRefusal::Memory => "memory",
     }
 }

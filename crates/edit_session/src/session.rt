@@ -4,6 +4,7 @@ ghost use Rattle.fixed_units.specs.declared.refusal.LayRefusal.TheVariants.{Rang
 ghost use Rattle.layout_model.specs.Layout.{is_tree_in_range};
 ghost use Rattle.tree_edits.specs.Applying.{IsProperEdit};
 ghost use Rattle.tree_edits.specs.Edits.{refusal_of};
+ghost use Rattle.tree_edits.specs.Inverses.{edit_of, inverse};
 ghost use Rattle.kept_results.specs.Ends.{kept_count};
 ghost use Rattle.kept_results.specs.Laws.{AllKept};
 ghost use Rattle.kept_edits.specs.ByIds.{TakesNeeded};
@@ -19,7 +20,7 @@ use fixed_units::{LayRefusal, MathBox, Memory, Steps};
 use font_metrics::Metrics;
 use kept_laid::KeptLayout;
 use math_tree::Tree;
-use memo_tree::MemoTree;
+use memo_tree::{MemoTree, Reversal};
 use placement::place_kept;
 use std::alloc::Global;
 use std::marker::Model;
@@ -103,14 +104,54 @@ impl Session {
         ensures unlaid { refusal_of self.old.held.tree edit ≢ None → steps.new ≡ steps.old }
         ensures steps { refusal_of self.old.held.tree edit ≡ None → TakesNeeded self.old.held.metrics self.old.held.tree edit steps.old steps.new }
     {
+        drop(self.carry_out(alloc, edit, steps)?);
+        Ok(())
+    }
+
+    /// Does the same, and answers the inverse of the edit: it gives back the elements of before, with their
+    /// ids, where it is carried out next. Only the next id stays as the edit left it.
+    pub fn edit_back<L: Ledger>(
+        &mut self,
+        alloc: Global,
+        edit: Edit,
+        steps: &mut Steps<L>,
+    ) -> Result<Edit, SessionRefusal>
+        requires proper { IsProperEdit edit }
+        ensures accepted { OnOk result (refusal_of self.old.held.tree edit ≡ None) }
+        ensures edited { OnOk result (self.new.held ≡ edited_session self.old.held edit) }
+        ensures fit { OnOk result (IsInRange self.new.held) }
+        ensures back { IfOk result (λ back. back ≡ inverse self.old.held.tree edit) }
+        ensures refused { IfErr result (IsCause self.old.held edit) }
+        ensures unchanged { OnErr result (self.new ≡ self.old) }
+        ensures unlaid { refusal_of self.old.held.tree edit ≢ None → steps.new ≡ steps.old }
+        ensures steps { refusal_of self.old.held.tree edit ≡ None → TakesNeeded self.old.held.metrics self.old.held.tree edit steps.old steps.new }
+    {
+        Ok(self.carry_out(alloc, edit, steps)?.into_edit())
+    }
+
+    /// Carries an edit out, and answers what takes it back.
+    fn carry_out<L: Ledger>(
+        &mut self,
+        alloc: Global,
+        edit: Edit,
+        steps: &mut Steps<L>,
+    ) -> Result<Reversal, SessionRefusal>
+        requires proper { IsProperEdit edit }
+        ensures accepted { OnOk result (refusal_of self.old.held.tree edit ≡ None) }
+        ensures edited { OnOk result (self.new.held ≡ edited_session self.old.held edit) }
+        ensures fit { OnOk result (IsInRange self.new.held) }
+        ensures back { IfOk result (λ reversal. edit_of reversal.taken ≡ inverse self.old.held.tree edit) }
+        ensures refused { IfErr result (IsCause self.old.held edit) }
+        ensures unchanged { OnErr result (self.new ≡ self.old) }
+        ensures unlaid { refusal_of self.old.held.tree edit ≢ None → steps.new ≡ steps.old }
+        ensures steps { refusal_of self.old.held.tree edit ≡ None → TakesNeeded self.old.held.metrics self.old.held.tree edit steps.old steps.new }
+    {
         let reversal = self.layouts.change(alloc, edit)?;
         match self.layouts.relay(alloc, steps) {
             Ok(()) => {
-                // Dropped by a call, so that the proof doesn't go through all parts.
-                drop(reversal);
                 let made = self.layouts.seal();
                 self.drop_in_time(made);
-                Ok(())
+                Ok(reversal)
             }
             Err(refusal) => {
                 self.layouts.undo_pass();

@@ -10,10 +10,10 @@ use Rattle.tree_edits.specs.Paths.{Fits, changed, changed_at, children_of, node_
 use Rattle.tree_edits.specs.declared.change.Change.{Change}
 use Rattle.splices.specs.Splicing.{spliced, with_room as splice_with_room}
 use Rattle.splices.specs.declared.splice.Splice.{Splice}
-use Rattle.splices.specs.declared.splice.Splice.TheVariants.{Stay, Put, Take, Swap}
+use Rattle.splices.specs.declared.splice.Splice.TheVariants.{Stay, Put, Take, Swap as Exchange}
 use Rattle.tree_edits.specs.declared.change.Change.TheVariants.{SetText, SetValue, Children}
 use Rattle.tree_edits.specs.declared.edit.Edit.{Edit}
-use Rattle.tree_edits.specs.declared.edit.Edit.TheVariants.{Text, Attr, Insert, Remove, Replace}
+use Rattle.tree_edits.specs.declared.edit.Edit.TheVariants.{Text, Attr, Insert, Remove, Replace, Graft, Swap}
 use Rattle.tree_edits.proofs.OneElement.{own_change_law, parent_change_law}
 use Rattle.tree_edits.proofs.Refusals.{accepted}
 use Rattle.tree_edits.proofs.Target.{found_at}
@@ -40,13 +40,17 @@ own_fits tree (Insert id index new) path element whole free own at has =
     (omega (arith, past), omega arith)
 own_fits tree (Remove id) path element whole free own at has = absurd own
 own_fits tree (Replace id new) path element whole free own at has = absurd own
+own_fits tree (Graft id index new) path element whole free own at has =
+    let past = ltb-false (length (children_of element)) index (within tree (Graft id index new) path element whole free at has) in
+    (omega (arith, past), omega arith)
+own_fits tree (Swap id new) path element whole free own at has = absurd own
 
 -- room changes nothing of what a splice or a change makes
 spliced_as_well : (room : ℕ) (splice : Splice Node) (nodes : List Node) → spliced (splice_with_room room splice) nodes ≡ spliced splice nodes
 spliced_as_well room Stay nodes = refl
 spliced_as_well room (Put index child own) nodes = refl
 spliced_as_well room (Take index) nodes = refl
-spliced_as_well room (Swap index child) nodes = refl
+spliced_as_well room (Exchange index child) nodes = refl
 
 same_made : (change : Change) (element x : Node) → changed (with_room change element) x ≡ changed change x
 same_made (SetText text) element x = refl
@@ -69,6 +73,8 @@ parent_fits (Attr id name value) next place element child over at = absurd over
 parent_fits (Insert id index new) next place element child over at = absurd over
 parent_fits (Remove id) next place element child over at = slice_get_within (children_of element) place child at
 parent_fits (Replace id new) next place element child over at = slice_get_within (children_of element) place child at
+parent_fits (Graft id index new) next place element child over at = absurd over
+parent_fits (Swap id new) next place element child over at = slice_get_within (children_of element) place child at
 
 pub parent_edit_law : ParentEditLaw
 parent_edit_law tree edit path element place child whole over at there has = record {

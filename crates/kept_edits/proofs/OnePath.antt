@@ -12,7 +12,7 @@ use Rattle.tree_edits.specs.Paths.{children_of, node_at}
 use Rattle.tree_edits.specs.Reasons.{shown}
 use Rattle.tree_edits.specs.declared.change.Change.{Change}
 use Rattle.tree_edits.specs.declared.edit.Edit.{Edit}
-use Rattle.tree_edits.specs.declared.edit.Edit.TheVariants.{Text, Attr, Insert, Remove, Replace}
+use Rattle.tree_edits.specs.declared.edit.Edit.TheVariants.{Text, Attr, Insert, Remove, Replace, Graft, Swap}
 use Rattle.tree_edits.proofs.Frames.{down}
 use Rattle.tree_edits.proofs.Reached.{ParentOf, Reached, parent_of, reached}
 use Rattle.tree_edits.proofs.Refusals.{accepted}
@@ -72,6 +72,8 @@ module _ (tree : TreeValue) (whole : IsWhole tree) where
   one_path (Insert id index new) a b x y = one_way_law tree a b x.element y.element id.0 whole x.at x.ends y.at y.ends
   one_path (Remove id) a b x y = over_one id.0 a b x.element y.element x.at x.ends y.at y.ends
   one_path (Replace id new) a b x y = over_one id.0 a b x.element y.element x.at x.ends y.at y.ends
+  one_path (Graft id index new) a b x y = one_way_law tree a b x.element y.element id.0 whole x.at x.ends y.at y.ends
+  one_path (Swap id new) a b x y = over_one id.0 a b x.element y.element x.at x.ends y.at y.ends
 
   -- ---- one
 
@@ -100,6 +102,10 @@ module _ (tree : TreeValue) (whole : IsWhole tree) where
   ends (Replace id new) free =
       let way = reached id.0 tree.root (accepted tree (Replace id new) free).known in
       inr (over_named (Replace id new) way.path way.element free tt (λ element. refl) way.at way.has)
+  ends (Graft id index new) free = inl (tt, reached id.0 tree.root (accepted tree (Graft id index new) free).known)
+  ends (Swap id new) free =
+      let way = reached id.0 tree.root (accepted tree (Swap id new) free).known in
+      inr (over_named (Swap id new) way.path way.element free tt (λ element. refl) way.at way.has)
 
   has_path : (edit : Edit) → OnNamed edit ⊎ OnParent edit → (path : List ℕ) × IsEditPath tree edit path
   has_path edit (inl h) = let way = h.1 in (way.path, own_path tree edit way.path way.element h.0 way.at way.has)
@@ -112,7 +118,7 @@ module _ (tree : TreeValue) (whole : IsWhole tree) where
       (with_room (own_change edit tree.next_id) way.element, way.path, own_edit_at tree edit way.path way.element whole after free h.0 way.at way.has)
   has_change edit after free (inr h) =
       let way = h.2 in
-      (parent_change edit tree.next_id way.place, way.path, parent_edit_at tree edit way.path way.element way.place h.1 whole after h.0 way.at way.there h.3)
+      (parent_change edit tree.next_id way.place, way.path, parent_edit_at tree edit way.path way.element way.place h.1 whole after free h.0 way.at way.there h.3)
 
 pub edit_path_law : EditPathLaw
 edit_path_law tree edit whole = (λ free. has_path tree whole edit (ends tree whole edit free), one_path tree whole edit)

@@ -17,7 +17,7 @@ use Rattle.tree_edits.specs.declared.change.Change.{Change}
 use Rattle.tree_edits.proofs.Children.{children_changed, fits_children, id_stays}
 use Rattle.tree_edits.proofs.Frames.{before_change, changed_below, children_rolled, down, framed, head_rolled}
 use Rattle.kept_results.proofs.Lists.{set_cases, set_here}
-use Rattle.kept_edits.specs.ByIds.{BringsNew}
+use Rattle.kept_edits.specs.ByIds.{BringsBy}
 use Rattle.kept_edits.specs.Need.{CameFrom}
 
 abbrev pub id_of : Node → ℕ
@@ -55,28 +55,28 @@ abbrev Below : List ℕ → List Node → ℕ → Node → Type 0
 Below path nodes place n = option_and_then (node_at path) (slice_get nodes place) ≡ Some n
 
 -- it is in what was put in, or in a child that was there
-abbrev Sourced : ℕ → Change → List ℕ → Node → ℕ → Node → Type 0
-Sourced next change path old place n = (next ≤ id_of n) ⊎ ((before : ℕ) × Moves (site_of (splice_of change)) before place × Below path (children_of old) before n)
+abbrev Sourced : (ℕ → Type 0) → Change → List ℕ → Node → ℕ → Node → Type 0
+Sourced New change path old place n = (New (id_of n)) ⊎ ((before : ℕ) × Moves (site_of (splice_of change)) before place × Below path (children_of old) before n)
 
 module _ (path : List ℕ) (n : Node) where
   rolled : (head : Head) (nodes : List Node) (place : ℕ) → Below path (children_of (node_of head nodes)) place n → Below path nodes place n
   rolled head nodes place h = ap (λ (l : List Node). option_and_then (node_at path) (slice_get l place)) (sym (children_rolled head nodes)) ∙ h
 
   -- it is in a child that was put in, or in one that was there
-  of_child : (next : ℕ) (change : Change) (old : Node) (place : ℕ) (child : Node) → BringsNew next change → node_at path child ≡ Some n
+  of_child : (New : ℕ → Type 0) (change : Change) (old : Node) (place : ℕ) (child : Node) → BringsBy New change → node_at path child ≡ Some n
       → Brings (splice_of change) place child ⊎ ((before : ℕ) × Moves (site_of (splice_of change)) before place × (slice_get (children_of old) before ≡ Some child))
-      → Sourced next change path old place n
-  of_child next change old place child new at (inl put) =
-      inl (id_within (λ id. next ≤ id) path child n at
-      (brought_holds (λ (c : Node). AllByRecursion (λ id. next ≤ id) (ids_of (listed 1 c))) (splice_of change) place child new put))
-  of_child next change old place child new at (inr was) = inr (was.0, was.1, ap (option_and_then (node_at path)) was.2 ∙ at)
+      → Sourced New change path old place n
+  of_child New change old place child new at (inl put) =
+      inl (id_within New path child n at
+      (brought_holds (λ (c : Node). AllByRecursion New (ids_of (listed 1 c))) (splice_of change) place child new put))
+  of_child New change old place child new at (inr was) = inr (was.0, was.1, ap (option_and_then (node_at path)) was.2 ∙ at)
 
-  sourced : (next : ℕ) (change : Change) (old : Node) (place : ℕ) → Fits change old → BringsNew next change → Below path (children_of (changed change old)) place n
-      → Sourced next change path old place n
-  sourced next change old place fits new h =
+  sourced : (New : ℕ → Type 0) (change : Change) (old : Node) (place : ℕ) → Fits change old → BringsBy New change → Below path (children_of (changed change old)) place n
+      → Sourced New change path old place n
+  sourced New change old place fits new h =
       let all = spliced (splice_of change) (children_of old) in
       let there = down path (slice_get all place) n (ap (λ (l : List Node). option_and_then (node_at path) (slice_get l place)) (sym (children_changed change old)) ∙ h) in
-      of_child next change old place there.0 new there.2
+      of_child New change old place there.0 new there.2
       (comes (splice_of change) (children_of old) place there.0 (fits_children change old fits) there.1)
 
 -- ---- an element of the changed tree
@@ -100,19 +100,19 @@ pub record StandsOn (path : List ℕ) (old : Node) (id : ℕ) : Type 0 where
 abbrev pub Came : List ℕ → Change → Node → List ℕ → Node → Type 0
 Came path change old to n = (from : List ℕ) × CameFrom path change from to × (node_at from old ≡ Some n)
 
--- it is on the path, or new, or came from elsewhere
-abbrev pub HasOrigin : ℕ → List ℕ → Change → Node → List ℕ → Node → Type 0
-HasOrigin next path change old to n = StandsOn path old (id_of n) ⊎ ((next ≤ id_of n) ⊎ Came path change old to n)
+-- it is on the path, or its id is new, or it came from elsewhere
+abbrev pub HasOrigin : (ℕ → Type 0) → List ℕ → Change → Node → List ℕ → Node → Type 0
+HasOrigin New path change old to n = StandsOn path old (id_of n) ⊎ ((New (id_of n)) ⊎ Came path change old to n)
 
-first_on : (next : ℕ) (path : List ℕ) (change : Change) (old : Node) (n : Node) → FitsAt change path old → node_at [] (changed_at (changed change) path old) ≡ Some n
-    → HasOrigin next path change old [] n
-first_on next path change old n fits e =
+first_on : (New : ℕ → Type 0) (path : List ℕ) (change : Change) (old : Node) (n : Node) → FitsAt change path old → node_at [] (changed_at (changed change) path old) ≡ Some n
+    → HasOrigin New path change old [] n
+first_on New path change old n fits e =
     let same : id_of old ≡ id_of n = sym (id_after path change old fits) ∙ ap id_of (same_Some (changed_at (changed change) path old) n e) in
     inl (record { front = []; rest = path; parts = refl; element = old; at = refl; has = (Decides-eqb (id_of old) (id_of n)).1 same })
 
-further_down : (next place : ℕ) (path : List ℕ) (change : Change) (old child : Node) (after : ℕ) (to : List ℕ) (n : Node) → slice_get (children_of old) place ≡ Some child
-    → after ≡ place → HasOrigin next path change child to n → HasOrigin next (place ∷ path) change old (after ∷ to) n
-further_down next place path change old child after to n at e (inl on) =
+further_down : (New : ℕ → Type 0) (place : ℕ) (path : List ℕ) (change : Change) (old child : Node) (after : ℕ) (to : List ℕ) (n : Node) → slice_get (children_of old) place ≡ Some child
+    → after ≡ place → HasOrigin New path change child to n → HasOrigin New (place ∷ path) change old (after ∷ to) n
+further_down New place path change old child after to n at e (inl on) =
     inl (record {
       front = place ∷ on.front;
       rest = on.rest;
@@ -121,18 +121,18 @@ further_down next place path change old child after to n at e (inl on) =
       at = ap (option_and_then (node_at on.front)) at ∙ on.at;
       has = on.has;
     })
-further_down next place path change old child after to n at e (inr (inl new)) = inr (inl new)
-further_down next place path change old child after to n at e (inr (inr came)) =
+further_down New place path change old child after to n at e (inr (inl new)) = inr (inl new)
+further_down New place path change old child after to n at e (inr (inr came)) =
     inr (inr (after ∷ came.0, (refl, inl (e, came.1)), ap (option_and_then (node_at came.0)) (ap (slice_get (children_of old)) e ∙ at) ∙ came.2))
 
-module _ (next : ℕ) (change : Change) (new : BringsNew next change) where
+module _ (New : ℕ → Type 0) (change : Change) (new : BringsBy New change) where
   pub origin : (path : List ℕ) (old : Node) (to : List ℕ) (n : Node) → FitsAt change path old → node_at to (changed_at (changed change) path old) ≡ Some n
-      → HasOrigin next path change old to n
-  origin [] old [] n fits e = first_on next [] change old n fits e
-  origin (place ∷ path) old [] n fits e = first_on next (place ∷ path) change old n fits e
+      → HasOrigin New path change old to n
+  origin [] old [] n fits e = first_on New [] change old n fits e
+  origin (place ∷ path) old [] n fits e = first_on New (place ∷ path) change old n fits e
   origin [] old (after ∷ to) n fits e =
       let here = subst (Fits change) (sym (same_Some old fits.element fits.at)) fits.fits in
-      elim (sourced to n next change old after here new e) [
+      elim (sourced to n New change old after here new e) [
         | inl fresh ↦ inr (inl fresh)
         | inr moved ↦ inr (inr (moved.0 ∷ to, (moved.1, refl), moved.2))
       ]
@@ -146,7 +146,7 @@ module _ (next : ℕ) (change : Change) (new : BringsNew next change) where
         | inl same ↦
             let at : slice_get (set nodes place child) after ≡ Some child = ap (slice_get (set nodes place child)) same ∙ set_here nodes place child below.0 below.1 in
             let inside : node_at to child ≡ Some n = ap (option_and_then (node_at to)) (sym at) ∙ there in
-            further_down next place path change old below.0 after to n below.1 same
+            further_down New place path change old below.0 after to n below.1 same
             (origin path below.0 to n record { element = fits.element; at = below.2; fits = fits.fits } inside)
         | inr other ↦
             let found = down to (slice_get (set nodes place child) after) n there in

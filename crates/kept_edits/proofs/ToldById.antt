@@ -29,21 +29,6 @@ use Rattle.kept_edits.proofs.Origins.{HasOrigin, id_of, origin}
 own_id : (element : Node) → has_id (id_of element) (head_of element) ≡ true
 own_id element = (Decides-eqb (id_of element) (id_of element)).1 refl
 
--- ---- ids of a tree
-
--- what holds of all ids of elements holds of one that an element has
-id_listed : (P : ℕ → Type 0) (id : ℕ) (elements : List Listed) → list_any (λ e. has_id id e.head) elements ≡ true → AllByRecursion P (ids_of elements) → P id
-id_listed P id [] h all = absurd (true≢false (sym h))
-id_listed P id (e ∷ elements) h all =
-    elim (or_cases (has_id id e.head) (list_any (λ (x : Listed). has_id id x.head) elements) h) [
-      | inl own ↦ subst P ((Decides-eqb e.head.id.0 id).0 own) all.0
-      | inr further ↦ id_listed P id elements further all.1
-    ]
-
-pub is_old : (tree : TreeValue) (id : ℕ) → IsWhole tree → HasId tree id → id < tree.next_id
-is_old tree id whole has =
-    id_listed (λ n. n < tree.next_id) id (listed 1 tree.root) has (recursion_from_All (λ n. n < tree.next_id) (ids_of (listed 1 tree.root)) whole.given)
-
 -- ---- layouts of a tree
 
 module _ (m : MetricsValue) (tree : TreeValue) where
@@ -118,11 +103,11 @@ module _ (m : MetricsValue) (tree : TreeValue) (edit : Edit) (change : Change) (
   after = edited tree edit
 
   why : (pair : Pair) (need : IsNeededThere m after pair) → IsCounted m path change tree.root (context_at_root m tree) pair
-      → HasOrigin tree.next_id path change tree.root pair.path need.element
+      → HasOrigin (λ id. HasId tree id → ⊥) path change tree.root pair.path need.element
       → IsOnPath tree edit (id_of need.element) ⊎ ((HasId tree (id_of need.element) → ⊥) ⊎ (IsVisited m tree (named m after pair need) → ⊥))
   why pair need counted (inl on) =
       inl (record { path = path; to_end = is.to_end; front = on.front; rest = on.rest; parts = on.parts; element = on.element; at = on.at; has = on.has })
-  why pair need counted (inr (inl fresh)) = inr (inl (λ has. omega (arith, fresh, is_old tree (id_of need.element) is.whole has)))
+  why pair need counted (inr (inl fresh)) = inr (inl fresh)
   why pair need counted (inr (inr came)) =
       inr (inr (λ v. counted came.0 came.1 (needed_at m tree came.0 need.element pair.context is.whole came.2 v)))
 
@@ -133,7 +118,7 @@ module _ (m : MetricsValue) (tree : TreeValue) (edit : Edit) (change : Change) (
       ap (node_at pair.path) (sym is.is.gives) ∙ stands_at m after pair need in
       record {
         visited = visited m after pair need;
-        why = why pair need counted (origin tree.next_id change is.new path tree.root pair.path need.element is.is.fits at);
+        why = why pair need counted (origin (λ id. HasId tree id → ⊥) change is.free path tree.root pair.path need.element is.is.fits at);
       }
 
   pub all_needed : (pairs : List Pair) (needs : AllByRecursion (IsNeededThere m after) pairs)

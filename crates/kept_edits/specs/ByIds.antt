@@ -76,11 +76,14 @@ pub record TakesNeeded (m : MetricsValue) (old : TreeValue) (edit : Edit)
 
 -- ---- counted by places, and by ids
 
--- what a change puts into a tree has no ids but new ones, which are this or above it
-abbrev pub BringsNew : ℕ → Change → Type 0
-BringsNew next change =
-    AllBrought (λ child. AllByRecursion (λ id. next ≤ id) (ids_of (listed 1 child)))
-    (splice_of change)
+-- this holds of all ids in what a change puts into a tree
+abbrev pub BringsBy : (ℕ → Type 0) → Change → Type 0
+BringsBy P change =
+    AllBrought (λ child. AllByRecursion P (ids_of (listed 1 child))) (splice_of change)
+
+-- what it puts into a tree has no ids but free ones, which no element of the tree has
+abbrev pub BringsFree : TreeValue → Change → Type 0
+BringsFree tree change = BringsBy (λ id. HasId tree id → ⊥) change
 
 -- an edit of a whole tree is this change at the end of its path, and leaves a whole tree
 pub record IsEditAt (tree : TreeValue) (edit : Edit) (change : Change)
@@ -89,7 +92,7 @@ pub record IsEditAt (tree : TreeValue) (edit : Edit) (change : Change)
   pub whole_after : IsWhole (edited tree edit)
   pub to_end : IsEditPath tree edit path
   pub is : IsChangeOf tree edit change path
-  pub new : BringsNew tree.next_id change
+  pub free : BringsFree tree change
 
 -- an edit that isn't refused is such a change
 abbrev pub EditAtLaw : Type 0

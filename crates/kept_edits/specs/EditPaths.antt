@@ -6,7 +6,7 @@ use Rattle.math_tree.specs.declared.node.Node.{Node}
 use Rattle.tree_edits.specs.Edits.{has_id, head_of, refusal_of}
 use Rattle.tree_edits.specs.Paths.{children_of, node_at}
 use Rattle.tree_edits.specs.declared.edit.Edit.{Edit}
-use Rattle.tree_edits.specs.declared.edit.Edit.TheVariants.{Text, Attr, Insert, Remove, Replace}
+use Rattle.tree_edits.specs.declared.edit.Edit.TheVariants.{Text, Attr, Insert, Remove, Replace, Graft, Swap}
 
 -- the element that an edit changes: the one that it names, or the one over it
 abbrev pub IsEnd : Edit → Node → Type 0
@@ -16,6 +16,9 @@ IsEnd (Insert id index new) element = has_id id.0 (head_of element) ≡ true
 IsEnd (Remove id) element =
     list_any (λ child. has_id id.0 (head_of child)) (children_of element) ≡ true
 IsEnd (Replace id new) element =
+    list_any (λ child. has_id id.0 (head_of child)) (children_of element) ≡ true
+IsEnd (Graft id index new) element = has_id id.0 (head_of element) ≡ true
+IsEnd (Swap id new) element =
     list_any (λ child. has_id id.0 (head_of child)) (children_of element) ≡ true
 
 -- the path from the root to that element

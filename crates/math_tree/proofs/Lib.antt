@@ -14,6 +14,7 @@ mod Below
 mod Listing
 mod FirstFault
 mod ReadParts
+mod Ordered
 mod Entries
 mod Proper
 mod Whole

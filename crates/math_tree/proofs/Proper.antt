@@ -12,7 +12,7 @@ use Rattle.std.specs.Ordering.{match_ordering}
 use Rattle.std.specs.Str.{bytes_eq}
 use Rattle.serde_json.specs.Data.{Data, null, boolean, number, string, array, object, Items, no_items, item, Members, no_members, member}
 use Rattle.serde_json.specs.Find.{get, get_member, as_str, as_object}
-use Rattle.math_tree.specs.Attributes.{value_of}
+use Rattle.math_tree.specs.Attributes.{IsInOrder, value_of}
 use Rattle.math_tree.specs.Elements.{Element, name_in, kind_in, text_in, children_in, attributes_in, attributes_held, text_held, attribute_of, attributes_of, text_or_empty, is_attribute, are_attributes, is_map_of_attributes, has_attributes, is_right_to_left, has_text, has_children, may_be_text_of, may_stand_below, listed_items}
 use Rattle.math_tree.specs.Faults.{fault_of}
 use Rattle.math_tree.specs.Forms.{is_name, is_short_enough, is_white_space, is_rtl}
@@ -134,9 +134,10 @@ no_child kind (Some (item value items)) e text = absurd (true≢false (sym e ∙
 
 -- ---- the element
 
-pub proper : (portion : Portion) (place bytes id : ℕ) (element : Element) → fault_of portion place bytes element ≡ None → IsProper (entry id element)
+pub proper : (portion : Portion) (place bytes id : ℕ) (element : Element) → fault_of portion place bytes element ≡ None
+    → IsInOrder (attributes_held element.value) → IsProper (entry id element)
 unfolding kind_in has_attributes attributes_held attributes_in is_right_to_left has_text text_held has_children
-proper portion place bytes id element e =
+proper portion place bytes id element e order =
     let value = element.value in
     let tests = no_fault portion place bytes element e in
     let name = tests.1.1.1.1 in
@@ -146,6 +147,7 @@ proper portion place bytes id element e =
       kind = refl;
       name = is_not (is_name (name_in value)) name.0;
       attributes = held_proper (get (codes "attributes") value) (is_not _ attributes.0);
+      order = order;
       text = text_right (kind_in value) (text_in value) (is_not _ text.0);
       childless = no_child (kind_in value) (children_in value) (is_not _ text.1.0);
       textless = no_text (is_text_kind (kind_in value)) _;

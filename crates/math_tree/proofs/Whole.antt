@@ -13,7 +13,7 @@ use Rattle.math_tree.specs.Elements.{Element, elements, name_in, bytes_held}
 use Rattle.math_tree.specs.Faults.{fault_of, first_fault_after}
 use Rattle.math_tree.specs.Forms.{most_levels}
 use Rattle.math_tree.specs.Reading.{Reads, node_of, part_of, part_without, tree_without, tree_of}
-use Rattle.math_tree.specs.Parts.{ReadsPart}
+use Rattle.math_tree.specs.Parts.{AreOrdered, IsOrderedAt, ReadsPart}
 use Rattle.math_tree.specs.Laws.{entry, entries}
 use Rattle.math_tree.specs.Trees.{TreeValue, Listed, ids_of, bytes_of_head, IsPart, IsProper, IsWhole, IsTotalled}
 use Rattle.math_tree.specs.declared.node.Node.{Node}
@@ -40,6 +40,16 @@ module _ (portion : Portion) (P : Listed → Type 0)
       let parts = no_first _ (fault_of portion (count + 1) held element) _ e in
       All-cons P (entry (count + 1) element) (entries (count + 1 + 1) list)
       (each (count + 1) held element parts.0) (all_entries (count + 1) held list parts.1)
+
+-- they are proper, where their attributes stand in order
+all_proper : (portion : Portion) (count bytes : ℕ) (list : List Element) → first_fault_after portion count bytes list ≡ None
+    → AreOrdered (entries (count + 1) list) → All IsProper (entries (count + 1) list)
+all_proper portion count bytes [] e order = All-nil IsProper
+all_proper portion count bytes (element ∷ list) e order =
+    let held = bytes + bytes_held element.value in
+    let parts = no_first _ (fault_of portion (count + 1) held element) _ e in
+    All-cons IsProper (entry (count + 1) element) (entries (count + 1 + 1) list)
+    (proper portion (count + 1) held (count + 1) element parts.0 order.0) (all_proper portion (count + 1) held list parts.1 order.1)
 
 -- ---- their ids, which rise by one
 
@@ -78,13 +88,14 @@ bytes_are id (element ∷ list) =
 
 -- ---- what is read
 
-pub sound : (portion : Portion) (value : Data) → first_fault_after portion 0 0 (elements 1 value) ≡ None → IsPart (node_of 1 value)
-sound portion value e =
+pub sound : (portion : Portion) (value : Data) → first_fault_after portion 0 0 (elements 1 value) ≡ None → IsOrderedAt 1 (node_of 1 value)
+    → IsPart (node_of 1 value)
+sound portion value e order =
     let list = elements 1 value in
     let same = listed_is value 1 1 in
     let limits = all_within portion 0 0 list e (omega arith) (omega arith) in
     record {
-      proper = rw same (all_entries portion IsProper (λ place bytes element none. proper portion place bytes place element none) 0 0 list e);
+      proper = rw same (all_proper portion 0 0 list e (subst AreOrdered same order));
       shallow = rw same (all_entries portion (λ l. l.level ≤ most_levels) (λ place bytes element none. (within portion place bytes element none).level) 0 0 list e);
       few = rw (same, count_is 1 list) (omega (arith, limits.0));
       small = rw (same, bytes_are 1 list) (omega (arith, limits.1));
@@ -98,14 +109,14 @@ root_name bytes value e =
     let tests = no_fault Whole 1 bytes (record { level = 1; value = value }) e in
     (bytes_eq-Decides (name_in value) (codes "math")).0 (is_not (bytes_eq (name_in value) (codes "math")) tests.1.1.1.1.1.0)
 
-whole : (value : Data) (next_id : ℕ) → first_fault_after Whole 0 0 (elements 1 value) ≡ None
+whole : (value : Data) (next_id : ℕ) → first_fault_after Whole 0 0 (elements 1 value) ≡ None → IsOrderedAt 1 (node_of 1 value)
     → next_id ≡ 1 + length (elements 1 value) → IsWhole (record { root = node_of 1 value; next_id = next_id })
-whole value next_id e next =
+whole value next_id e order next =
     let list = elements 1 value in
     let same = listed_is value 1 1 in
     let limits = all_within Whole 0 0 list e (omega arith) (omega arith) in
     let first = no_first _ _ _ (ap (first_fault_after Whole 0 0) (sym (elements_out 1 value)) ∙ e) in
-    let part = sound Whole value e in
+    let part = sound Whole value e order in
     record {
       name = rw (node_out 1 value, out-roll-Node) (root_name (0 + bytes_held value) value first.0);
       first = rw (node_out 1 value, out-roll-Node) refl;
@@ -120,14 +131,14 @@ whole value next_id e next =
 
 -- what was seen of the elements are its totals
 pub totalled : (value : Data) (next_id count held : ℕ) → first_fault_after Whole 0 0 (elements 1 value) ≡ None
-    → next_id ≡ 1 + length (elements 1 value) → count ≡ length (elements 1 value)
+    → IsOrderedAt 1 (node_of 1 value) → next_id ≡ 1 + length (elements 1 value) → count ≡ length (elements 1 value)
     → held ≡ bytes_of (elements 1 value)
     → IsTotalled (record { root = node_of 1 value; next_id = next_id }) count held
-totalled value next_id count held e next counts holds =
+totalled value next_id count held e order next counts holds =
     let list = elements 1 value in
     let same = listed_is value 1 1 in
     record {
-      whole = whole value next_id e next;
+      whole = whole value next_id e order next;
       elements_are = counts ∙ sym (ap length same ∙ count_is 1 list);
       bytes_are = holds ∙ sym (ap (sum_by (λ (e : Listed). bytes_of_head e.head)) same ∙ bytes_are 1 list);
     }
@@ -149,10 +160,10 @@ refused value after Memory e = tt
 
 pub part_read : (value : Data) (after : Seen) (read : Result Node TreeRefusal)
     → ReadsPart Part (elements 1 value) (λ id. node_of id value) (record { elements = 0; bytes = 0 }) after read
-    → Reads {A = Node} (part_of value) read × IfOk read IsPart
+    → IfOk read (IsOrderedAt 1) → Reads {A = Node} (part_of value) read × IfOk read IsPart
 unfolding part_of
-part_read value after (Ok node) e =
+part_read value after (Ok node) e order =
     let meant : node ≡ node_of 1 value = e.1 in
-    (ap (λ fault. part_without fault value) e.0 ∙ ap Ok (sym meant), subst IsPart (sym meant) (sound Part value e.0))
-part_read value after (Err (Fault fault)) e = (ap (λ found. part_without found value) e, tt)
-part_read value after (Err Memory) e = (tt, tt)
+    (ap (λ fault. part_without fault value) e.0 ∙ ap Ok (sym meant), subst IsPart (sym meant) (sound Part value e.0 (subst (IsOrderedAt 1) meant order)))
+part_read value after (Err (Fault fault)) e order = (ap (λ found. part_without found value) e, tt)
+part_read value after (Err Memory) e order = (tt, tt)

@@ -1,10 +1,12 @@
 -- What the reading of a part of a tree answers, where other parts were read before it.
 use Rattle.std.specs.Prelude.{◌≡◌, ℕ, ◌+◌, List, length, map, Option, Some, None, Result, Ok, Err}
-use Rattle.std.specs.List.{flat_map, sum_by}
+use Rattle.std.specs.List.{AllByRecursion, flat_map, sum_by}
 use Rattle.serde_json.specs.Data.{Data}
+use Rattle.math_tree.specs.Attributes.{IsInOrder}
 use Rattle.math_tree.specs.Elements.{Element, over, elements, bytes_held}
 use Rattle.math_tree.specs.Faults.{first_fault_after}
 use Rattle.math_tree.specs.Reading.{planted, nodes_from, node_of}
+use Rattle.math_tree.specs.Trees.{Listed, listed}
 use Rattle.math_tree.specs.declared.fault.TreeFault.{TreeFault}
 use Rattle.math_tree.specs.declared.node.Node.{Node}
 use Rattle.math_tree.specs.declared.portion.Portion.{Portion}
@@ -46,3 +48,16 @@ ReadsElement portion level value = ReadsPart portion (elements level value) (λ 
 abbrev pub ReadsElements : Portion → ℕ → List Data → Seen → Seen → Result (List Node) TreeRefusal → Type 0
 ReadsElements portion level values =
     ReadsPart portion (flat_map (elements level) values) (λ id. nodes_of id values)
+
+-- ---- the order of attributes
+
+-- the attributes of each of these elements stand in order
+abbrev pub AreOrdered : List Listed → Type 0
+AreOrdered elements = AllByRecursion (λ e. IsInOrder e.head.attributes) elements
+
+-- so in an element at a level and in all below it, and in elements side by side
+abbrev pub IsOrderedAt : ℕ → Node → Type 0
+IsOrderedAt level node = AreOrdered (listed level node)
+
+abbrev pub AreOrderedAt : ℕ → List Node → Type 0
+AreOrderedAt level nodes = AreOrdered (flat_map (listed level) nodes)

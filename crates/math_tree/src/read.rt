@@ -1,7 +1,7 @@
 ghost use Rattle.std.specs.Prelude.{◌≡◌, ◌+◌, ◌≤◌, map, IfOk};
 ghost use Rattle.serde_json.specs.View.{view};
 ghost use Rattle.math_tree.specs.Forms.{most_levels, most_elements, most_bytes};
-ghost use Rattle.math_tree.specs.Parts.{ReadsElement, ReadsElements};
+ghost use Rattle.math_tree.specs.Parts.{AreOrderedAt, IsOrderedAt, ReadsElement, ReadsElements};
 ghost use Rattle.math_tree.specs.Reading.{Reads, part_of, tree_of};
 ghost use Rattle.math_tree.specs.Trees.{IsPart};
 
@@ -64,7 +64,8 @@ fn read_element(
     requires level { level ≤ most_levels + 1 }
     requires elements { seen.old.elements ≤ most_elements }
     requires bytes { seen.old.bytes ≤ most_bytes }
-    ensures { ReadsElement portion level (view value.now) seen.old seen.new result }
+    ensures reads { ReadsElement portion level (view value.now) seen.old seen.new result }
+    ensures order { IfOk result (IsOrderedAt level) }
 {
     let keys = Keys::of(value);
     seen.elements += 1;
@@ -76,6 +77,7 @@ fn read_element(
         }));
     }
     let head = Head::of_keys(alloc, NodeId(seen.elements), &keys)?;
+    let _in_order = head.attributes.as_slice();
     let children = read_elements(alloc, portion, below(&keys), level + 1, seen)?;
     Ok(Node { head, children })
 }
@@ -92,7 +94,8 @@ fn read_elements(
     requires level { level ≤ most_levels + 1 }
     requires elements { seen.old.elements ≤ most_elements }
     requires bytes { seen.old.bytes ≤ most_bytes }
-    ensures { ReadsElements portion level (map view values.now) seen.old seen.new result }
+    ensures reads { ReadsElements portion level (map view values.now) seen.old seen.new result }
+    ensures order { IfOk result (AreOrderedAt level) }
 {
     let mut nodes = List::make(alloc);
     for value in values {

@@ -58,7 +58,7 @@ module _ (old : MemoTreeValue) (edit : Edit) (way : Way) (tree : TreeValue) (roo
     }
 
     is_edit_at : IsWhole old.tree → IsWhole tree → IsEditAt old.tree edit is.change way.path
-    is_edit_at whole after = record { whole = whole; whole_after = subst IsWhole made after; to_end = is.leads; is = is.is; new = is.new }
+    is_edit_at whole after = record { whole = whole; whole_after = subst IsWhole made after; to_end = is.leads; is = is.is; free = is.free }
 
     -- what was needed and is of elements that the edit leaves alone is kept
     pub counted : IsWhole old.tree → IsWhole tree → MissingIsCounted old edit record { tree = tree; metrics = old.metrics; memo = now }

@@ -1,5 +1,6 @@
 ghost use Rattle.std.specs.Prelude.{◌≡◌};
 ghost use Rattle.tree_edits.specs.Applying.{CanRestore, restored};
+ghost use Rattle.tree_edits.specs.Inverses.{edit_of};
 ghost use Rattle.kept_edits.specs.Changed.{FitsMemo, undone_memo};
 
 use kept_edits::undo_memo;
@@ -7,7 +8,7 @@ use kept_results::Memo;
 use math_tree::Tree;
 use splices::Splice;
 use std::marker::Model;
-use tree_edits::{Path, Taken, restore};
+use tree_edits::{Edit, Path, Taken, restore};
 
 /// What takes a change of a tree with its kept layouts back.
 #[derive(Debug, Drop)]
@@ -41,6 +42,14 @@ impl Reversal {
         ensures { result ≡ record { taken = taken; path = path; back = back } }
     {
         Reversal { taken, path, back }
+    }
+
+    /// The inverse of the edit: it makes the elements of before, with their ids, of the tree as the
+    /// edit left it. It takes no memory.
+    pub fn into_edit(self) -> Edit
+        ensures { result ≡ edit_of self.taken }
+    {
+        self.taken.into_edit()
     }
 
     /// Takes the change back. It takes no memory.

@@ -2,6 +2,7 @@ ghost use Rattle.std.specs.Prelude.{◌≡◌, ◌≤◌, ◌+◌, ◌-◌, ◌^
 ghost use Rattle.fixed_units.specs.declared.refusal.LayRefusal.TheVariants.{Range};
 ghost use Rattle.tree_edits.specs.Applying.{IsProperEdit, IsReason};
 ghost use Rattle.tree_edits.specs.Edits.{edited, refusal_of};
+ghost use Rattle.tree_edits.specs.Inverses.{edit_of, inverse};
 ghost use Rattle.layout_model.specs.Layout.{is_tree_in_range, laid_tree};
 ghost use Rattle.kept_results.specs.Ends.{fresh_count, kept_count, sealed, stripped};
 ghost use Rattle.kept_results.specs.Kept.{Keeps};
@@ -146,6 +147,7 @@ impl MemoTree {
         ensures stays { OnOk result (EntriesStay self.old edit self.new) }
         ensures counted { OnOk result (MissingIsCounted self.old edit self.new) }
         ensures reversal { IfOk result (λ reversal. Reverses reversal self.new self.old) }
+        ensures back { IfOk result (λ reversal. edit_of reversal.taken ≡ inverse self.old.tree edit) }
         ensures refused { IfErr result (IsReason self.old.tree edit) }
         ensures unchanged { OnErr result (self.new ≡ self.old) }
     {

@@ -63,5 +63,17 @@ fn end_of(path: Path, edit: &Edit) -> Option<Way>
             let site = Site::Swap(place);
             Some(Way { path, site })
         }
+        Edit::Graft(_, index, _) => {
+            let site = Site::Put(*index as usize);
+            Some(Way { path, site })
+        }
+        Edit::Swap(_, _) => {
+            if path.level() == 1 {
+                return None;
+            }
+            let (path, place) = path.split();
+            let site = Site::Swap(place);
+            Some(Way { path, site })
+        }
     }
 }

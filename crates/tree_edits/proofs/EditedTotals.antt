@@ -11,14 +11,14 @@ use Rattle.math_tree.specs.declared.node.NodeId.{NodeId}
 use Rattle.tree_edits.proofs.AttributeBytes.{value_bytes}
 use Rattle.tree_edits.proofs.PathEnds.{ends_at, ended, length_end}
 use Rattle.tree_edits.proofs.Refusals.{all_fail}
-use Rattle.tree_edits.proofs.Sizes.{Changes, Loses, shallow_tree, text_sizes, attribute_sizes, insert_sizes, remove_sizes, replace_sizes}
+use Rattle.tree_edits.proofs.Sizes.{Changes, Loses, shallow_tree, text_sizes, attribute_sizes, insert_sizes, graft_sizes, remove_sizes, replace_sizes, swap_sizes}
 use Rattle.tree_edits.proofs.Target.{is_below_the_root}
 use Rattle.tree_edits.specs.Edits.{head_of, edited, is_deep, is_long_value, with_text, with_attribute}
 use Rattle.tree_edits.specs.Paths.{children_of, node_at}
 use Rattle.tree_edits.specs.Planning.{Allows}
 use Rattle.tree_edits.specs.Reasons.{own_reasons, shown}
-use Rattle.tree_edits.specs.Sizes.{attribute_bytes, capped, size_of, totals_of, with_bytes, without, Adds}
-use Rattle.tree_edits.specs.declared.edit.Edit.TheVariants.{Text, Attr, Insert, Remove, Replace}
+use Rattle.tree_edits.specs.Sizes.{attribute_bytes, capped, size_of, totals_of, with_bytes, without, Adds, AddsOwn}
+use Rattle.tree_edits.specs.declared.edit.Edit.TheVariants.{Text, Attr, Insert, Remove, Replace, Graft, Swap}
 use Rattle.tree_edits.specs.declared.measure.Size.{Size}
 use Rattle.tree_edits.specs.declared.totals.Totals.{Totals}
 
@@ -107,6 +107,17 @@ module _ (tree : TreeValue) (path : List ℕ) (element : Node) where
       (added.deep ∙ ap (λ d. d || is_deep (listed (level + 1) new)) (shallow_tree tree allows.whole) ∙ ap (λ l. is_deep (listed l new)) place ∙ sym sizes.levels)
       (omega (arith, added.elements, sizes.elements)) (omega (arith, added.bytes, sizes.bytes)) (omega (arith, added.next))
 
+  pub graft_totals : (id : NodeId) (index : ℕ) (new : Node) (level : ℕ) (before after : Totals) → Allows (Graft id index new) tree path element
+      → level ≡ 1 + length path → before ≡ totals_of tree → AddsOwn (level + 1) new before after
+      → after ≡ totals_of (edited tree (Graft id index new))
+  graft_totals id index new level before after allows at is adds =
+      let sizes = graft_sizes tree path element allows.whole allows.at id index new allows.has in
+      let added = subst (λ (b : Totals). AddsOwn (level + 1) new b after) is adds in
+      let place : level + 1 ≡ 2 + length path = omega (arith, at) in
+      are_totals (edited tree (Graft id index new)) after
+      (added.deep ∙ ap (λ d. d || is_deep (listed (level + 1) new)) (shallow_tree tree allows.whole) ∙ ap (λ l. is_deep (listed l new)) place ∙ sym sizes.levels)
+      (omega (arith, added.elements, sizes.elements)) (omega (arith, added.bytes, sizes.bytes)) (omega (arith, added.next))
+
   -- ---- a child less
 
   -- the element over the one that goes
@@ -173,6 +184,35 @@ module _ (tree : TreeValue) (path : List ℕ) (element : Node) where
       let added = subst (λ (b : Totals). Adds level new b after) (rest_is ∙ ap (without element) is) adds in
       let place : level ≡ 2 + length child.front = omega (arith, at, ap length child.is, length_end child.front child.place) in
       are_totals (edited tree (Replace id new)) after
+      (added.deep ∙ ap (λ d. d || is_deep (listed level new)) (shallow_tree tree allows.whole) ∙ ap (λ l. is_deep (listed l new)) place ∙ sym sizes.levels)
+      (omega (arith, added.elements, sizes.elements, leaves.elements, allows.whole.few))
+      (omega (arith, added.bytes, sizes.bytes, leaves.bytes, allows.whole.small)) (omega (arith, added.next))
+
+  swapped : (id : NodeId) (new : Node) → Allows (Swap id new) tree path element → IsChild
+  swapped id new allows =
+      let reasons = all_fail (own_reasons (Swap id new) (shown (1 + length path) element)) allows.own in
+      is_child allows.at reasons.1.1.1.0
+
+  pub swap_leaves : (id : NodeId) (new : Node) → Allows (Swap id new) tree path element → Leaves (totals_of tree) (without element (totals_of tree))
+  swap_leaves id new allows =
+      let child = swapped id new allows in
+      let sizes = remove_sizes tree child.front child.parent allows.whole child.at id child.place element child.there allows.has in
+      record {
+        elements = omega (arith, allows.whole.few, sizes.elements);
+        bytes = omega (arith, allows.whole.small, sizes.bytes);
+        is = refl;
+      }
+
+  pub swap_totals : (id : NodeId) (new : Node) (level : ℕ) (before rest after : Totals) → Allows (Swap id new) tree path element
+      → level ≡ 1 + length path → before ≡ totals_of tree → rest ≡ without element before → AddsOwn level new rest after
+      → after ≡ totals_of (edited tree (Swap id new))
+  swap_totals id new level before rest after allows at is rest_is adds =
+      let child = swapped id new allows in
+      let sizes = swap_sizes tree child.front child.parent allows.whole child.at id new child.place element child.there allows.has in
+      let leaves = swap_leaves id new allows in
+      let added = subst (λ (b : Totals). AddsOwn level new b after) (rest_is ∙ ap (without element) is) adds in
+      let place : level ≡ 2 + length child.front = omega (arith, at, ap length child.is, length_end child.front child.place) in
+      are_totals (edited tree (Swap id new)) after
       (added.deep ∙ ap (λ d. d || is_deep (listed level new)) (shallow_tree tree allows.whole) ∙ ap (λ l. is_deep (listed l new)) place ∙ sym sizes.levels)
       (omega (arith, added.elements, sizes.elements, leaves.elements, allows.whole.few))
       (omega (arith, added.bytes, sizes.bytes, leaves.bytes, allows.whole.small)) (omega (arith, added.next))

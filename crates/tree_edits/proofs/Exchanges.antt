@@ -117,6 +117,11 @@ module _ {before after : List Listed} {own made : Listed} {gone new : List Liste
       let both = all_parts P (front ++ (own ∷ exchange.middle)) (gone ++ exchange.back) (subst (AllByRecursion P) exchange.was h) in
       (all_parts P front (own ∷ exchange.middle) both.0).1.0
 
+  pub gone_of_all : (P : Listed → Type 0) → AllByRecursion P before → AllByRecursion P gone
+  gone_of_all P h =
+      let both = all_parts P (exchange.front ++ (own ∷ exchange.middle)) (gone ++ exchange.back) (subst (AllByRecursion P) exchange.was h) in
+      (all_parts P gone exchange.back both.1).0
+
   pub all_exchanged : (P : Listed → Type 0) → AllByRecursion P before → P made → AllByRecursion P new → AllByRecursion P after
   all_exchanged P h here more =
       let front = exchange.front in

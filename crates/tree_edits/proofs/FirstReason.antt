@@ -1,23 +1,24 @@
 -- Which reason against an edit is the first.
-use Rattle.std.proofs.Common.{◌≡◌, ◌∙◌, sym, ap, refl, inl, inr, ℕ, ◌+◌, ◌-◌, ◌^◌, ◌<◌, ◌≤◌, List, [], ◌∷◌, ◌++◌, length, Bool, true, false, cond, nat_lt, Option, Some, None, arith}
+use Rattle.std.proofs.Common.{◌≡◌, ◌∙◌, sym, ap, refl, inl, inr, ℕ, ◌+◌, ◌-◌, ◌^◌, ◌<◌, ◌≤◌, List, [], ◌∷◌, ◌++◌, length, Bool, true, false, cond, nat_lt, Option, Some, None, add-zero, arith}
 use Rattle.std.proofs.lemmas.Bool.{cases_lt, lt-ltb, le-ltb, ltb-false, or_parts}
 use Rattle.std.proofs.lemmas.Option.{none-some}
 use Rattle.std.specs.List.{find, list_any}
 use Rattle.std.specs.Option.{option_map}
 use Rattle.math_tree.specs.Forms.{most_elements, most_bytes}
-use Rattle.math_tree.specs.Trees.{TreeValue, IsWhole, listed, byte_count, element_count}
+use Rattle.math_tree.specs.Trees.{TreeValue, IsWhole, Listed, listed, ids_of, byte_count, element_count}
 use Rattle.math_tree.specs.declared.node.Node.{Node}
 use Rattle.tree_edits.proofs.Allowed.{IsNamed}
 use Rattle.tree_edits.proofs.Refusals.{all_fail}
 use Rattle.tree_edits.proofs.Target.{found_at, found_nowhere}
-use Rattle.tree_edits.specs.Edits.{named, has_id, head_of, edited, is_deep, refusal_of}
+use Rattle.tree_edits.specs.Edits.{named, has_id, head_of, added, edited, are_taken, is_deep, is_taken, refusal_of}
 use Rattle.tree_edits.specs.Paths.{node_at}
 use Rattle.tree_edits.specs.Planning.{Allows}
 use Rattle.tree_edits.specs.Reasons.{broken_limit, first_reason, limits, own_reason, own_reasons, shown}
 use Rattle.tree_edits.specs.Sizes.{capped, totals_of}
 use Rattle.tree_edits.specs.declared.edit.Edit.{Edit}
+use Rattle.tree_edits.specs.declared.edit.Edit.TheVariants.{Text, Attr, Insert, Remove, Replace, Graft, Swap}
 use Rattle.tree_edits.specs.declared.edit.EditRefusal.{EditRefusal}
-use Rattle.tree_edits.specs.declared.edit.EditRefusal.TheVariants.{UnknownNode}
+use Rattle.tree_edits.specs.declared.edit.EditRefusal.TheVariants.{IdTaken, UnknownNode}
 use Rattle.tree_edits.specs.declared.totals.Totals.{Totals}
 
 -- ---- the first of two lists
@@ -74,10 +75,14 @@ edited_limits tree edit =
     let after = edited tree edit in
     limits (is_deep (listed 1 after.root)) (element_count after.root) (byte_count after.root) after.next_id
 
--- the reasons that lie in the edit and its element, and then the limits
+-- whether ids that it keeps aren't free
+abbrev taken_row : TreeValue → Edit → List (Bool × EditRefusal)
+taken_row tree edit = (is_taken edit (edited tree edit).next_id (listed 1 tree.root), IdTaken) ∷ []
+
+-- the reasons that lie in the edit and its element, then the limits, and then ids that aren't free
 parted : (tree : TreeValue) (edit : Edit) (path : List ℕ) (element : Node) → IsWhole tree → node_at path tree.root ≡ Some element
     → has_id (named edit) (head_of element) ≡ true
-    → refusal_of tree edit ≡ first_reason (own_reasons edit (shown (1 + length path) element) ++ edited_limits tree edit)
+    → refusal_of tree edit ≡ first_reason (own_reasons edit (shown (1 + length path) element) ++ (edited_limits tree edit ++ taken_row tree edit))
 unfolding refusal_of
 parted tree edit path element whole at has = rw (found_at tree (named edit) path element whole at has) refl
 
@@ -85,18 +90,52 @@ pub own_first : (tree : TreeValue) (edit : Edit) (path : List ℕ) (element : No
     → own_reason edit (shown (1 + length path) element) ≡ Some reason
     → refusal_of tree edit ≡ Some reason
 own_first tree edit path element reason is own =
-    parted tree edit path element is.whole is.at is.has ∙ first_of_front (own_reasons edit (shown (1 + length path) element)) (edited_limits tree edit) reason own
+    parted tree edit path element is.whole is.at is.has
+    ∙ first_of_front (own_reasons edit (shown (1 + length path) element)) (edited_limits tree edit ++ taken_row tree edit) reason own
+
+-- the limits by the totals of the edited tree
+by_totals : (tree : TreeValue) (edit : Edit) (totals : Totals) → totals ≡ totals_of (edited tree edit)
+    → first_reason (edited_limits tree edit) ≡ broken_limit totals.deep totals.size.elements totals.size.bytes totals.next_id
+by_totals tree edit totals is =
+    let after = edited tree edit in
+    sym (capped_limit (is_deep (listed 1 after.root)) (element_count after.root) (byte_count after.root) after.next_id)
+    ∙ ap (λ (t : Totals). broken_limit t.deep t.size.elements t.size.bytes t.next_id) (sym is)
 
 -- where no such reason lies there, the first limit that is broken
-pub limit_first : (tree : TreeValue) (edit : Edit) (path : List ℕ) (element : Node) (totals : Totals) → Allows edit tree path element
+pub limit_first : (tree : TreeValue) (edit : Edit) (path : List ℕ) (element : Node) (totals : Totals) (reason : EditRefusal) → Allows edit tree path element
     → totals ≡ totals_of (edited tree edit)
-    → refusal_of tree edit ≡ broken_limit totals.deep totals.size.elements totals.size.bytes totals.next_id
-limit_first tree edit path element totals allows is =
-    let after = edited tree edit in
+    → broken_limit totals.deep totals.size.elements totals.size.bytes totals.next_id ≡ Some reason
+    → refusal_of tree edit ≡ Some reason
+limit_first tree edit path element totals reason allows is broken =
     parted tree edit path element allows.whole allows.at allows.has
-    ∙ first_of_back (own_reasons edit (shown (1 + length path) element)) (edited_limits tree edit) allows.own
-    ∙ sym (capped_limit (is_deep (listed 1 after.root)) (element_count after.root) (byte_count after.root) after.next_id)
-    ∙ ap (λ (t : Totals). broken_limit t.deep t.size.elements t.size.bytes t.next_id) (sym is)
+    ∙ first_of_back (own_reasons edit (shown (1 + length path) element)) (edited_limits tree edit ++ taken_row tree edit) allows.own
+    ∙ first_of_front (edited_limits tree edit) (taken_row tree edit) reason (by_totals tree edit totals is ∙ broken)
+
+-- an edit that keeps ids leaves the next id
+pub taken_by : (edit : Edit) (next : ℕ) (before : List Listed) → is_taken edit (next + added edit) before ≡ is_taken edit next before
+taken_by (Text id text) next before = refl
+taken_by (Attr id name value) next before = refl
+taken_by (Insert id index new) next before = refl
+taken_by (Remove id) next before = refl
+taken_by (Replace id new) next before = refl
+taken_by (Graft id index new) next before = ap (λ n. are_taken (ids_of (listed 1 new)) n (ids_of before)) (add-zero next)
+taken_by (Swap id new) next before = ap (λ n. are_taken (ids_of (listed 1 new)) n (ids_of before)) (add-zero next)
+
+one_row : (test : Bool) (answer : Bool) → test ≡ answer → first_reason ((test, IdTaken) ∷ []) ≡ cond answer (Some IdTaken) None
+one_row true answer e = ap (λ b. cond b (Some IdTaken) None) e
+one_row false answer e = ap (λ b. cond b (Some IdTaken) None) e
+
+-- where no limit is broken, whether the ids are free
+pub taken_last : (tree : TreeValue) (edit : Edit) (path : List ℕ) (element : Node) (totals : Totals) (taken : Bool) → Allows edit tree path element
+    → totals ≡ totals_of (edited tree edit)
+    → broken_limit totals.deep totals.size.elements totals.size.bytes totals.next_id ≡ None
+    → is_taken edit tree.next_id (listed 1 tree.root) ≡ taken
+    → refusal_of tree edit ≡ cond taken (Some IdTaken) None
+taken_last tree edit path element totals taken allows is within free =
+    parted tree edit path element allows.whole allows.at allows.has
+    ∙ first_of_back (own_reasons edit (shown (1 + length path) element)) (edited_limits tree edit ++ taken_row tree edit) allows.own
+    ∙ first_of_back (edited_limits tree edit) (taken_row tree edit) (by_totals tree edit totals is ∙ within)
+    ∙ one_row (is_taken edit (edited tree edit).next_id (listed 1 tree.root)) taken (taken_by edit tree.next_id (listed 1 tree.root) ∙ free)
 
 -- ---- what keeps the limits
 

@@ -5,7 +5,7 @@ use Rattle.std.proofs.lemmas.List.Elements.{recursion_from_All, All-from_recursi
 use Rattle.std.proofs.lemmas.List.Sums.{sum_by-cons}
 use Rattle.std.specs.List.{AllByRecursion, flat_map, sum_by}
 use Rattle.math_tree.proofs.Nodes.{by_children, listed_element}
-use Rattle.math_tree.specs.Trees.{Listed, listed, element_count, byte_count, bytes_of_head, IsProper}
+use Rattle.math_tree.specs.Trees.{Listed, listed, ids_of, element_count, byte_count, bytes_of_head, IsProper}
 use Rattle.math_tree.specs.declared.node.Node.{Node}
 use Rattle.tree_edits.proofs.Frames.{entry}
 use Rattle.tree_edits.specs.Paths.{children_of}
@@ -65,6 +65,18 @@ bytes_from_top level n = ap bytes_in (from_top level n) ∙ bytes_raised level (
 pub bytes_at : (level : ℕ) (n : Node) → bytes_in (listed level n) ≡ byte_count n
 bytes_at level n = bytes_from_top level n ∙ sym (bytes_from_top 1 n)
 
+-- ---- the same ids
+
+ids_raised : (more : ℕ) (elements : List Listed) → ids_of (map (raised more) elements) ≡ ids_of elements
+ids_raised more [] = refl
+ids_raised more (e ∷ elements) = ap (◌∷◌ e.head.id.0) (ids_raised more elements)
+
+ids_from_top : (level : ℕ) (n : Node) → ids_of (listed level n) ≡ ids_of (listed 0 n)
+ids_from_top level n = ap ids_of (from_top level n) ∙ ids_raised level (listed 0 n)
+
+pub ids_at : (level : ℕ) (n : Node) → ids_of (listed 1 n) ≡ ids_of (listed level n)
+ids_at level n = ids_from_top 1 n ∙ sym (ids_from_top level n)
+
 -- ---- as proper
 
 lowered : (e : Listed) (a b : ℕ) → IsProper (raised a e) → IsProper (raised b e)
@@ -72,6 +84,7 @@ lowered e a b p = record {
   kind = p.kind;
   name = p.name;
   attributes = p.attributes;
+  order = p.order;
   text = p.text;
   childless = p.childless;
   textless = p.textless;
@@ -87,3 +100,9 @@ proper_at level n h =
     let top = subst (AllByRecursion IsProper) (from_top 1 n) (recursion_from_All IsProper (listed 1 n) h) in
     All-from_recursion IsProper (listed level n)
     (subst (AllByRecursion IsProper) (sym (from_top level n)) (all_lowered (listed 0 n) 1 level top))
+
+pub proper_from : (level : ℕ) (n : Node) → AllByRecursion IsProper (listed level n) → All IsProper (listed 1 n)
+proper_from level n h =
+    let top = subst (AllByRecursion IsProper) (from_top level n) h in
+    All-from_recursion IsProper (listed 1 n)
+    (subst (AllByRecursion IsProper) (sym (from_top 1 n)) (all_lowered (listed 0 n) level 1 top))

@@ -19,6 +19,7 @@ pub mod Target
 -- elements of which some go and others come
 pub mod Exchanges
 pub mod Ids
+pub mod FreeIds
 -- how many elements and bytes there are after an edit, and of how many levels
 pub mod Sizes
 -- an edit that isn't refused leaves a whole tree
@@ -31,12 +32,16 @@ pub mod Inverse
 -- how much there is in an element, and new ids
 mod Measuring
 mod NewIds
+mod Gathered
 -- how many notes of which element stands over which there are
 mod Noted
 -- what planning an edit finds: the numbers of the edited tree, the change that the edit is, and the
 -- first reason against it
 mod Allowed
 mod AttributeBytes
+-- the edit that takes an edit back
+mod WaysTo
+mod Backs
 mod PathEnds
 mod EditedTotals
 mod OneStep
@@ -44,3 +49,5 @@ mod FirstReason
 mod PlanMade
 -- what carrying it out takes gives the tree back
 mod ThereAndBack
+pub mod Inverses
+pub mod Later

@@ -19,7 +19,7 @@ use Rattle.tree_edits.specs.Edits.{named, has_id, head_of, with_text, with_attri
 use Rattle.tree_edits.specs.Laws.{IsOwn, own_change, OwnChangeLaw, IsOfParent, parent_change, ParentChangeLaw}
 use Rattle.tree_edits.specs.Paths.{children_of, node_at, changed_at, changed}
 use Rattle.tree_edits.specs.declared.edit.Edit.{Edit}
-use Rattle.tree_edits.specs.declared.edit.Edit.TheVariants.{Text, Attr, Insert, Remove, Replace}
+use Rattle.tree_edits.specs.declared.edit.Edit.TheVariants.{Text, Attr, Insert, Remove, Replace, Graft, Swap}
 
 -- ---- what an edit makes of an element
 
@@ -50,6 +50,8 @@ made_same (Insert id index new) next head nodes not h =
     ap (λ b. node head (cond b (insert nodes index (renumbered next new)) nodes)) not
 made_same (Remove id) next head nodes not h = ap (node head) (all_kept id.0 nodes h)
 made_same (Replace id new) next head nodes not h = ap (node head) (all_left id.0 (renumbered next new) nodes h)
+made_same (Graft id index new) next head nodes not h = ap (λ b. node head (cond b (insert nodes index new) nodes)) not
+made_same (Swap id new) next head nodes not h = ap (node head) (all_left id.0 new nodes h)
 
 -- ---- how often an id is in a node
 
@@ -63,21 +65,21 @@ own id head = one_if (has_id id head)
 abbrev pub times : ℕ → Node → ℕ
 times id n = sum_by (λ e. own id e.head) (listed 1 n)
 
-times_out : (id : ℕ) (n : Node) → times id n ≡ own id (head_of n) + sum_by (times id) (children_of n)
+pub times_out : (id : ℕ) (n : Node) → times id n ≡ own id (head_of n) + sum_by (times id) (children_of n)
 times_out id n = total_is (own id) n
 
 is_zero : (b : Bool) → one_if b ≡ 0 → b ≡ false
 is_zero true e = absurd (omega (arith, e))
 is_zero false e = refl
 
-has_not : (id : ℕ) (head : Head) → own id head ≡ 0 → has_id id head ≡ false
+pub has_not : (id : ℕ) (head : Head) → own id head ≡ 0 → has_id id head ≡ false
 has_not id head e = is_zero (has_id id head) e
 
-has_one : (id : ℕ) (head : Head) → has_id id head ≡ true → own id head ≡ 1
+pub has_one : (id : ℕ) (head : Head) → has_id id head ≡ true → own id head ≡ 1
 has_one id head e = ap one_if e
 
 -- a child holds it no more often than all of them
-holds : (id : ℕ) (nodes : List Node) (i : ℕ) (child : Node) → slice_get nodes i ≡ Some child → times id child ≤ sum_by (times id) nodes
+pub holds : (id : ℕ) (nodes : List Node) (i : ℕ) (child : Node) → slice_get nodes i ≡ Some child → times id child ≤ sum_by (times id) nodes
 holds id [] i child at = absurd (none-some child at)
 holds id (n ∷ nodes) zero child at =
     let same = ap (times id) (same_Some n child at) in
@@ -165,6 +167,9 @@ own_here (Insert id index new) next n is has =
     ap (λ b. node (head_of n) (cond b (insert (children_of n) index (renumbered next new)) (children_of n))) has
 own_here (Remove id) next n is has = absurd is
 own_here (Replace id new) next n is has = absurd is
+own_here (Graft id index new) next n is has =
+    ap (λ b. node (head_of n) (cond b (insert (children_of n) index new) (children_of n))) has
+own_here (Swap id new) next n is has = absurd is
 
 own_above : (edit : Edit) (next : ℕ) (head : Head) (nodes : List Node) → IsOwn edit → has_id (named edit) head ≡ false
     → made edit next head nodes ≡ node head nodes
@@ -173,6 +178,8 @@ own_above (Attr id name value) next head nodes is not = ap (λ b. node (cond b (
 own_above (Insert id index new) next head nodes is not = ap (λ b. node head (cond b (insert nodes index (renumbered next new)) nodes)) not
 own_above (Remove id) next head nodes is not = absurd is
 own_above (Replace id new) next head nodes is not = absurd is
+own_above (Graft id index new) next head nodes is not = ap (λ b. node head (cond b (insert nodes index new) nodes)) not
+own_above (Swap id new) next head nodes is not = absurd is
 
 -- an edit of the element that it names is the change of that element
 pub own_changed : (edit : Edit) (next : ℕ) (path : List ℕ) (n t : Node) → IsOwn edit → node_at path n ≡ Some t
@@ -247,6 +254,8 @@ up_above (Attr id name value) next head nodes is h = absurd is
 up_above (Insert id index new) next head nodes is h = absurd is
 up_above (Remove id) next head nodes is h = ap (node head) (all_kept id.0 nodes h)
 up_above (Replace id new) next head nodes is h = ap (node head) (all_left id.0 (renumbered next new) nodes h)
+up_above (Graft id index new) next head nodes is h = absurd is
+up_above (Swap id new) next head nodes is h = ap (node head) (all_left id.0 new nodes h)
 
 gone : (b : Bool) (n : Node) (rest : List Node) → b ≡ true → cond (not b) (n ∷ rest) rest ≡ rest
 gone b n rest e = rw e refl
@@ -301,6 +310,8 @@ up_here (Insert id index new) next n i child is at has once = absurd is
 up_here (Remove id) next n i child is at has once = ap (node (head_of n)) (one_goes id.0 (children_of n) i child at has once)
 up_here (Replace id new) next n i child is at has once =
     ap (node (head_of n)) (one_swapped id.0 (renumbered next new) (children_of n) i child at has once)
+up_here (Graft id index new) next n i child is at has once = absurd is
+up_here (Swap id new) next n i child is at has once = ap (node (head_of n)) (one_swapped id.0 new (children_of n) i child at has once)
 
 -- what stands at a place is put back there
 put_back : (nodes : List Node) (i : ℕ) (child : Node) → slice_get nodes i ≡ Some child → slice_set nodes i child ≡ nodes
@@ -317,6 +328,8 @@ head_kept (Attr id name value) next head nodes is = absurd is
 head_kept (Insert id index new) next head nodes is = absurd is
 head_kept (Remove id) next head nodes is = head_rolled head (filter (λ n. not (has_id id.0 (head_of n))) nodes)
 head_kept (Replace id new) next head nodes is = head_rolled head (map (λ n. cond (has_id id.0 (head_of n)) (renumbered next new) n) nodes)
+head_kept (Graft id index new) next head nodes is = absurd is
+head_kept (Swap id new) next head nodes is = head_rolled head (map (λ n. cond (has_id id.0 (head_of n)) new n) nodes)
 
 same_head : (edit : Edit) (next : ℕ) (n : Node) → IsOfParent edit → head_of (edited_node edit next n) ≡ head_of n
 same_head edit next n is =

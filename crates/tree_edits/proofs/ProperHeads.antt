@@ -9,7 +9,8 @@ use Rattle.std.specs.Option.{option_map, option_map_or}
 use Rattle.std.specs.Ordering.{match_ordering}
 use Rattle.std.specs.Str.{bytes_eq}
 use Rattle.math_tree.proofs.Lookup.{compare, tested}
-use Rattle.math_tree.specs.Attributes.{value_of, put, without}
+use Rattle.math_tree.proofs.Puts.{put_in_order, without_in_order}
+use Rattle.math_tree.specs.Attributes.{IsInOrder, value_of, put, without}
 use Rattle.math_tree.specs.Forms.{is_name, is_short_enough, is_rtl}
 use Rattle.math_tree.specs.Kinds.{is_text_kind}
 use Rattle.math_tree.specs.Trees.{IsProper, IsProperAttribute}
@@ -45,7 +46,7 @@ taken : (t : Bool) (a : Attribute) (found : Option Attribute)
 taken true a found = refl
 taken false a found = refl
 
-first_value : (key : List ℕ) (a : Attribute) (xs : List Attribute)
+pub first_value : (key : List ℕ) (a : Attribute) (xs : List Attribute)
     → value_of key (a ∷ xs) ≡ cond (bytes_eq a.name key) (Some a.value) (value_of key xs)
 first_value key a xs = taken (bytes_eq a.name key) a (find (λ (x : Attribute). bytes_eq x.name key) xs)
 
@@ -145,6 +146,10 @@ direction_kept name None xs left h =
     let key = codes "dir" in
     subst IsLeftToRight (sym (value_of_without key name xs)) (direction_gone (bytes_eq name key) (value_of key xs) h)
 
+order_kept : (name : List ℕ) (value : Option (List ℕ)) (xs : List Attribute) → IsInOrder xs → IsInOrder (with_value name value xs)
+order_kept name (Some value) xs h = put_in_order (record { name = name; value = value }) xs h
+order_kept name None xs h = without_in_order name xs h
+
 -- ---- elements
 
 pub proper_attribute : (level children : ℕ) (head : Head) (name : List ℕ) (value : Option (List ℕ))
@@ -154,6 +159,7 @@ proper_attribute level children head name value named short left p = record {
   kind = p.kind;
   name = p.name;
   attributes = attributes_kept name value head.attributes named short p.attributes;
+  order = order_kept name value head.attributes p.order;
   text = p.text;
   childless = p.childless;
   textless = p.textless;
@@ -166,6 +172,7 @@ proper_text level children head text is_text short p = record {
   kind = p.kind;
   name = p.name;
   attributes = p.attributes;
+  order = p.order;
   text = short;
   childless = p.childless;
   textless = λ other. absurd (true≢false (sym is_text ∙ other));
@@ -178,6 +185,7 @@ proper_children level children others head childless p = record {
   kind = p.kind;
   name = p.name;
   attributes = p.attributes;
+  order = p.order;
   text = p.text;
   childless = childless;
   textless = p.textless;

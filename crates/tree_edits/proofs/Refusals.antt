@@ -1,11 +1,11 @@
 -- An edit that isn't refused passes each test.
-use Rattle.std.proofs.Common.{◌≡◌, sym, refl, ℕ, ◌^◌, List, [], ◌∷◌, Bool, true, false, cond, nat_lt, Option, Some, None, is_some}
+use Rattle.std.proofs.Common.{◌≡◌, sym, refl, ℕ, ◌^◌, List, [], ◌∷◌, Bool, true, false, not, cond, nat_lt, Option, Some, None, is_some, true≢false}
 use Rattle.std.proofs.lemmas.Bool.{not-false}
 use Rattle.std.proofs.lemmas.Option.{none-some}
 use Rattle.std.specs.List.{AllByRecursion, find}
 use Rattle.std.specs.Option.{option_map}
 use Rattle.math_tree.specs.Trees.{TreeValue, Listed, listed}
-use Rattle.tree_edits.specs.Edits.{edited, is_not_text, is_in_text, is_past, is_fixed, is_misnamed, is_right_to_left, is_long, is_deep, is_large, target, at_target, refusals, first_refusal, refusal_of}
+use Rattle.tree_edits.specs.Edits.{edited, is_not_text, is_in_text, is_past, is_fixed, is_misnamed, is_right_to_left, is_long, is_deep, is_large, is_taken, target, at_target, refusals, first_refusal, refusal_of}
 use Rattle.tree_edits.specs.Reasons.{first_reason}
 use Rattle.tree_edits.specs.declared.edit.Edit.{Edit}
 use Rattle.tree_edits.specs.declared.edit.EditRefusal.{EditRefusal}
@@ -40,6 +40,7 @@ pub record IsAccepted (before after : List Listed) (next : ℕ) (edit : Edit) : 
   pub shallow : is_deep after ≡ false
   pub small : is_large after ≡ false
   pub left : nat_lt (2 ^ 32) next ≡ false
+  pub free : is_taken edit next before ≡ false
 
 pub passed : (before after : List Listed) (next : ℕ) (edit : Edit) → first_refusal before after next edit ≡ None → IsAccepted before after next edit
 passed before after next edit h =
@@ -56,7 +57,27 @@ passed before after next edit h =
       shallow = rows.1.1.1.1.1.1.1.1.0;
       small = rows.1.1.1.1.1.1.1.1.1.0;
       left = rows.1.1.1.1.1.1.1.1.1.1.0;
+      free = rows.1.1.1.1.1.1.1.1.1.1.1.0;
     }
+
+-- rows of which none holds give no reason
+row_none : (test : Bool) (row : Bool × EditRefusal) (found : Option (Bool × EditRefusal)) → test ≡ false
+    → option_map (λ row. row.1) found ≡ None → option_map (λ row. row.1) (cond test (Some row) found) ≡ None
+row_none true row found h rest = absurd (true≢false h)
+row_none false row found h rest = rest
+
+pub none_holds : (rows : List (Bool × EditRefusal)) → AllFail rows → first_reason rows ≡ None
+none_holds [] h = refl
+none_holds (row ∷ rows) h = row_none row.0 row (find (λ (row : Bool × EditRefusal). row.0) rows) h.0 (none_holds rows h.1)
+
+is_known : (found : Option Listed) → is_some found ≡ true → not (is_some found) ≡ false
+is_known None h = absurd (true≢false (sym h))
+is_known (Some e) h = refl
+
+pub passes : (before after : List Listed) (next : ℕ) (edit : Edit) → IsAccepted before after next edit → first_refusal before after next edit ≡ None
+passes before after next edit is =
+    none_holds (refusals before after next edit)
+    (is_known (target edit before) is.known, (is.on_text, (is.in_other, (is.within, (is.movable, (is.named, (is.left_to_right, (is.short, (is.shallow, (is.small, (is.left, (is.free, tt))))))))))))
 
 abbrev pub AcceptedBy : TreeValue → Edit → Type 0
 AcceptedBy tree edit = IsAccepted (listed 1 tree.root) (listed 1 (edited tree edit).root) (edited tree edit).next_id edit
@@ -64,3 +85,7 @@ AcceptedBy tree edit = IsAccepted (listed 1 tree.root) (listed 1 (edited tree ed
 pub accepted : (tree : TreeValue) (edit : Edit) → refusal_of tree edit ≡ None → AcceptedBy tree edit
 unfolding refusal_of
 accepted tree edit h = passed (listed 1 tree.root) (listed 1 (edited tree edit).root) (edited tree edit).next_id edit h
+
+pub accepts : (tree : TreeValue) (edit : Edit) → AcceptedBy tree edit → refusal_of tree edit ≡ None
+unfolding refusal_of
+accepts tree edit is = passes (listed 1 tree.root) (listed 1 (edited tree edit).root) (edited tree edit).next_id edit is

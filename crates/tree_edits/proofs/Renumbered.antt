@@ -144,6 +144,7 @@ proper_with_id id e p = record {
   kind = p.kind;
   name = p.name;
   attributes = p.attributes;
+  order = p.order;
   text = p.text;
   childless = p.childless;
   textless = p.textless;

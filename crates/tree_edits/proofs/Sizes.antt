@@ -16,12 +16,12 @@ use Rattle.tree_edits.proofs.OneElement.{own_change_law, parent_change_law}
 use Rattle.tree_edits.proofs.Renumbered.{bytes_renumbered, count_renumbered, deep_renumbered}
 use Rattle.tree_edits.proofs.Exchanges.{Exchanged, exchanged_at, ahead, behind, beyond, parted, inserted, removed, standing, count_exchanged, bytes_exchanged, deep_exchanged}
 use Rattle.tree_edits.specs.Edits.{has_id, head_of, with_text, with_attribute, edited, is_deep}
-use Rattle.tree_edits.specs.Paths.{children_of, node_at, changed}
+use Rattle.tree_edits.specs.Paths.{children_of, node_at, changed, changed_at}
 use Rattle.tree_edits.specs.Reasons.{shown}
-use Rattle.splices.specs.declared.splice.Splice.TheVariants.{Put, Take, Swap}
+use Rattle.splices.specs.declared.splice.Splice.TheVariants.{Put, Take, Swap as Exchange}
 use Rattle.tree_edits.specs.declared.change.Change.TheVariants.{SetText, SetValue, Children}
 use Rattle.tree_edits.specs.declared.edit.Edit.{Edit}
-use Rattle.tree_edits.specs.declared.edit.Edit.TheVariants.{Text, Attr, Insert, Remove, Replace}
+use Rattle.tree_edits.specs.declared.edit.Edit.TheVariants.{Text, Attr, Insert, Remove, Replace, Graft, Swap}
 
 -- ---- the elements before and after
 
@@ -56,16 +56,25 @@ module _ (tree : TreeValue) (path : List ℕ) (element : Node) (whole : IsWhole 
       (sym (own_change_law tree (Attr id name value) path element whole tt at has))
       (exchanged_at tree.root path element (changed (SetValue name value 0)) head nodes [] [] [] (flat_map list nodes) at refl refl refl)
 
+  -- a child is put in
+  put_exchanged : (edit : Edit) (index : ℕ) (child : Node) → (edited tree edit).root ≡ changed_at (changed (Children (Put index child 0))) path tree.root
+      → SplicedBy edit (head_of element) (length (insert (children_of element) index child)) [] (listed (1 + length path + 1) child)
+  put_exchanged edit index child is =
+      let after = insert nodes index child in
+      subst (λ r. Exchanged (listed 1 tree.root) (listed 1 r) (shown level element) (entry level (head_of element) (length after)) [] (list child))
+      (sym is)
+      (exchanged_at tree.root path element (changed (Children (Put index child 0))) (head_of element) after
+      (ahead list nodes index) [] (list child) (behind list nodes index) at refl (parted list nodes index) (inserted list nodes index child))
+
   pub insert_exchanged : (id : NodeId) (index : ℕ) (new : Node) → has_id id.0 (head_of element) ≡ true
       → SplicedBy (Insert id index new) (head_of element) (length (insert (children_of element) index (renumbered tree.next_id new))) []
       (listed (1 + length path + 1) (renumbered tree.next_id new))
   insert_exchanged id index new has =
-      let child = renumbered tree.next_id new in
-      let after = insert nodes index child in
-      subst (λ r. Exchanged (listed 1 tree.root) (listed 1 r) (shown level element) (entry level (head_of element) (length after)) [] (list child))
-      (sym (own_change_law tree (Insert id index new) path element whole tt at has))
-      (exchanged_at tree.root path element (changed (Children (Put index child 0))) (head_of element) after
-      (ahead list nodes index) [] (list child) (behind list nodes index) at refl (parted list nodes index) (inserted list nodes index child))
+      put_exchanged (Insert id index new) index (renumbered tree.next_id new) (own_change_law tree (Insert id index new) path element whole tt at has)
+
+  pub graft_exchanged : (id : NodeId) (index : ℕ) (new : Node) → has_id id.0 (head_of element) ≡ true
+      → SplicedBy (Graft id index new) (head_of element) (length (insert (children_of element) index new)) [] (listed (1 + length path + 1) new)
+  graft_exchanged id index new has = put_exchanged (Graft id index new) index new (own_change_law tree (Graft id index new) path element whole tt at has)
 
   pub remove_exchanged : (id : NodeId) (place : ℕ) (child : Node) → slice_get (children_of element) place ≡ Some child → has_id id.0 (head_of child) ≡ true
       → SplicedBy (Remove id) (head_of element) (length (remove (children_of element) place)) (listed (1 + length path + 1) child) []
@@ -76,17 +85,30 @@ module _ (tree : TreeValue) (path : List ℕ) (element : Node) (whole : IsWhole 
       (exchanged_at tree.root path element (changed (Children (Take place))) (head_of element) after
       (ahead list nodes place) (list child) [] (beyond list nodes place) at refl (standing list nodes place child there) (removed list nodes place))
 
+  -- a child is exchanged for another
+  child_exchanged : (edit : Edit) (place : ℕ) (child other : Node) → slice_get (children_of element) place ≡ Some child
+      → (edited tree edit).root ≡ changed_at (changed (Children (Exchange place other))) path tree.root
+      → SplicedBy edit (head_of element) (length (slice_set (children_of element) place other)) (listed (1 + length path + 1) child) (listed (1 + length path + 1) other)
+  child_exchanged edit place child other there is =
+      let after = slice_set nodes place other in
+      subst (λ r. Exchanged (listed 1 tree.root) (listed 1 r) (shown level element) (entry level (head_of element) (length after)) (list child) (list other))
+      (sym is)
+      (exchanged_at tree.root path element (changed (Children (Exchange place other))) (head_of element) after
+      (ahead list nodes place) (list child) (list other) (beyond list nodes place) at refl (standing list nodes place child there)
+      (flat_set list nodes place child other there))
+
   pub replace_exchanged : (id : NodeId) (new : Node) (place : ℕ) (child : Node) → slice_get (children_of element) place ≡ Some child → has_id id.0 (head_of child) ≡ true
       → SplicedBy (Replace id new) (head_of element) (length (slice_set (children_of element) place (renumbered tree.next_id new)))
       (listed (1 + length path + 1) child) (listed (1 + length path + 1) (renumbered tree.next_id new))
   replace_exchanged id new place child there has =
-      let other = renumbered tree.next_id new in
-      let after = slice_set nodes place other in
-      subst (λ r. Exchanged (listed 1 tree.root) (listed 1 r) (shown level element) (entry level (head_of element) (length after)) (list child) (list other))
-      (sym (parent_change_law tree (Replace id new) path element place child whole tt at there has))
-      (exchanged_at tree.root path element (changed (Children (Swap place other))) (head_of element) after
-      (ahead list nodes place) (list child) (list other) (beyond list nodes place) at refl (standing list nodes place child there)
-      (flat_set list nodes place child other there))
+      child_exchanged (Replace id new) place child (renumbered tree.next_id new) there
+      (parent_change_law tree (Replace id new) path element place child whole tt at there has)
+
+  pub swap_exchanged : (id : NodeId) (new : Node) (place : ℕ) (child : Node) → slice_get (children_of element) place ≡ Some child → has_id id.0 (head_of child) ≡ true
+      → SplicedBy (Swap id new) (head_of element) (length (slice_set (children_of element) place new))
+      (listed (1 + length path + 1) child) (listed (1 + length path + 1) new)
+  swap_exchanged id new place child there has =
+      child_exchanged (Swap id new) place child new there (parent_change_law tree (Swap id new) path element place child whole tt at there has)
 
 -- ---- a tree isn't too deep
 
@@ -167,6 +189,20 @@ insert_sizes tree path element whole at id index new has =
       levels = deep_exchanged exchange refl (shallow_tree tree whole) ∙ new_levels path next new;
     }
 
+pub graft_sizes : (tree : TreeValue) (path : List ℕ) (element : Node) → IsWhole tree → node_at path tree.root ≡ Some element
+    → (id : NodeId) (index : ℕ) (new : Node) → has_id id.0 (head_of element) ≡ true
+    → Gains tree.root (edited tree (Graft id index new)).root new (2 + length path)
+graft_sizes tree path element whole at id index new has =
+    let level = 1 + length path + 1 in
+    let exchange = graft_exchanged tree path element whole at id index new has in
+    let count = count_exchanged exchange in
+    let bytes = bytes_exchanged exchange in
+    record {
+      elements = omega (arith, count, length_at level new);
+      bytes = omega (arith, bytes, bytes_at level new);
+      levels = deep_exchanged exchange refl (shallow_tree tree whole) ∙ ap (λ l. is_deep (listed l new)) (two_below path);
+    }
+
 -- ---- a child less
 
 pub record Loses (before after child : Node) : Type 0 where
@@ -208,4 +244,18 @@ replace_sizes tree path element whole at id new place child there has =
       elements = omega (arith, count, length_at level child, new_count level next new);
       bytes = omega (arith, bytes, bytes_at level child, new_bytes level next new);
       levels = deep_exchanged exchange refl (shallow_tree tree whole) ∙ new_levels path next new;
+    }
+
+pub swap_sizes : (tree : TreeValue) (path : List ℕ) (element : Node) → IsWhole tree → node_at path tree.root ≡ Some element
+    → (id : NodeId) (new : Node) (place : ℕ) (child : Node) → slice_get (children_of element) place ≡ Some child → has_id id.0 (head_of child) ≡ true
+    → Exchanges tree.root (edited tree (Swap id new)).root child new (2 + length path)
+swap_sizes tree path element whole at id new place child there has =
+    let level = 1 + length path + 1 in
+    let exchange = swap_exchanged tree path element whole at id new place child there has in
+    let count = count_exchanged exchange in
+    let bytes = bytes_exchanged exchange in
+    record {
+      elements = omega (arith, count, length_at level child, length_at level new);
+      bytes = omega (arith, bytes, bytes_at level child, bytes_at level new);
+      levels = deep_exchanged exchange refl (shallow_tree tree whole) ∙ ap (λ l. is_deep (listed l new)) (two_below path);
     }

@@ -2,6 +2,7 @@
 use Rattle.std.proofs.Common.{◌≡◌, ◌∙◌, refl, ℕ, ◌≤◌, ◌<◌, [], ◌∷◌, nat_eq, arith}
 use Rattle.std.proofs.lemmas.List.Elements.{All-nil, All-cons}
 use Rattle.std.specs.List.{IsDistinct}
+use Rattle.math_tree.proofs.Members.{none_in_order}
 use Rattle.math_tree.proofs.Nodes.{listed_element}
 use Rattle.math_tree.proofs.OnLiterals.{math_tree_on_literals}
 use Rattle.math_tree.specs.Forms.{most_levels}
@@ -26,6 +27,7 @@ proper_spare = record {
   kind = refl;
   name = refl;
   attributes = All-nil IsProperAttribute;
+  order = none_in_order;
   text = refl;
   childless = λ e. cc;
   textless = λ e. refl;

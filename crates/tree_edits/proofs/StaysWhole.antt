@@ -1,5 +1,5 @@
 -- An edit of a whole tree that isn't refused, and that brings proper elements, leaves a whole tree.
-use Rattle.std.proofs.Common.{◌≡◌, ◌∙◌, sym, ap, refl, ℕ, ◌+◌, ◌^◌, ◌≤◌, ◌<◌, List, [], ◌∷◌, length, slice_get, slice_set, All, Bool, true, false, nat_eq, nat_lt, Option, Some, None, arith, true≢false}
+use Rattle.std.proofs.Common.{◌≡◌, ◌∙◌, sym, ap, refl, ℕ, ◌+◌, ◌^◌, ◌≤◌, ◌<◌, subst, List, [], ◌∷◌, length, slice_get, slice_set, All, Bool, true, false, nat_eq, nat_lt, Option, Some, None, arith, true≢false}
 use Rattle.std.proofs.lemmas.Bool.{ltb-false, not-false, or_parts}
 use Rattle.std.proofs.lemmas.List.Elements.{recursion_from_All, All-from_recursion}
 use Rattle.std.proofs.lemmas.Option.{slice_get_within}
@@ -12,14 +12,15 @@ use Rattle.math_tree.specs.declared.node.Head.{Head}
 use Rattle.math_tree.specs.declared.node.Node.{Node}
 use Rattle.math_tree.specs.declared.node.NodeId.{NodeId}
 use Rattle.tree_edits.proofs.Frames.{entry, head_rolled}
-use Rattle.tree_edits.proofs.Ids.{distinct_exchanged, given_exchanged}
-use Rattle.tree_edits.proofs.Levels.{bytes_in, proper_at}
+use Rattle.tree_edits.proofs.FreeIds.{AreFreeIds, free_ids}
+use Rattle.tree_edits.proofs.Ids.{AreApart, distinct_exchanged, distinct_free, given_exchanged}
+use Rattle.tree_edits.proofs.Levels.{bytes_in, ids_at, proper_at}
 use Rattle.tree_edits.proofs.OneElement.{own_change_law, parent_change_law}
 use Rattle.tree_edits.proofs.ProperHeads.{proper_attribute, proper_text, proper_children}
 use Rattle.tree_edits.proofs.Reached.{ParentOf, reached, parent_of, root_keeps}
 use Rattle.tree_edits.proofs.Refusals.{AcceptedBy, accepted}
 use Rattle.tree_edits.proofs.Renumbered.{HasNewIds, new_ids, proper_renumbered}
-use Rattle.tree_edits.proofs.Sizes.{text_exchanged, attribute_exchanged, insert_exchanged, remove_exchanged, replace_exchanged}
+use Rattle.tree_edits.proofs.Sizes.{text_exchanged, attribute_exchanged, insert_exchanged, graft_exchanged, remove_exchanged, replace_exchanged, swap_exchanged}
 use Rattle.tree_edits.proofs.Exchanges.{Exchanged, all_exchanged, own_of_all}
 use Rattle.tree_edits.proofs.Target.{found_at, is_below_the_root}
 use Rattle.tree_edits.specs.Applying.{IsProperEdit}
@@ -28,7 +29,7 @@ use Rattle.tree_edits.specs.Laws.{IsOwn, IsOfParent, own_change, parent_change}
 use Rattle.tree_edits.specs.Paths.{children_of, node_at, changed}
 use Rattle.tree_edits.specs.Reasons.{shown}
 use Rattle.tree_edits.specs.declared.edit.Edit.{Edit}
-use Rattle.tree_edits.specs.declared.edit.Edit.TheVariants.{Text, Attr, Insert, Remove, Replace}
+use Rattle.tree_edits.specs.declared.edit.Edit.TheVariants.{Text, Attr, Insert, Remove, Replace, Graft, Swap}
 
 -- ---- from the elements before and after
 
@@ -38,19 +39,21 @@ levels_within (e ∷ elements) h =
     let parts = or_parts (nat_lt most_levels e.level) (is_deep elements) h in
     (ltb-false most_levels e.level parts.0, levels_within elements parts.1)
 
-further : (bound more : ℕ) (ids : List ℕ) → AllByRecursion (λ n. n < bound) ids → AllByRecursion (λ n. n < bound + more) ids
+pub further : (bound more : ℕ) (ids : List ℕ) → AllByRecursion (λ n. n < bound) ids → AllByRecursion (λ n. n < bound + more) ids
 further bound more [] h = tt
 further bound more (id ∷ ids) h =
     let first = h.0 in
     (omega (arith, first), further bound more ids h.1)
 
--- what an edit brings is proper and has ids of its own, and it leaves the root's name and id
+-- what an edit brings is proper, the ids that there are then differ and were given, and it leaves
+-- the root's name and id
 record Fitting (tree : TreeValue) (edit : Edit) (own made : Listed) (gone new : List Listed) : Type 0 where
   exchange : Exchanged (listed 1 tree.root) (listed 1 (edited tree edit).root) own made gone new
   same : own.head.id.0 ≡ made.head.id.0
   here : IsProper own → IsProper made
   proper : AllByRecursion IsProper new
-  ids : HasNewIds tree.next_id (added edit) new
+  distinct : IsDistinct nat_eq (ids_of (listed 1 (edited tree edit).root))
+  given : AllByRecursion (λ n. n < tree.next_id + added edit) (ids_of new)
   name : (head_of (edited tree edit).root).name ≡ (head_of tree.root).name
   id : (head_of (edited tree edit).root).id.0 ≡ (head_of tree.root).id.0
 
@@ -69,9 +72,9 @@ fits_whole tree edit own made gone new whole passes fitting =
       first = fitting.id ∙ whole.first;
       proper = All-from_recursion IsProper after (all_exchanged exchange IsProper proper (fitting.here (own_of_all exchange IsProper proper)) fitting.proper);
       shallow = All-from_recursion (λ e. e.level ≤ most_levels) after (levels_within after passes.shallow);
-      distinct = distinct_exchanged exchange fitting.same tree.next_id whole.distinct given fitting.ids.distinct fitting.ids.new;
+      distinct = fitting.distinct;
       given = All-from_recursion (λ n. n < next) (ids_of after)
-          (given_exchanged exchange fitting.same next (further tree.next_id (added edit) (ids_of before) given) fitting.ids.given);
+          (given_exchanged exchange fitting.same next (further tree.next_id (added edit) (ids_of before) given) fitting.given);
       next = ltb-false (2 ^ 32) next passes.left;
       few = ltb-false most_elements (length after) large.0;
       small = ltb-false most_bytes (bytes_in after) large.1;
@@ -80,6 +83,21 @@ fits_whole tree edit own made gone new whole passes fitting =
 no_new_ids : (id count : ℕ) → HasNewIds id count []
 unfolding IsDistinct
 no_new_ids id count = record { distinct = tt; new = tt; given = tt }
+
+-- new ids differ from all that there are
+with_new : (tree : TreeValue) (edit : Edit) (own made : Listed) (gone new : List Listed) → IsWhole tree
+    → Exchanged (listed 1 tree.root) (listed 1 (edited tree edit).root) own made gone new → own.head.id.0 ≡ made.head.id.0
+    → HasNewIds tree.next_id (added edit) new → IsDistinct nat_eq (ids_of (listed 1 (edited tree edit).root))
+with_new tree edit own made gone new whole exchange same ids =
+    distinct_exchanged exchange same tree.next_id whole.distinct
+    (recursion_from_All (λ n. n < tree.next_id) (ids_of (listed 1 tree.root)) whole.given) ids.distinct ids.new
+
+-- and so do ids that are free
+with_free : (tree : TreeValue) (edit : Edit) (own made : Listed) (gone new : List Listed) (ids : List ℕ) (next : ℕ) → IsWhole tree
+    → Exchanged (listed 1 tree.root) (listed 1 (edited tree edit).root) own made gone new → own.head.id.0 ≡ made.head.id.0
+    → AreFreeIds ids next (ids_of (listed 1 tree.root)) → ids ≡ ids_of new → IsDistinct nat_eq (ids_of (listed 1 (edited tree edit).root))
+with_free tree edit own made gone new ids next whole exchange same free is =
+    distinct_free exchange same whole.distinct (subst (IsDistinct nat_eq) is free.distinct) (subst (AreApart (ids_of (listed 1 tree.root))) is free.apart)
 
 -- ---- at the element that is named
 
@@ -125,12 +143,15 @@ module _ (tree : TreeValue) (path : List ℕ) (element : Node) (whole : IsWhole 
       let head = with_text text (head_of element) in
       let made = entry level head (length nodes) in
       let is_text = not-false (is_text_kind (head_of element).kind) (test_at tree edit path element (is_not_text edit) whole at has passes.on_text) in
+      let exchange = text_exchanged tree path element whole at id text has in
+      let ids = no_new_ids tree.next_id 0 in
       fits_whole tree edit own made [] [] whole passes (record {
-        exchange = text_exchanged tree path element whole at id text has;
+        exchange = exchange;
         same = refl;
         here = proper_text level (length nodes) (head_of element) text is_text (not-false (is_short_enough text) passes.short);
         proper = tt;
-        ids = no_new_ids tree.next_id 0;
+        distinct = with_new tree edit own made [] [] whole exchange refl ids;
+        given = ids.given;
         name = own_root (λ (h : Head). h.name) tree edit path element whole at tt has head nodes refl refl;
         id = own_root (λ (h : Head). h.id.0) tree edit path element whole at tt has head nodes refl refl;
       })
@@ -141,12 +162,15 @@ module _ (tree : TreeValue) (path : List ℕ) (element : Node) (whole : IsWhole 
       let edit = Attr id name value in
       let head = with_attribute name value (head_of element) in
       let made = entry level head (length nodes) in
+      let exchange = attribute_exchanged tree path element whole at id name value has in
+      let ids = no_new_ids tree.next_id 0 in
       fits_whole tree edit own made [] [] whole passes (record {
-        exchange = attribute_exchanged tree path element whole at id name value has;
+        exchange = exchange;
         same = refl;
         here = proper_attribute level (length nodes) (head_of element) name value (not-false (is_name name) passes.named) passes.short passes.left_to_right;
         proper = tt;
-        ids = no_new_ids tree.next_id 0;
+        distinct = with_new tree edit own made [] [] whole exchange refl ids;
+        given = ids.given;
         name = own_root (λ (h : Head). h.name) tree edit path element whole at tt has head nodes refl refl;
         id = own_root (λ (h : Head). h.id.0) tree edit path element whole at tt has head nodes refl refl;
       })
@@ -165,12 +189,15 @@ module _ (tree : TreeValue) (path : List ℕ) (element : Node) (whole : IsWhole 
       let after = insert nodes index child in
       let made = entry level (head_of element) (length after) in
       let other : is_text_kind (head_of element).kind ≡ false = test_at tree edit path element (is_in_text edit) whole at has passes.in_other in
+      let exchange = insert_exchanged tree path element whole at id index new has in
+      let ids = new_ids (level + 1) tree.next_id new in
       fits_whole tree edit own made [] (listed (level + 1) child) whole passes (record {
-        exchange = insert_exchanged tree path element whole at id index new has;
+        exchange = exchange;
         same = refl;
         here = proper_children level (length nodes) (length after) (head_of element) (λ is_text. absurd (true≢false (sym is_text ∙ other)));
         proper = new_proper new brought;
-        ids = new_ids (level + 1) tree.next_id new;
+        distinct = with_new tree edit own made [] (listed (level + 1) child) whole exchange refl ids;
+        given = ids.given;
         name = own_root (λ (h : Head). h.name) tree edit path element whole at tt has (head_of element) after refl refl;
         id = own_root (λ (h : Head). h.id.0) tree edit path element whole at tt has (head_of element) after refl refl;
       })
@@ -188,12 +215,15 @@ module _ (tree : TreeValue) (path : List ℕ) (element : Node) (whole : IsWhole 
       let edit = Remove id in
       let after = remove nodes place in
       let made = entry level (head_of element) (length after) in
+      let exchange = remove_exchanged tree path element whole at id place child there has in
+      let ids = no_new_ids tree.next_id 0 in
       fits_whole tree edit own made (listed (level + 1) child) [] whole passes (record {
-        exchange = remove_exchanged tree path element whole at id place child there has;
+        exchange = exchange;
         same = refl;
         here = still_childless place child (length after) there;
         proper = tt;
-        ids = no_new_ids tree.next_id 0;
+        distinct = with_new tree edit own made (listed (level + 1) child) [] whole exchange refl ids;
+        given = ids.given;
         name = root_over (λ (h : Head). h.name) tree edit path element whole at tt place child there has after refl;
         id = root_over (λ (h : Head). h.id.0) tree edit path element whole at tt place child there has after refl;
       })
@@ -205,12 +235,60 @@ module _ (tree : TreeValue) (path : List ℕ) (element : Node) (whole : IsWhole 
       let other = renumbered tree.next_id new in
       let after = slice_set nodes place other in
       let made = entry level (head_of element) (length after) in
+      let exchange = replace_exchanged tree path element whole at id new place child there has in
+      let ids = new_ids (level + 1) tree.next_id new in
       fits_whole tree edit own made (listed (level + 1) child) (listed (level + 1) other) whole passes (record {
-        exchange = replace_exchanged tree path element whole at id new place child there has;
+        exchange = exchange;
         same = refl;
         here = still_childless place child (length after) there;
         proper = new_proper new brought;
-        ids = new_ids (level + 1) tree.next_id new;
+        distinct = with_new tree edit own made (listed (level + 1) child) (listed (level + 1) other) whole exchange refl ids;
+        given = ids.given;
+        name = root_over (λ (h : Head). h.name) tree edit path element whole at tt place child there has after refl;
+        id = root_over (λ (h : Head). h.id.0) tree edit path element whole at tt place child there has after refl;
+      })
+
+  -- ---- with ids of its own
+
+  -- they are those at any level
+  same_ids : (new : Node) → ids_of (listed 1 new) ≡ ids_of (listed (level + 1) new)
+  same_ids new = ids_at (level + 1) new
+
+  graft_whole : (id : NodeId) (index : ℕ) (new : Node) → All IsProper (listed 1 new) → has_id id.0 (head_of element) ≡ true
+      → AcceptedBy tree (Graft id index new) → IsWhole (edited tree (Graft id index new))
+  graft_whole id index new brought has passes =
+      let edit = Graft id index new in
+      let after = insert nodes index new in
+      let made = entry level (head_of element) (length after) in
+      let other : is_text_kind (head_of element).kind ≡ false = test_at tree edit path element (is_in_text edit) whole at has passes.in_other in
+      let exchange = graft_exchanged tree path element whole at id index new has in
+      let free = free_ids (ids_of (listed 1 new)) (tree.next_id + 0) (ids_of (listed 1 tree.root)) passes.free in
+      fits_whole tree edit own made [] (listed (level + 1) new) whole passes (record {
+        exchange = exchange;
+        same = refl;
+        here = proper_children level (length nodes) (length after) (head_of element) (λ is_text. absurd (true≢false (sym is_text ∙ other)));
+        proper = recursion_from_All IsProper (listed (level + 1) new) (proper_at (level + 1) new brought);
+        distinct = with_free tree edit own made [] (listed (level + 1) new) (ids_of (listed 1 new)) (tree.next_id + 0) whole exchange refl free (same_ids new);
+        given = subst (AllByRecursion (λ n. n < tree.next_id + 0)) (same_ids new) free.given;
+        name = own_root (λ (h : Head). h.name) tree edit path element whole at tt has (head_of element) after refl refl;
+        id = own_root (λ (h : Head). h.id.0) tree edit path element whole at tt has (head_of element) after refl refl;
+      })
+
+  swap_whole : (id : NodeId) (new : Node) → All IsProper (listed 1 new) → (place : ℕ) (child : Node) → slice_get (children_of element) place ≡ Some child
+      → has_id id.0 (head_of child) ≡ true → AcceptedBy tree (Swap id new) → IsWhole (edited tree (Swap id new))
+  swap_whole id new brought place child there has passes =
+      let edit = Swap id new in
+      let after = slice_set nodes place new in
+      let made = entry level (head_of element) (length after) in
+      let exchange = swap_exchanged tree path element whole at id new place child there has in
+      let free = free_ids (ids_of (listed 1 new)) (tree.next_id + 0) (ids_of (listed 1 tree.root)) passes.free in
+      fits_whole tree edit own made (listed (level + 1) child) (listed (level + 1) new) whole passes (record {
+        exchange = exchange;
+        same = refl;
+        here = still_childless place child (length after) there;
+        proper = recursion_from_All IsProper (listed (level + 1) new) (proper_at (level + 1) new brought);
+        distinct = with_free tree edit own made (listed (level + 1) child) (listed (level + 1) new) (ids_of (listed 1 new)) (tree.next_id + 0) whole exchange refl free (same_ids new);
+        given = subst (AllByRecursion (λ n. n < tree.next_id + 0)) (same_ids new) free.given;
         name = root_over (λ (h : Head). h.name) tree edit path element whole at tt place child there has after refl;
         id = root_over (λ (h : Head). h.id.0) tree edit path element whole at tt place child there has after refl;
       })
@@ -223,7 +301,7 @@ below_root [] from child some at = absurd (some refl)
 below_root (place ∷ path) from child some at = parent_of place path from child at
 
 -- an element that may go has one over it
-over_named : (tree : TreeValue) (edit : Edit) (path : List ℕ) (child : Node) → IsWhole tree → node_at path tree.root ≡ Some child
+pub over_named : (tree : TreeValue) (edit : Edit) (path : List ℕ) (child : Node) → IsWhole tree → node_at path tree.root ≡ Some child
     → has_id (named edit) (head_of child) ≡ true → at_target (λ e. nat_eq e.level 1) (target edit (listed 1 tree.root)) ≡ false
     → ParentOf child tree.root
 over_named tree edit path child whole at has movable =
@@ -247,6 +325,13 @@ accepted_whole tree (Replace id new) whole proper passes =
     let way = reached id.0 tree.root passes.known in
     let over = over_named tree (Replace id new) way.path way.element whole way.at way.has passes.movable in
     replace_whole tree over.path over.element whole over.at id new proper over.place way.element over.there way.has passes
+accepted_whole tree (Graft id index new) whole proper passes =
+    let way = reached id.0 tree.root passes.known in
+    graft_whole tree way.path way.element whole way.at id index new proper way.has passes
+accepted_whole tree (Swap id new) whole proper passes =
+    let way = reached id.0 tree.root passes.known in
+    let over = over_named tree (Swap id new) way.path way.element whole way.at way.has passes.movable in
+    swap_whole tree over.path over.element whole over.at id new proper over.place way.element over.there way.has passes
 
 pub stays_whole : (tree : TreeValue) (edit : Edit) → IsWhole tree → IsProperEdit edit → refusal_of tree edit ≡ None → IsWhole (edited tree edit)
 stays_whole tree edit whole proper none = accepted_whole tree edit whole proper (accepted tree edit none)

@@ -6,11 +6,13 @@ use Rattle.math_tree.specs.declared.node.Node.{Node}
 use Rattle.tree_edits.proofs.Inverse.{undone_at, undo_fits_at}
 use Rattle.tree_edits.specs.Applying.{TakenValue, Undoes, restored}
 use Rattle.tree_edits.specs.Paths.{node_at, replaced_by}
-use Rattle.tree_edits.specs.Planning.{CanCarryOut, planned}
+use Rattle.tree_edits.specs.Inverses.{edit_by, inverse}
+use Rattle.tree_edits.specs.Planning.{CanCarryOut, GivesBack, planned}
 use Rattle.tree_edits.specs.Undoing.{completed, inverse_of, room_for, undo_of}
 use Rattle.tree_edits.specs.declared.change.Change.{Change}
 use Rattle.tree_edits.specs.declared.change.Change.TheVariants.{SetText, SetValue, Children}
 use Rattle.tree_edits.specs.declared.change.Replaced.{Replaced}
+use Rattle.tree_edits.specs.declared.edit.Edit.{Edit}
 use Rattle.tree_edits.specs.declared.planning.EditPlan.{EditPlan}
 
 -- what the record makes of what was replaced is the inverse
@@ -47,3 +49,20 @@ undoes tree plan replaced back taken can whole was undoing path_is change_is nex
       };
       gives = same;
     }
+
+-- ---- as an edit
+
+-- what was taken is the inverse of an edit, where the step gives that back
+pub taken_back : (tree : TreeValue) (plan : EditPlan) (replaced : Replaced) (back : Change)
+    → option_map (replaced_by plan.step.change) (node_at plan.step.path tree.root) ≡ Some replaced → completed plan.step.undo replaced ≡ Some back
+    → (edit : Edit) → GivesBack tree edit plan.step → edit_by back plan.step.back ≡ inverse tree edit
+taken_back tree plan replaced back was undoing edit gives =
+    let change = plan.step.change in
+    let fits = gives.ready.fits in
+    let room = room_for change fits.element in
+    let there : replaced_by change fits.element ≡ replaced =
+    same_Some (replaced_by change fits.element) replaced (ap (option_map (replaced_by change)) (sym fits.at) ∙ was) in
+    let meant : back ≡ inverse_of change room fits.element =
+    same_Some back (inverse_of change room fits.element)
+    (sym undoing ∙ ap (λ u. completed u replaced) gives.ready.undo_is ∙ ap (completed (undo_of change room)) (sym there) ∙ is_completed change room fits.element) in
+    ap (λ c. edit_by c plan.step.back) meant ∙ gives.is

@@ -16,9 +16,9 @@ use Rattle.tree_edits.proofs.Renumbered.{all_renumbered, renumbered_out}
 use Rattle.tree_edits.specs.Edits.{made, layer_made, edited_node, is_deep, is_large, first_refusal}
 use Rattle.tree_edits.specs.Paths.{children_of}
 use Rattle.tree_edits.specs.declared.edit.Edit.{Edit}
-use Rattle.tree_edits.specs.declared.edit.Edit.TheVariants.{Text, Attr, Insert, Remove, Replace}
+use Rattle.tree_edits.specs.declared.edit.Edit.TheVariants.{Text, Attr, Insert, Remove, Replace, Graft, Swap}
 use Rattle.tree_edits.specs.declared.edit.EditRefusal.{EditRefusal}
-use Rattle.tree_edits.specs.declared.edit.EditRefusal.TheVariants.{UnknownNode, NotText, IsText, IndexPast, RootFixed, BadName, RightToLeft, TooDeep, TooMany, IdsSpent}
+use Rattle.tree_edits.specs.declared.edit.EditRefusal.TheVariants.{UnknownNode, NotText, IsText, IndexPast, RootFixed, BadName, RightToLeft, TooDeep, TooMany, IdsSpent, IdTaken}
 
 abbrev head : ℕ → List ℕ → Kind → List Attribute → List ℕ → Head
 head id name kind attributes text =
@@ -135,6 +135,13 @@ row_removed = steps (Remove (id 3)) ∙ simp head_rolled
 child_replaced : Makes (Replace (id 2) (y 1)) (formula (y 5) (node (row []) (one ∷ []) ∷ []))
 child_replaced = steps (Replace (id 2) (y 1)) ∙ simp (head_rolled, leaf_renumbered)
 
+-- at the end of the row, with the id that it has
+child_grafted : Makes (Graft (id 3) 1 (y 9)) (formula x (node (row []) (one ∷ y 9 ∷ []) ∷ []))
+child_grafted = steps (Graft (id 3) 1 (y 9))
+
+child_swapped : Makes (Swap (id 2) (y 9)) (formula (y 9) (node (row []) (one ∷ []) ∷ []))
+child_swapped = steps (Swap (id 2) (y 9)) ∙ simp head_rolled
+
 -- ---- why an edit is refused
 
 abbrev listed_at : ℕ → Head → ℕ → Listed
@@ -204,3 +211,20 @@ one_id_too_many = refl
 last_id : first_refusal elements elements (2 ^ 32) (Insert (id 3) 1 x) ≡ None
 unfolding math_tree_on_literals
 last_id = refl
+
+-- an id that is kept has to be free: not that of an element, also where that one goes, and given
+id_of_an_element : first_refusal elements elements 9 (Graft (id 3) 1 (y 4)) ≡ Some IdTaken
+unfolding math_tree_on_literals
+id_of_an_element = rw (listed_out 1 (letter 4 (codes "y")) []) refl
+
+id_of_what_goes : first_refusal elements elements 9 (Swap (id 4) (y 4)) ≡ Some IdTaken
+unfolding math_tree_on_literals
+id_of_what_goes = rw (listed_out 1 (letter 4 (codes "y")) []) refl
+
+id_not_given_yet : first_refusal elements elements 9 (Graft (id 3) 1 (y 9)) ≡ Some IdTaken
+unfolding math_tree_on_literals
+id_not_given_yet = rw (listed_out 1 (letter 9 (codes "y")) []) refl
+
+id_that_was_given : first_refusal elements elements 9 (Graft (id 3) 1 (y 8)) ≡ None
+unfolding math_tree_on_literals
+id_that_was_given = rw (listed_out 1 (letter 8 (codes "y")) []) refl

@@ -1,11 +1,12 @@
 -- An edit carried out on a tree, and what gives back the tree that was there before.
 use Rattle.std.specs.Prelude.{◌≡◌, ◌⊎◌, ℕ, List, All, Some}
 use Rattle.math_tree.specs.Trees.{TreeValue, IsProper, IsTotalled, listed}
+use Rattle.math_tree.specs.declared.node.NodeId.{NodeId}
 use Rattle.tree_edits.specs.Edits.{refusal_of}
 use Rattle.tree_edits.specs.Paths.{changed_at, changed, FitsAt}
 use Rattle.tree_edits.specs.declared.change.Change.{Change}
 use Rattle.tree_edits.specs.declared.edit.Edit.{Edit}
-use Rattle.tree_edits.specs.declared.edit.Edit.TheVariants.{Text, Attr, Insert, Remove, Replace}
+use Rattle.tree_edits.specs.declared.edit.Edit.TheVariants.{Text, Attr, Insert, Remove, Replace, Graft, Swap}
 use Rattle.tree_edits.specs.declared.edit.EditRefusal.{EditRefusal}
 use Rattle.tree_edits.specs.declared.edit.EditRefusal.TheVariants.{Memory}
 
@@ -16,16 +17,19 @@ IsProperEdit (Attr id name value) = Unit {0}
 IsProperEdit (Insert id index element) = All IsProper (listed 1 element)
 IsProperEdit (Remove id) = Unit {0}
 IsProperEdit (Replace id element) = All IsProper (listed 1 element)
+IsProperEdit (Graft id index element) = All IsProper (listed 1 element)
+IsProperEdit (Swap id element) = All IsProper (listed 1 element)
 
 -- the reason of a refusal: that of the definition, or want of memory
 abbrev pub IsReason : TreeValue → Edit → EditRefusal → Type 0
 IsReason tree edit reason = (reason ≡ Memory) ⊎ (refusal_of tree edit ≡ Some reason)
 
--- what an edit took: the change that undoes it, where that is made, and the next id and the totals
--- that the tree had before
+-- what an edit took: the change that undoes it, where that is made, the element that the edit names
+-- which takes it back, and the next id and the totals that the tree had before
 pub record TakenValue : Type 0 where
   pub path : List ℕ
   pub change : Change
+  pub back : NodeId
   pub next_id : ℕ
   pub elements : ℕ
   pub bytes : ℕ

@@ -1,6 +1,8 @@
 pub mod Applying
 pub mod Commands
 pub mod Edits
+pub mod FreeIds
+pub mod Inverses
 pub mod Laws
 pub mod Notes
 pub mod Paths

@@ -1,14 +1,15 @@
 -- An edit as it is planned before it is carried out.
-use Rattle.std.specs.Prelude.{◌≡◌, ℕ, ◌+◌, ◌≤◌, List, length, true, Option, Some, None}
+use Rattle.std.specs.Prelude.{◌≡◌, ℕ, ◌+◌, ◌≤◌, List, length, true, false, Option, Some, None}
 use Rattle.splices.specs.declared.splice.Splice.TheVariants.{Put}
 use Rattle.math_tree.specs.Forms.{most_levels}
-use Rattle.math_tree.specs.Trees.{TreeValue, IsWhole, IsTotalled}
+use Rattle.math_tree.specs.Trees.{TreeValue, IsWhole, IsTotalled, listed}
 use Rattle.math_tree.specs.declared.node.Node.{Node}
-use Rattle.tree_edits.specs.Edits.{named, has_id, head_of, edited, refusal_of}
+use Rattle.tree_edits.specs.Edits.{named, has_id, head_of, edited, is_taken, refusal_of}
+use Rattle.tree_edits.specs.Inverses.{edit_by, inverse, named_back}
 use Rattle.tree_edits.specs.Paths.{node_at, changed, changed_at, Fits, FitsAt}
 use Rattle.tree_edits.specs.Reasons.{broken_limit, own_reason, shown}
 use Rattle.tree_edits.specs.Sizes.{totals_of}
-use Rattle.tree_edits.specs.Undoing.{IsOrdered, room_for, undo_of}
+use Rattle.tree_edits.specs.Undoing.{IsOrdered, inverse_of, room_for, undo_of}
 use Rattle.tree_edits.specs.declared.change.Change.{Change}
 use Rattle.tree_edits.specs.declared.change.Change.TheVariants.{SetValue, Children}
 use Rattle.tree_edits.specs.declared.edit.Edit.{Edit}
@@ -30,7 +31,7 @@ pub record IsAllowed (edit : Edit) (tree : TreeValue) (path : List ℕ) : Type 0
   pub allows : Allows edit tree path element
 
 -- nothing is against the edit: no reason lies there, and the edited tree, of which these are the
--- numbers, breaks no limit
+-- numbers, breaks no limit; the ids that it keeps are free
 pub record IsAccepted (tree : TreeValue) (edit : Edit) (accepted : Accepted) : Type 0 where
   pub element : Node
   pub allows : Allows edit tree accepted.path element
@@ -38,14 +39,17 @@ pub record IsAccepted (tree : TreeValue) (edit : Edit) (accepted : Accepted) : T
   pub within :
       broken_limit accepted.totals.deep accepted.totals.size.elements accepted.totals.size.bytes
       accepted.totals.next_id ≡ None
+  pub free : is_taken edit tree.next_id (listed 1 tree.root) ≡ false
 
 -- ---- one step
 
--- the change can be carried out, and its undo record is there
+-- the change can be carried out, and its undo record is there, with the element that the edit names
+-- which takes it back
 pub record IsReady (root : Node) (step : Step) : Type 0 where
   pub fits : FitsAt step.change step.path root
   pub order : IsOrdered step.change fits.element
   pub undo_is : step.undo ≡ undo_of step.change (room_for step.change fits.element)
+  pub back_is : step.back ≡ named_back step.change fits.element
 
 -- a step that is this change at the end of this path
 pub record IsStep (path : List ℕ) (change : Change) (root : Node) (step : Step) : Type 0 where
@@ -57,6 +61,14 @@ pub record IsStep (path : List ℕ) (change : Change) (root : Node) (step : Step
 pub record Makes (root after : Node) (step : Step) : Type 0 where
   pub ready : IsReady root step
   pub makes : changed_at (changed step.change) step.path root ≡ after
+
+-- the change that takes it back is the inverse of an edit
+pub record GivesBack (tree : TreeValue) (edit : Edit) (step : Step) : Type 0 where
+  pub ready : IsReady tree.root step
+  pub is :
+      edit_by
+      (inverse_of step.change (room_for step.change ready.fits.element) ready.fits.element)
+      step.back ≡ inverse tree edit
 
 -- a change of an element that sets a value, and one that puts a child in
 pub record SetsValue (name : List ℕ) (value : Option (List ℕ)) (element : Node)
@@ -89,3 +101,4 @@ pub record IsPlan (tree : TreeValue) (edit : Edit) (plan : EditPlan) : Type 0 wh
   pub accepted : refusal_of tree edit ≡ None
   pub can : CanCarryOut plan tree
   pub makes : planned plan tree ≡ edited tree edit
+  pub back : GivesBack tree edit plan.step

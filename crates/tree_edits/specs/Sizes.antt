@@ -49,3 +49,10 @@ pub record Adds (level : ℕ) (new : Node) (before after : Totals) : Type 0 wher
   pub elements : after.size.elements ≡ capped (before.size.elements + element_count new)
   pub bytes : after.size.bytes ≡ capped (before.size.bytes + byte_count new)
   pub next : after.next_id ≡ capped (before.next_id + element_count new)
+
+-- the same with ids of its own
+pub record AddsOwn (level : ℕ) (new : Node) (before after : Totals) : Type 0 where
+  pub deep : after.deep ≡ (before.deep || is_deep (listed level new))
+  pub elements : after.size.elements ≡ capped (before.size.elements + element_count new)
+  pub bytes : after.size.bytes ≡ capped (before.size.bytes + byte_count new)
+  pub next : after.next_id ≡ before.next_id

@@ -1,9 +1,10 @@
-ghost use Rattle.std.specs.Prelude.{◌≡◌, Some};
+ghost use Rattle.std.specs.Prelude.{◌≡◌, IfOk, Some};
 ghost use Rattle.tree_edits.specs.Edits.{named};
 ghost use Rattle.tree_edits.specs.Texts.{text_of_refusal};
 
 use fixed_units::{Memory, Txt};
 use math_tree::{Node, NodeId};
+use std::alloc::Global;
 use std::error::Error;
 use std::fmt;
 
@@ -22,6 +23,10 @@ pub enum Edit {
     Remove(NodeId),
     /// Puts an element in place of another. It gets new ids, with all below it.
     Replace(NodeId, Node),
+    /// Puts an element into the element of that id as `Insert` does, but with the ids that it has.
+    Graft(NodeId, u32, Node),
+    /// Puts an element in place of another as `Replace` does, but with the ids that it has.
+    Swap(NodeId, Node),
 }
 
 impl Edit {
@@ -34,8 +39,38 @@ impl Edit {
             | Edit::Attr(id, _, _)
             | Edit::Insert(id, _, _)
             | Edit::Remove(id)
-            | Edit::Replace(id, _) => *id,
+            | Edit::Replace(id, _)
+            | Edit::Graft(id, _, _)
+            | Edit::Swap(id, _) => *id,
         }
+    }
+
+    /// The same edit again, with the ids of its element.
+    pub fn copy(&self, alloc: Global) -> Result<Edit, Memory>
+        ensures { IfOk result (λ copied. copied ≡ self.now) }
+    {
+        match self {
+            Edit::Text(id, text) => Ok(Edit::Text(*id, text.copy(alloc)?)),
+            Edit::Attr(id, name, value) => {
+                let value = copy_of(alloc, value)?;
+                Ok(Edit::Attr(*id, name.copy(alloc)?, value))
+            }
+            Edit::Insert(id, index, new) => Ok(Edit::Insert(*id, *index, new.copy(alloc)?)),
+            Edit::Remove(id) => Ok(Edit::Remove(*id)),
+            Edit::Replace(id, new) => Ok(Edit::Replace(*id, new.copy(alloc)?)),
+            Edit::Graft(id, index, new) => Ok(Edit::Graft(*id, *index, new.copy(alloc)?)),
+            Edit::Swap(id, new) => Ok(Edit::Swap(*id, new.copy(alloc)?)),
+        }
+    }
+}
+
+/// A value of an attribute again, where there is one.
+fn copy_of(alloc: Global, value: &Option<Txt>) -> Result<Option<Txt>, Memory>
+    ensures { IfOk result (λ copied. copied ≡ value.now) }
+{
+    match value {
+        Some(value) => Ok(Some(value.copy(alloc)?)),
+        None => Ok(None),
     }
 }
 
@@ -65,6 +100,9 @@ pub enum EditRefusal {
     TooMany,
     /// No ids are left for the new elements.
     IdsSpent,
+    /// An id that the element is to keep stands twice in it, wasn't given yet, or is that of an
+    /// element of the tree.
+    IdTaken,
     /// Memory was refused.
     Memory,
 }
@@ -87,6 +125,7 @@ impl EditRefusal {
             EditRefusal::TooDeep => "the tree would have too many levels",
             EditRefusal::TooMany => "the tree would have too many elements or bytes",
             EditRefusal::IdsSpent => "no ids are left for the new elements",
+            EditRefusal::IdTaken => "an id of the element isn't free",
             EditRefusal::Memory => "memory was refused",
         }
     }

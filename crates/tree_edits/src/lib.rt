@@ -26,6 +26,7 @@ mod applying; // a whole edit, and back
 mod change; // of one element, in place
 mod command; // Command, CommandRefusal
 mod edit; // Edit, EditRefusal
+mod free_ids; // ids that an element keeps
 mod keys; // what a line says under each key
 pub mod laws; // of the definitions
 mod measure; // elements, bytes and levels

@@ -6,10 +6,12 @@ ghost use Rattle.math_tree.specs.Trees.{element_count};
 ghost use Rattle.tree_edits.specs.Applying.{IsProperEdit, IsReason};
 ghost use Rattle.tree_edits.specs.declared.edit.EditRefusal.TheVariants.{Memory as OutOfMemory};
 ghost use Rattle.tree_edits.specs.Edits.{added, edited, named};
+ghost use Rattle.tree_edits.specs.Inverses.{named_back};
 ghost use Rattle.tree_edits.specs.Paths.{children_of, Finds, FitsAt};
-ghost use Rattle.tree_edits.specs.Planning.{IsAccepted, IsAllowed, IsPlan, IsStep, Makes, PutsIn, SetsValue};
+ghost use Rattle.tree_edits.specs.Planning.{GivesBack, IsAccepted, IsAllowed, IsPlan, IsStep, Makes, PutsIn, SetsValue};
 
 use crate::change::Change;
+use crate::free_ids::is_taken;
 use crate::numbering::renumber;
 use crate::path::{Path, element_at};
 use crate::reasons::own_reason;
@@ -18,7 +20,7 @@ use crate::totals::Totals;
 use crate::undo::Undo;
 use crate::{Edit, EditRefusal};
 use fixed_units::{Memory, Room, Txt};
-use math_tree::{Node, Tree};
+use math_tree::{Node, NodeId, Tree};
 use splices::Splice;
 use std::alloc::Global;
 
@@ -48,6 +50,8 @@ pub struct Step {
     pub path: Path,
     pub change: Change,
     pub undo: Undo,
+    /// The element that is named by the edit which takes the change back.
+    pub back: NodeId,
 }
 
 impl EditPlan {
@@ -124,6 +128,9 @@ impl Accepted {
         if let Some(reason) = totals.broken_limit() {
             return Err(reason);
         }
+        if is_taken(alloc, tree, edit)? {
+            return Err(EditRefusal::IdTaken);
+        }
         let spare = Spare::make(alloc)?;
         Ok(Accepted {
             path,
@@ -138,7 +145,8 @@ impl Step {
     fn of_edit(alloc: Global, tree: &Tree, path: Path, edit: Edit) -> Result<Step, Memory>
         requires allowed { IsAllowed edit tree.now path }
         requires ids { tree.now.next_id + added edit ≤ 2 ^ 32 }
-        ensures { IfOk result (Makes tree.now.root (edited tree.now edit).root) }
+        ensures makes { IfOk result (Makes tree.now.root (edited tree.now edit).root) }
+        ensures back { IfOk result (GivesBack tree.now edit) }
     {
         match edit {
             Edit::Text(_, text) => Step::make(alloc, tree, path, Change::SetText(text)),
@@ -167,6 +175,20 @@ impl Step {
                     Change::Children(Splice::Swap(place, new)),
                 )
             }
+            Edit::Graft(_, index, new) => {
+                let element = element_at(tree.root(), path.as_slice());
+                let change = child_change(alloc, element, index as usize, new)?;
+                Step::make(alloc, tree, path, change)
+            }
+            Edit::Swap(_, new) => {
+                let (over, place) = path.split();
+                Step::make(
+                    alloc,
+                    tree,
+                    over,
+                    Change::Children(Splice::Swap(place, new)),
+                )
+            }
         }
     }
 
@@ -176,13 +198,30 @@ impl Step {
         ensures { IfOk result (IsStep path change tree.now.root) }
     {
         let element = element_at(tree.root(), path.as_slice());
+        let back = named_back(&change, element);
         match Undo::make(alloc, &change, element) {
-            Ok(undo) => Ok(Step { path, change, undo }),
+            Ok(undo) => Ok(Step {
+                path,
+                change,
+                undo,
+                back,
+            }),
             Err(memory) => {
                 drop(change);
                 Err(memory)
             }
         }
+    }
+}
+
+/// The element that is named by the edit which takes a change of an element back: the one that the
+/// change brings, and else that element itself.
+fn named_back(change: &Change, element: &Node) -> NodeId
+    ensures { result ≡ named_back change.now element.now }
+{
+    match change {
+        Change::Children(Splice::Put(_, child, _) | Splice::Swap(_, child)) => child.head.id,
+        _ => element.head.id,
     }
 }
 

@@ -18,8 +18,8 @@ pub fn own_reason(edit: &Edit, level: u32, element: &Node) -> Option<EditRefusal
     match edit {
         Edit::Text(_, text) => against_text(element.head.kind, text),
         Edit::Attr(_, name, value) => against_attribute(name, value),
-        Edit::Insert(_, index, _) => against_child(element, *index),
-        Edit::Remove(_) | Edit::Replace(_, _) => against_going(level),
+        Edit::Insert(_, index, _) | Edit::Graft(_, index, _) => against_child(element, *index),
+        Edit::Remove(_) | Edit::Replace(_, _) | Edit::Swap(_, _) => against_going(level),
     }
 }
 

@@ -5,7 +5,7 @@ ghost use Rattle.math_tree.specs.Forms.{most_levels};
 ghost use Rattle.math_tree.specs.Trees.{byte_count, element_count};
 ghost use Rattle.tree_edits.specs.Edits.{edited, head_of};
 ghost use Rattle.tree_edits.specs.Reasons.{broken_limit};
-ghost use Rattle.tree_edits.specs.Sizes.{attribute_bytes, totals_of, with_bytes, without, Adds};
+ghost use Rattle.tree_edits.specs.Sizes.{attribute_bytes, totals_of, with_bytes, without, Adds, AddsOwn};
 ghost use Rattle.tree_edits.specs.Planning.{Allows};
 
 use crate::measure::{Size, is_deep};
@@ -54,6 +54,8 @@ impl Totals {
             Edit::Insert(_, _, new) => before.with(path.level() + 1, new),
             Edit::Remove(_) => before.without(element),
             Edit::Replace(_, new) => before.without(element).with(path.level(), new),
+            Edit::Graft(_, _, new) => before.with_own(path.level() + 1, new),
+            Edit::Swap(_, new) => before.without(element).with_own(path.level(), new),
         }
     }
 
@@ -82,6 +84,17 @@ impl Totals {
             deep: self.deep || is_deep(new, level),
             size: self.size.and(added),
             next_id: self.next_id.saturating_add(added.elements),
+        }
+    }
+
+    /// With an element that is put in at a level with ids of its own.
+    fn with_own(self, level: u32, new: &Node) -> Totals
+        requires { level ≤ most_levels + 1 }
+        ensures { AddsOwn level new.now self result }
+    {
+        Totals {
+            next_id: self.next_id,
+            ..self.with(level, new)
         }
     }
 

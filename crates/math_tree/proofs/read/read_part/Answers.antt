@@ -4,5 +4,5 @@ use Rattle.math_tree.proofs.read.read_part.Goals as goal
 
 pub returns : goal.returns
 returns c =
-    let both = part_read (view c.args.value.now) c.read_element.new.seen c.read_element.result c.read_element.ensures in
+    let both = part_read (view c.args.value.now) c.read_element.new.seen c.read_element.result c.read_element.ensures.reads c.read_element.ensures.order in
     record { reads = both.0; sound = both.1 }

@@ -1,7 +1,7 @@
 use Rattle.std.proofs.Common.{◌≡◌, ◌∙◌, refl, Some, option_map}
 use Rattle.math_tree.specs.Trees.{TreeValue}
 use Rattle.tree_edits.proofs.StandIn.{stands_in}
-use Rattle.tree_edits.proofs.ThereAndBack.{undoes}
+use Rattle.tree_edits.proofs.ThereAndBack.{taken_back, undoes}
 use Rattle.tree_edits.specs.Paths.{node_at, replaced_by}
 use Rattle.tree_edits.specs.Planning.{planned}
 use Rattle.tree_edits.proofs.applying.carry_out_plan.Goals as goal
@@ -33,3 +33,11 @@ returns-clause-taken c =
     rw (← c.as_slice.ensures, ← c.exchange-root.ensures.former) c.carry_out_at-replaced.ensures.replaced in
     rw made (undoes tree plan c.carry_out_at-replaced.result c.completed.result _ c.requires c.next_id.ensures.whole was c.completed.ensures refl refl
     c.next_id.ensures.exact c.elements.ensures c.bytes.ensures)
+
+pub returns-clause-back : goal.returns-clause-back
+returns-clause-back c =
+    let tree : TreeValue = c.args.tree.now in
+    let plan = c.args.plan in
+    let was : option_map (replaced_by plan.step.change) (node_at plan.step.path tree.root) ≡ Some c.carry_out_at-replaced.result =
+    rw (← c.as_slice.ensures, ← c.exchange-root.ensures.former) c.carry_out_at-replaced.ensures.replaced in
+    λ edit gives. taken_back tree plan c.carry_out_at-replaced.result c.completed.result was c.completed.ensures edit gives

@@ -82,3 +82,28 @@ returns-in-Attr c =
     let counts = EditedTotals.attribute_totals c.args.tree.now c.args.path.now c.args.element.now c.in-Attr.field-0 c.in-Attr.name c.in-Attr.value allows c.former_value-former.ensures.order in
     c.with_bytes-in-Attr.ensures
     ∙ rw (c.of_tree-before.ensures, c.attribute_bytes.ensures, c.lent.ensures, c.attribute_bytes-in-Attr.ensures, c.former_value-former.ensures.value, c.in-Attr.is) counts.is
+
+pub returns-in-Graft : goal.returns-in-Graft
+returns-in-Graft c =
+    let allows = as_is c.args.tree.now c.args.path.now c.args.element.now c.in-Graft.is c.requires in
+    rw c.in-Graft.is (EditedTotals.graft_totals c.args.tree.now c.args.path.now c.args.element.now c.in-Graft.field-0 c.in-Graft.field-1 c.in-Graft.new
+    c.level-in-Graft.result c.of_tree-before.result c.with_own.result allows c.level-in-Graft.ensures c.of_tree-before.ensures c.with_own.ensures)
+
+pub without-requires-in-Swap-clause-elements : goal.without-requires-in-Swap-clause-elements
+without-requires-in-Swap-clause-elements c =
+    let allows = as_is c.args.tree.now c.args.path.now c.args.element.now c.in-Swap.is c.requires in
+    let leaves = EditedTotals.swap_leaves c.args.tree.now c.args.path.now c.args.element.now c.in-Swap.field-0 c.in-Swap.new allows in
+    rw c.of_tree-before.ensures leaves.elements
+
+pub without-requires-in-Swap-clause-bytes : goal.without-requires-in-Swap-clause-bytes
+without-requires-in-Swap-clause-bytes c =
+    let allows = as_is c.args.tree.now c.args.path.now c.args.element.now c.in-Swap.is c.requires in
+    let leaves = EditedTotals.swap_leaves c.args.tree.now c.args.path.now c.args.element.now c.in-Swap.field-0 c.in-Swap.new allows in
+    rw c.of_tree-before.ensures leaves.bytes
+
+pub returns-in-Swap : goal.returns-in-Swap
+returns-in-Swap c =
+    let allows = as_is c.args.tree.now c.args.path.now c.args.element.now c.in-Swap.is c.requires in
+    rw c.in-Swap.is (EditedTotals.swap_totals c.args.tree.now c.args.path.now c.args.element.now c.in-Swap.field-0 c.in-Swap.new c.level-in-Swap.result
+    c.of_tree-before.result c.without-in-Swap.result c.with_own-in-Swap.result allows c.level-in-Swap.ensures c.of_tree-before.ensures
+    c.without-in-Swap.ensures c.with_own-in-Swap.ensures)

@@ -2,7 +2,7 @@ use Rattle.std.proofs.Common.{subst}
 use Rattle.kept_edits.specs.ByIds.{TakesNeeded}
 use Rattle.memo_tree.proofs.Changes.{steps_law}
 use Rattle.edit_session.specs.Session.{KeptSession}
-use Rattle.edit_session.proofs.session.Session.edit.Goals as goal
+use Rattle.edit_session.proofs.session.Session.carry_out.Goals as goal
 
 pub returns-in-Ok-clause-steps : goal.returns-in-Ok-clause-steps
 returns-in-Ok-clause-steps g c = λ free.
