@@ -6,7 +6,8 @@
 FONT is an OpenType or TrueType font (of a collection, its first font with a MATH table). Taken over are, in design units:
 ascent and descent of a line without its gap (the typographic ones where the font asks for them, else those of "hhea"), the
 height of an x, the least connector overlap, all constants, and of each character that mathematics uses the glyph with its
-advance, ink, italics correction, accent position, variants and assemblies, in the font's order. Ink is rounded outward.
+advance, ink, italics correction, accent position, variants, assemblies and corner kerns, in the font's order. Ink is rounded
+outward. The file is one of version 2 where the font has corner kerns, and else one of version 1.
 
 A glyph keeps its name where that fits the format; another name is changed, one to one, and the font's first glyph is
 called `missing`. Where that is empty, it becomes a box. U+2061 to U+2064, which show nothing, are a glyph `invisible` without
@@ -38,13 +39,15 @@ from companion import command, needs
 from companion.command import Fault
 from companion.constants import CONSTANTS, INVISIBLE, SCALE_DOWNS, is_mathematical
 from companion.fonts import EMPTY, open_font, reading
-from companion.metrics import (LENGTHS, MOST_BYTES, MOST_GLYPHS, MOST_PARTS, MOST_VARIANTS, SIGNED, Glyph, Metrics, Part,
-                               Stretch)
+from companion.metrics import (LENGTHS, MOST_BYTES, MOST_GLYPHS, MOST_HEIGHTS, MOST_PARTS, MOST_VARIANTS, SIGNED, Glyph, Metrics,
+                               Part, Stretch)
 from companion.sources import Shape, Sources, is_combining
 from companion.stand_ins import read_stand_ins
 
 USE_TYPO_METRICS = 1 << 7
 EXTENDER = 1
+# Where a font keeps the kerns of the format's corners.
+CORNERS = {"TR": "TopRightMathKern", "TL": "TopLeftMathKern", "BR": "BottomRightMathKern", "BL": "BottomLeftMathKern"}
 UPEM = range(16, 16_385)
 # How far the ink of a part may differ from its stated length, in thousandths of an em, before it is told.
 TOLERANCE = 4
@@ -145,7 +148,7 @@ def metrics_of(sources, losses, measure_parts=False):
     add_glyphs(metrics, sources, used, losses)
     add_references(metrics, sources, characters, stretches, set(used))
     add_blanks(metrics, table.blanks)
-    count_kerns(font, {shape.glyph for shape in used if shape.place == 0}, losses)
+    metrics.kerns = kerns_of(sources, used, losses)
     return metrics
 
 
@@ -397,11 +400,36 @@ def add_references(metrics, sources, characters, stretches, kept):
              for part in stretch.parts if whole])
 
 
-def count_kerns(font, used, losses):
-    """Counts the glyphs that have corner kerns, for which the format has no line."""
-    info = font.math.MathGlyphInfo
-    if info and info.MathKernInfo:
-        losses["left out: corner kerns of glyphs"] += len(set(info.MathKernInfo.MathKernCoverage.glyphs) & used)
+def kerns_of(sources, used, losses):
+    """The kerns of the corners of shapes, by name and corner; a shape whose ink was moved has none."""
+    found = {}
+    for shape in used:
+        record = None if shape.spaced else kern_records(sources.fonts[shape.place]).get(shape.glyph)
+        for corner, part in CORNERS.items():
+            kern = getattr(record, part, None)
+            if kern and (lengths := kern_of(sources, shape.place, kern, losses)):
+                found[sources.name(shape), corner] = lengths
+    return found
+
+
+@cache
+def kern_records(font):
+    """What a font tells of the corners of its glyphs, by glyph."""
+    info = font.math and font.math.MathGlyphInfo and font.math.MathGlyphInfo.MathKernInfo
+    return dict(zip(info.MathKernCoverage.glyphs, info.MathKernInfoRecords)) if info else {}
+
+
+def kern_of(sources, place, kern, losses):
+    """Heights and values in units of the first font, or none where the format can't hold them."""
+    heights, values = ([losses.cut(round(sources.scaled(place, each.Value)), SIGNED, "corner kerns") for each in records]
+                       for records in (kern.CorrectionHeight or [], kern.KernValue or []))
+    if len(heights) > MOST_HEIGHTS:
+        losses["left out: corner kerns of more than 16 heights"] += 1
+    elif len(values) != len(heights) + 1 or any(low >= high for low, high in zip(heights, heights[1:])):
+        losses["left out: corner kerns whose heights don't rise"] += 1
+    else:
+        return heights, values
+    return None
 
 
 if __name__ == "__main__":

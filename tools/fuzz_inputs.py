@@ -9,7 +9,7 @@ from dataclasses import dataclass, field
 from pathlib import Path
 
 from second.dictionary import CATEGORIES
-from second.metrics import CONSTANTS
+from second.metrics import CONSTANTS, CORNERS
 
 TOP = Path(__file__).resolve().parent.parent
 FOLDER = None  # in place of a file's bytes: a folder of that name
@@ -167,7 +167,8 @@ def metrics(random, is_hostile=False):
     def length():
         return abs(number())
 
-    lines = ["mathlay-metrics 1", f"upem {random.choice([16, 16384]) if is_hostile else random.choice([1000, 1024, 2048])}"]
+    version = random.choice([1, 2, 2])
+    lines = [f"mathlay-metrics {version}", f"upem {random.choice([16, 16384]) if is_hostile else random.choice([1000, 1024, 2048])}"]
     lines += [f"line {length()} {length()}", f"xheight {length()}"]
     if random.random() < 0.7:
         lines.append(f"overlap {random.choice([0, 0, 20, 100, length()])}")
@@ -179,6 +180,7 @@ def metrics(random, is_hostile=False):
         lines.append(f"glyph {name} {length()} {number()} {number()}{more}")
     lines += [f"char {ord(letter):04X} g{ord(letter):X}" for letter in letters]
     lines += growth(random, names, length)
+    lines += kern_lines(random, names, number) if version == 2 else []
     lines += operator_lines(random)
     return "".join(line + "\n" for line in lines).encode()
 
@@ -196,6 +198,30 @@ def growth(random, names, length):
                     role = random.choice(["EXT", "FIX"])
                     lines.append(f"{axis}assembly {name} {random.choice(names)} {role} {length()} {length()} {length()}")
     return lines
+
+
+def kern_lines(random, names, number):
+    """Kerns of some corners, and of most of those of the glyph that shows what has none."""
+    lines = []
+    for name in names:
+        for corner in CORNERS:
+            if random.random() < (0.8 if name == "missing" else 0.35):
+                heights = sorted({number() - random.choice([0, 0, 300]) for _ in range(random.choice([0, 1, 1, 2, 3, 5]))})
+                pairs = "".join(f" {max(height, -32768)} {number() - 400}" for height in heights)
+                lines.append(f"kern {name} {corner} {max(number() - 400, -32768)}{pairs}")
+    random.shuffle(lines)
+    return lines
+
+
+def wrong_kern(random):
+    """A line that is no sound kern, or perhaps is one."""
+    return random.choice(
+        [
+            "kern", "kern missing", "kern missing TR", "kern missing TR 1", "kern missing tr 1", "kern nobody TR 1", "kern a$ TR 1", "kern missing TR 1 2", "kern missing TR x", "kern missing XX x",
+            "kern missing BL 65536", "kern missing BL -32769 0 0", "kern missing BL 0 0 0 0 0", "kern missing BL 0 1 0 0 0", "kern missing BL 0 1 0 1 0", "kern missing BL 0 -5 0 5 65536", "kern missing BL +1",
+            "kern missing TL 0" + "".join(f" {place} 0" for place in range(16)), "kern missing TL 0" + "".join(f" {place} 0" for place in range(17)), "mathlay-metrics 2", "kern nobody XX 0", "kern missing XX 0 0 0",
+        ]
+    )
 
 
 def operator_lines(random):
@@ -257,7 +283,7 @@ def hostile_line(random):
 
 # ---- changed bytes
 
-PIECES = [b"0", b"-1", b"65535", b"65536", b"99999", b"-32768", b"-32769", b"999999", b"1000000", b"1e999", b"\x00", b"\xff", b"\r\n", b"\n", b" ", b"\t", b'"', b"{", b"}", b"[", b"]", b",", b":", b"\\u0041", b"\\ud800", b"\\", b"#", b"D800", b"10FFFF", b"110000", b"glyph", b"const", b"char 0041 missing\n", b"null", b"true", b"math", b'"children":[]', b'"text":"x"', b"2147483648", b"4294967296", b"18446744073709551616", b"\xc3\xa9", b"\xed\xa0\x80"]
+PIECES = [b"0", b"-1", b"65535", b"65536", b"99999", b"-32768", b"-32769", b"999999", b"1000000", b"1e999", b"\x00", b"\xff", b"\r\n", b"\n", b" ", b"\t", b'"', b"{", b"}", b"[", b"]", b",", b":", b"\\u0041", b"\\ud800", b"\\", b"#", b"D800", b"10FFFF", b"110000", b"glyph", b"const", b"kern", b" TR ", b" BL ", b"mathlay-metrics 2", b"char 0041 missing\n", b"null", b"true", b"math", b'"children":[]', b'"text":"x"', b"2147483648", b"4294967296", b"18446744073709551616", b"\xc3\xa9", b"\xed\xa0\x80"]
 
 
 def changed(random, content, others):
@@ -337,6 +363,17 @@ def metrics_bytes(random):
     return Case(["check", "m", "t"], {"m": content, "t": b'{"name":"math"}'})
 
 
+def kerns(random):
+    """Metrics of version 2, sound and with lines that may be wrong, over tokens with scripts."""
+    lines = metrics(random, random.random() < 0.3).split(b"\n")
+    for _ in range(random.choice([0, 0, 1, 2])):
+        lines.insert(random.randrange(1, len(lines)), wrong_kern(random).encode())
+    if random.random() < 0.5:
+        lines[0] = random.choice([b"mathlay-metrics 2", b"mathlay-metrics 2", b" mathlay-metrics  2 ", b"mathlay-metrics 02", b"mathlay-metrics 3"])
+    parents = [element(random, 2, random.choice(["msub", "msup", "msubsup", "munder", "munderover", "mmultiscripts"])) for _ in range(4)]
+    return Case([random.choice(["layout", "layout", "check"]), "m", "t"], {"m": b"\n".join(lines), "t": json_bytes(random, {"name": "math", "children": parents})})
+
+
 def tree_bytes(random):
     """Real trees with changed bytes."""
     base = random.choice(REAL["tree"]) if random.random() < 0.5 else tree(random)
@@ -413,7 +450,7 @@ def generated(random):
 
 KINDS = {
     each.__name__: each
-    for each in (formulas, borders, samples, edits, pictures, pointers, selections, metrics_bytes, tree_bytes, script_bytes, nested, wide, words, generated)
+    for each in (formulas, borders, samples, edits, kerns, pictures, pointers, selections, metrics_bytes, tree_bytes, script_bytes, nested, wide, words, generated)
 }
 # How often a kind comes among others.
-WEIGHTS = {"formulas": 8, "borders": 3, "samples": 2, "edits": 6, "pictures": 2, "pointers": 2, "selections": 2, "metrics_bytes": 4, "tree_bytes": 4, "script_bytes": 3, "nested": 2, "wide": 1, "words": 2, "generated": 1}
+WEIGHTS = {"formulas": 8, "borders": 3, "samples": 2, "edits": 6, "kerns": 3, "pictures": 2, "pointers": 2, "selections": 2, "metrics_bytes": 4, "tree_bytes": 4, "script_bytes": 3, "nested": 2, "wide": 1, "words": 2, "generated": 1}

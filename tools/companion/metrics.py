@@ -9,6 +9,8 @@ MOST_BYTES = 8_388_608
 MOST_GLYPHS = 65_535
 MOST_VARIANTS = 64
 MOST_PARTS = 16
+MOST_HEIGHTS = 16
+CORNERS = ("TR", "TL", "BR", "BL")
 LENGTHS = (0, 65_535)
 SIGNED = (-32_768, 65_535)
 FIT_NAME = re.compile(r"[A-Za-z0-9_.-]{1,63}", re.ASCII)
@@ -70,10 +72,12 @@ class Metrics:
     characters: dict = field(default_factory=dict)
     stretches: dict = field(default_factory=dict)
     operators: list = field(default_factory=list)
+    # By glyph and corner: heights, and one value more.
+    kerns: dict = field(default_factory=dict)
 
     def text(self, remarks):
-        """The file in its canonical form, behind lines of remarks."""
-        lines = ["mathlay-metrics 1", *(f"# {remark}" for remark in remarks)]
+        """The file in its canonical form, behind lines of remarks. Kerns make it one of version 2."""
+        lines = [f"mathlay-metrics {2 if self.kerns else 1}", *(f"# {remark}" for remark in remarks)]
         lines += [f"upem {self.upem}", f"line {self.ascent} {self.descent}", f"xheight {self.xheight}",
                   f"overlap {self.overlap}"]
         lines += [f"const {name} {value}" for name, value in self.constants.items()]
@@ -83,7 +87,13 @@ class Metrics:
             both = [(axis, self.stretches[axis, name]) for axis in "vh" if (axis, name) in self.stretches]
             lines += [line for axis, stretch in both for line in stretch.variant_lines(axis, name)]
             lines += [line for axis, stretch in both for line in stretch.part_lines(axis, name)]
+            lines += [kern_line(name, corner, *self.kerns[name, corner]) for corner in CORNERS if (name, corner) in self.kerns]
         return "".join(line + "\n" for line in [*lines, *self.operators])
+
+
+def kern_line(name, corner, heights, values):
+    first, *others = values
+    return " ".join(map(str, ["kern", name, corner, first, *(number for pair in zip(heights, others) for number in pair)]))
 
 
 @dataclass

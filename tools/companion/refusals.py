@@ -81,7 +81,7 @@ def of_metrics(line, kind, path):
         raise Fault(f"metrics {line} {kind}: there is no fault of metrics with the number {kind}")
     text = lines_of(path, line)
     told = f"{path or 'the metrics file'}, line {line}: {row['fault']}"
-    if text is not None and kind < 11:
+    if text is not None and kind not in range(11, 15):
         told += f": `{shown(text)}`"
         fields = formats.metrics_line(text.split()[0]) if text.split() else None
         if fields and kind in (4, 5, 6, 7, 8):

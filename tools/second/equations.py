@@ -7,18 +7,18 @@ from .facts import facts_of, lead_place
 from .fraction import fraction
 from .lengths import length_of, resolved
 from .limits import LARGE, PLAIN, STRETCHY, with_limits
-from .metrics import INLINE
+from .metrics import BOTTOM_LEFT, BOTTOM_RIGHT, INLINE, TOP_LEFT, TOP_RIGHT
 from .multiscripts import Pair, multi
 from .operators import operator
 from .padding import BORDER, cell_box, cell_start, error_box, padded_box, padded_rise, padded_start
 from .questions import COLUMNS, base_properties, has_moved_limits, kid_axes, pull_of
 from .radicals import root_with_index, square_root
 from .rows import RowKid, row_of
-from .scripts import with_sub, with_sub_and_sup, with_sup
+from .scripts import Corner, Corners, with_sub, with_sub_and_sup, with_sup
 from .spaces import space
-from .styles import font_size
+from .styles import child_style, font_size
 from .tables import baselines, columns_of, row_of_cells, table_box
-from .tokens import Leaf, token
+from .tokens import Leaf, token, token_glyph
 from .words import truth_of
 
 ROOT_ID = 1
@@ -59,6 +59,21 @@ class Element:
     def has_large_base(self):
         base = base_properties(self.metrics, self.facts, self.context)
         return base is not None and base.largeop
+
+    def corner(self, place, name):
+        """A corner of the child in flow at a place, at the child's font size; None of what isn't shown by a single glyph."""
+        glyph = token_glyph(self.metrics, self.facts.flow[place])
+        if glyph is None:
+            return None
+        return Corner(glyph, name, font_size(self.metrics, child_style(self.metrics, self.context.style, self.node, place)))
+
+    def sub_corners(self, place=1):
+        """Where the subscript at a place meets the base."""
+        return {"base_sub": self.corner(0, BOTTOM_RIGHT), "sub": self.corner(place, TOP_LEFT)}
+
+    def sup_corners(self, place=1):
+        """Where the superscript at a place meets the base."""
+        return {"base_sup": self.corner(0, TOP_RIGHT), "sup": self.corner(place, BOTTOM_LEFT)}
 
     def outcome(self, box, offsets, marks=(), cells=()):
         """An element with this box. Round an embellished one stand the spaces of the child that leads to its core."""
@@ -159,21 +174,24 @@ def root_outcome(element):
 
 def sub_outcome(element):
     base, sub = element.boxes
-    made = with_sub(element.metrics, base, element.has_large_base(), sub, element.size)
+    corners = Corners(**element.sub_corners())
+    made = with_sub(element.metrics, base, element.has_large_base(), sub, element.size, corners)
     return element.outcome(made.box, ((0, 0), made.sub))
 
 
 def sup_outcome(element):
     base, sup = element.boxes
     is_cramped = element.context.style.is_cramped
-    made = with_sup(element.metrics, base, element.has_large_base(), is_cramped, sup, element.size)
+    corners = Corners(**element.sup_corners())
+    made = with_sup(element.metrics, base, element.has_large_base(), is_cramped, sup, element.size, corners)
     return element.outcome(made.box, ((0, 0), made.sup))
 
 
 def sub_sup_outcome(element):
     base, sub, sup = element.boxes
     is_cramped = element.context.style.is_cramped
-    made = with_sub_and_sup(element.metrics, base, element.has_large_base(), is_cramped, sub, sup, element.size)
+    corners = Corners(**element.sub_corners(), **element.sup_corners(place=2))
+    made = with_sub_and_sup(element.metrics, base, element.has_large_base(), is_cramped, sub, sup, element.size, corners)
     return element.outcome(made.box, ((0, 0), made.sub, made.sup))
 
 

@@ -25,6 +25,9 @@ CONSTANTS = """
 
 SCALE_DOWNS = CONSTANTS[:2]
 
+# The corners of a glyph, in the order in which their kerns are printed.
+TOP_RIGHT, TOP_LEFT, BOTTOM_RIGHT, BOTTOM_LEFT = CORNERS = ("TR", "TL", "BR", "BL")
+
 
 class Glyph(NamedTuple):
     name: str
@@ -48,6 +51,13 @@ class Part(NamedTuple):
     full: int
 
 
+class Kern(NamedTuple):
+    """A corner's kern by height: the first value counts below the first height, and each other one from its height on."""
+
+    heights: tuple
+    values: tuple
+
+
 class OperatorLine(NamedTuple):
     """The text is a tuple of one code point or two."""
 
@@ -61,6 +71,7 @@ class OperatorLine(NamedTuple):
 class Metrics:
     """The numbers of a file. A glyph is told by its place in `glyphs`; tables are by a pair of axis and base glyph."""
 
+    version: int = 1
     upem: int = None
     line: tuple = None  # ascent and descent
     x_height: int = None
@@ -71,6 +82,7 @@ class Metrics:
     characters: dict = field(default_factory=dict)  # places of glyphs, by code point
     variants: dict = field(default_factory=dict)
     parts: dict = field(default_factory=dict)
+    kerns: dict = field(default_factory=dict)  # by glyph and corner
     operators: dict = field(default_factory=dict)  # lines by text and form, in the order of the file
     axes: dict = field(default_factory=dict)  # by text, that of the first line
 
@@ -94,6 +106,13 @@ class Metrics:
 
     def ex(self, size):
         return self.scaled(self.x_height, size)
+
+    def kern(self, place, corner, height, size):
+        """The kern of a glyph's corner at a height in units; 0 where the corner has none."""
+        kern = self.kerns.get((place, corner))
+        if kern is None:
+            return 0
+        return self.scaled(kern.values[sum(self.scaled(each, size) <= height for each in kern.heights)], size)
 
     def line_ascent(self, size):
         return self.scaled(self.line[0], size)

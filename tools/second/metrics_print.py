@@ -1,6 +1,8 @@
 """The canonical form of a metrics file."""
 
-from .metrics import BLOCK, CONSTANTS, INLINE
+from itertools import chain
+
+from .metrics import BLOCK, CONSTANTS, CORNERS, INLINE
 
 
 def print_metrics(metrics):
@@ -10,7 +12,7 @@ def print_metrics(metrics):
 
 def printed_lines(metrics):
     """All lines in their order, each as a list of words and numbers."""
-    yield "mathlay-metrics", 1
+    yield "mathlay-metrics", metrics.version
     yield "upem", metrics.upem
     yield "line", *metrics.line
     yield "xheight", metrics.x_height
@@ -25,6 +27,7 @@ def printed_lines(metrics):
         yield "char", code(letter), metrics.glyphs[metrics.characters[letter]].name
     for place in range(len(metrics.glyphs)):
         yield from growth_lines(metrics, place)
+        yield from kern_lines(metrics, place)
     for line in metrics.operators.values():
         yield "operator", "+".join(map(code, line.text)), line.form, line.category, line.axis
 
@@ -39,6 +42,14 @@ def growth_lines(metrics, place):
         for part in metrics.parts_of(place, axis):
             role = "EXT" if part.is_extender else "FIX"
             yield word, base, metrics.glyphs[part.glyph].name, role, part.start, part.end, part.full
+
+
+def kern_lines(metrics, place):
+    """The lines of the kerns at the corners of the glyph at a place."""
+    for corner in CORNERS:
+        if (place, corner) in metrics.kerns:
+            heights, (first, *others) = metrics.kerns[place, corner]
+            yield "kern", metrics.glyphs[place].name, corner, first, *chain(*zip(heights, others))
 
 
 def code(letter):

@@ -2,15 +2,16 @@
 
 import re
 
-from .metrics import BLOCK, CONSTANTS, INLINE, SCALE_DOWNS, Glyph, Metrics, OperatorLine, Part, Variant
+from .metrics import BLOCK, CONSTANTS, CORNERS, INLINE, SCALE_DOWNS, Glyph, Kern, Metrics, OperatorLine, Part, Variant
 
 MOST_BYTES = 8388608
-MOST_GLYPHS, MOST_VARIANTS, MOST_PARTS = 65535, 64, 16
+MOST_GLYPHS, MOST_VARIANTS, MOST_PARTS, MOST_HEIGHTS = 65535, 64, 16, 16
 
 # The kinds of faults of a line.
 FOREIGN_BYTE, WRONG_FIRST_LINE, UNKNOWN_WORD, FIELD_COUNT, NOT_A_NUMBER, OUT_OF_RANGE, WRONG_WORD, NOT_NAMED, REPEATED, TOO_MANY = range(1, 11)
 # What a file may end without, in the order in which it is looked for.
 NO_UPEM, NO_LINE, NO_X_HEIGHT, NO_MISSING = range(11, 15)
+FALLING_HEIGHTS = 15  # of a line too; it is looked for after all others
 
 NUMBER = re.compile(rb"-?[0-9]{1,6}")
 CODE = re.compile(rb"[0-9A-Fa-f]{4,6}")
@@ -42,7 +43,7 @@ def read_metrics(content):
     lines = lines_of(content)
     for number, line in enumerate(lines, 1):
         try:
-            take_line(metrics, line) if number > 1 else take_first_line(line)
+            take_line(metrics, line) if number > 1 else take_first_line(metrics, line)
         except LineFault as fault:
             raise MetricsFault(number, fault.kind) from None
     lacking = what_lacks(metrics)
@@ -64,12 +65,14 @@ def words_of(line):
     return [word for word in re.split(rb"[ \t]", line) if word]
 
 
-def take_first_line(line):
-    """The first line, which is never a comment: one that begins with `#` has the wrong words."""
+def take_first_line(metrics, line):
+    """The first line tells the version. It is never a comment: one that begins with `#` has the wrong words."""
     if not line.startswith(b"#") and FOREIGN.search(line):
         raise LineFault(FOREIGN_BYTE)
-    if words_of(line) != [b"mathlay-metrics", b"1"]:
+    words = words_of(line)
+    if words not in ([b"mathlay-metrics", b"1"], [b"mathlay-metrics", b"2"]):
         raise LineFault(WRONG_FIRST_LINE)
+    metrics.version = int(words[1])
 
 
 def take_line(metrics, line):
@@ -79,7 +82,7 @@ def take_line(metrics, line):
         raise LineFault(FOREIGN_BYTE)
     words = words_of(line)
     if words:
-        reader = READERS.get(words[0])
+        reader = READERS[metrics.version].get(words[0])
         if reader is None:
             raise LineFault(UNKNOWN_WORD)
         reader(metrics, words[1:])
@@ -257,7 +260,19 @@ def read_operator(metrics, fields):
     metrics.axes.setdefault(line.text, line.axis)
 
 
-READERS = {
+def read_kern(metrics, fields):
+    name, corner, first, *pairs = counted(fields, *range(3, 3 + 2 * MOST_HEIGHTS + 1, 2))
+    key = named(metrics, name), choice(corner, CORNERS)
+    numbers = [reach(word) for word in (first, *pairs)]
+    heights, values = numbers[1::2], numbers[::2]
+    if key in metrics.kerns:
+        raise LineFault(REPEATED)
+    if any(height >= above for height, above in zip(heights, heights[1:])):
+        raise LineFault(FALLING_HEIGHTS)
+    metrics.kerns[key] = Kern(tuple(heights), tuple(values))
+
+
+FIRST_READERS = {
     b"upem": read_upem,
     b"line": read_line,
     b"xheight": read_x_height,
@@ -271,3 +286,6 @@ READERS = {
     b"hassembly": read_part(INLINE),
     b"operator": read_operator,
 }
+
+# By version.
+READERS = {1: FIRST_READERS, 2: {**FIRST_READERS, b"kern": read_kern}}

@@ -5,6 +5,23 @@ from typing import NamedTuple
 from .boxes import Box
 
 
+class Corner(NamedTuple):
+    """A corner of a glyph at a font size, at which a kern is looked up."""
+
+    glyph: int
+    corner: str
+    size: int
+
+
+class Corners(NamedTuple):
+    """The corners that meet where scripts stand: two of the base and one of each script, None for what is no single glyph."""
+
+    base_sub: Corner | None = None
+    sub: Corner | None = None
+    base_sup: Corner | None = None
+    sup: Corner | None = None
+
+
 class Scripted(NamedTuple):
     """The box, and the places of both scripts, (0, 0) for one that isn't there."""
 
@@ -43,6 +60,26 @@ def pair_shifts(metrics, base, sub, sup, is_cramped, size):
     return up + rise, down + lack - rise
 
 
+# ---- kerns
+
+
+def kern_at(metrics, corner, height):
+    """The kern of a corner at a height above its own baseline."""
+    return metrics.kern(corner.glyph, corner.corner, height, corner.size) if corner else 0
+
+
+def sup_kern(metrics, corners, base, sup, up):
+    """At the foot of the superscript's ink and at the top of the base's, the larger one of both corners' kerns together."""
+    heights = up - sup.ink_descent, base.ink_ascent
+    return max(kern_at(metrics, corners.base_sup, height) + kern_at(metrics, corners.sup, height - up) for height in heights)
+
+
+def sub_kern(metrics, corners, base, sub, down):
+    """At the top of the subscript's ink and at the foot of the base's, likewise."""
+    heights = sub.ink_ascent - down, -base.ink_descent
+    return max(kern_at(metrics, corners.base_sub, height) + kern_at(metrics, corners.sub, height + down) for height in heights)
+
+
 # ---- where they stand
 
 
@@ -61,19 +98,22 @@ def ending_at(metrics, box, end, size):
     return box.of_width(end + metrics.constant("SpaceAfterScript", size))
 
 
-def with_sub(metrics, base, is_large, sub, size):
-    down, x = sub_shift(metrics, base, sub, size), sub_start(base, is_large)
+def with_sub(metrics, base, is_large, sub, size, corners=Corners()):
+    down = sub_shift(metrics, base, sub, size)
+    x = sub_start(base, is_large) + sub_kern(metrics, corners, base, sub, down)
     return Scripted(ending_at(metrics, base.joined(sub.raised(-down)), x + sub.width, size), sub=(x, down))
 
 
-def with_sup(metrics, base, is_large, is_cramped, sup, size):
-    up, x = sup_shift(metrics, base, sup, is_cramped, size), sup_start(base, is_large)
+def with_sup(metrics, base, is_large, is_cramped, sup, size, corners=Corners()):
+    up = sup_shift(metrics, base, sup, is_cramped, size)
+    x = sup_start(base, is_large) + sup_kern(metrics, corners, base, sup, up)
     return Scripted(ending_at(metrics, base.joined(sup.raised(up)), x + sup.width, size), sup=(x, -up))
 
 
-def with_sub_and_sup(metrics, base, is_large, is_cramped, sub, sup, size):
+def with_sub_and_sup(metrics, base, is_large, is_cramped, sub, sup, size, corners=Corners()):
     up, down = pair_shifts(metrics, base, sub, sup, is_cramped, size)
-    sub_x, sup_x = sub_start(base, is_large), sup_start(base, is_large)
+    sub_x = sub_start(base, is_large) + sub_kern(metrics, corners, base, sub, down)
+    sup_x = sup_start(base, is_large) + sup_kern(metrics, corners, base, sup, up)
     box = base.joined(sub.raised(-down)).joined(sup.raised(up))
     end = max(sub_x + sub.width, sup_x + sup.width)
     return Scripted(ending_at(metrics, box, end, size), sub=(sub_x, down), sup=(sup_x, -up))

@@ -7,6 +7,8 @@ from .facts import shown
 from .glyphs import GlyphMark, glyph_box
 from .words import is_word
 
+TOKENS = frozenset("mi mn ms mtext".split())
+
 # Of each alphabet its first and last letter, and the italic form of the first one; the first alphabet that has a letter counts.
 # The italic h is the Planck constant, and no capital letter stands between rho and sigma.
 ALPHABETS = (
@@ -38,8 +40,19 @@ def token(metrics, node, size):
     letters = letters_of(node)
     if len(letters) != 1:
         return word(metrics, letters, size)
+    return lone_letter(metrics, shown_letter(node, letters[0]), size)
+
+
+def token_glyph(metrics, node):
+    """The place of the glyph of a token of one character, else None. An operator has none."""
+    letters = letters_of(node) if node.kind in TOKENS else ()
+    return metrics.place_of(shown_letter(node, letters[0])) if len(letters) == 1 else None
+
+
+def shown_letter(node, letter):
+    """The character that shows the only letter of a token."""
     is_slanted = node.kind == "mi" and not is_word(node.attributes.get("mathvariant", ""), "normal")
-    return lone_letter(metrics, italic_of(letters[0]) if is_slanted else letters[0], size)
+    return italic_of(letter) if is_slanted else letter
 
 
 def italic_of(letter):

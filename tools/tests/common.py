@@ -48,9 +48,10 @@ def run(tool, *words):
 
 
 def make_font(path, glyphs, characters, variants=None, parts=None, upem=1024, typo=False, math=True, italics=None,
-              accents=None, kerns=(), named=True):
+              accents=None, kerns=None, named=True):
     """Writes a font. Of each glyph there are its advance and its ink as left, bottom, right and top, or a curve, or none; of
-    each axis `v` and `h` and base glyph the variants as (name, measure), and the parts as (name, extender, start, end, full)."""
+    each axis `v` and `h` and base glyph the variants as (name, measure), and the parts as (name, extender, start, end, full); of each glyph with
+    kerns heights and values by corner."""
     from fontTools.fontBuilder import FontBuilder
     builder = FontBuilder(upem, isTTF=True)
     builder.setupGlyphOrder(list(glyphs))
@@ -62,7 +63,7 @@ def make_font(path, glyphs, characters, variants=None, parts=None, upem=1024, ty
     builder.setupNameTable({"fullName": "Test Math", "version": "Version 7", "copyright": "Nobody's"})
     builder.setupPost(keepGlyphNames=named)
     if math:
-        builder.font["MATH"] = math_table(builder.font, variants or {}, parts or {}, italics or {}, accents or {}, kerns)
+        builder.font["MATH"] = math_table(builder.font, variants or {}, parts or {}, italics or {}, accents or {}, kerns or {})
     builder.save(path)
 
 
@@ -132,6 +133,9 @@ def math_table(font, variants, parts, italics, accents, kerns):
         assembly = made("GlyphAssembly", ItalicsCorrection=value(0), PartRecords=pieces, PartCount=len(pieces)) if pieces else None
         return made("MathGlyphConstruction", GlyphAssembly=assembly, MathGlyphVariantRecord=records, VariantCount=len(records))
 
+    def kern(heights, values):
+        return made("MathKern", HeightCount=len(heights), CorrectionHeight=list(map(value, heights)), KernValue=list(map(value, values)))
+
     vertical, vertical_constructions = constructions("v")
     sideways, sideways_constructions = constructions("h")
     info = made("MathGlyphInfo", ExtendedShapeCoverage=None, MathKernInfo=None, MathTopAccentAttachment=None,
@@ -145,8 +149,9 @@ def math_table(font, variants, parts, italics, accents, kerns):
             "MathTopAccentAttachment", TopAccentCoverage=buildCoverage(list(accents), glyphs),
             TopAccentAttachment=[value(number) for number in accents.values()], TopAccentAttachmentCount=len(accents))
     if kerns:
-        records = [made("MathKernInfoRecord", TopRightMathKern=None, TopLeftMathKern=None, BottomRightMathKern=None,
-                        BottomLeftMathKern=None) for _ in kerns]
+        records = [made("MathKernInfoRecord", **{f"{corner}MathKern": kern(*corners[corner]) if corner in corners else None for corner
+                                                 in ("TopRight", "TopLeft", "BottomRight", "BottomLeft")})
+                   for corners in kerns.values()]
         info.MathKernInfo = made("MathKernInfo", MathKernCoverage=buildCoverage(list(kerns), glyphs),
                                  MathKernInfoRecords=records, MathKernCount=len(records))
     table = newTable("MATH")

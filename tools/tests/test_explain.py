@@ -44,7 +44,7 @@ class Sentences(InFolder):
         for row in formats.table("The script, and the replies to it", "reply"):
             if row["reply"].startswith("refused"):
                 self.assertIn(f"right would be {row['what would be right']}", self.told(*row["reply"].split()))
-        for heading, word, kinds in (("The metrics file", "metrics", range(1, 15)), ("The tree file", "tree", range(1, 12))):
+        for heading, word, kinds in (("The metrics file", "metrics", range(1, 16)), ("The tree file", "tree", range(1, 12))):
             rows = formats.table(f"{heading}: Its faults", "kind")
             self.assertEqual(sorted(int(row["kind"]) for row in rows), list(kinds))
             for row in rows:
@@ -55,7 +55,7 @@ class Sentences(InFolder):
         self.assertEqual(sum(bool(re.match(r"\| \d \|", line)) for line in first), 9)
 
     def test_what_is_no_refusal(self):
-        for words in (("hello",), ("metrics", 1, 15), ("tree", 1, 12), ("refused", "everything")):
+        for words in (("hello",), ("metrics", 1, 16), ("tree", 1, 12), ("refused", "everything")):
             status, written, errors = run(explain, *words)
             self.assertEqual((status, written, errors.count("\n")), (1, b"", 1))
 

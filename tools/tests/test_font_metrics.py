@@ -123,14 +123,19 @@ class OfAFont(InFolder):
 
     def test_what_the_format_cannot_hold_is_told(self):
         glyphs = GLYPHS | {f"v{number}": (10, None) for number in range(70)}
-        font = self.font(glyphs=glyphs, kerns=["x", "unused"], variants={
+        kerns = {"x": {"TopRight": ([5, 5], [1, 2, 3]), "TopLeft": (list(range(17)), [0] * 18), "BottomLeft": ([-40, 9], [-7, 0, 70_000 - 65_536])},
+                 "unused": {"TopRight": ([], [1])}}
+        font = self.font(glyphs=glyphs, kerns=kerns, variants={
             ("v", "paren"): [(f"v{number}", number) for number in range(70)]}, parts={("v", "x"): [("ext", True, 1, 1, 9)] * 17})
         status, written, errors = run(font_metrics, font)
         self.assertEqual(status, 0)
         self.assertEqual(written.count(b"vvariant"), 64)
         self.assertNotIn(b"vassembly", written)
         self.assertEqual([line.removeprefix(f"font_metrics: {font}: left out: ") for line in errors.splitlines()], [
-            "variants past the 64th of a glyph (6)", "assemblies of more than 16 parts", "corner kerns of glyphs"])
+            "variants past the 64th of a glyph (6)", "assemblies of more than 16 parts",
+            "corner kerns whose heights don't rise", "corner kerns of more than 16 heights"])
+        self.assertTrue(written.startswith(b"mathlay-metrics 2\n"))
+        self.assertEqual([line for line in written.split(b"\n") if line.startswith(b"kern")], [b"kern x BL -7 -40 0 9 4464"])
 
     def test_most_glyphs_that_a_font_file_can_count(self):
         """The number of glyphs has 16 bits in a font file: 65,535 is the most."""

@@ -62,6 +62,22 @@ class SecondEngine(unittest.TestCase):
         for words in (("hit", "m", "t", "1", "123456789012"), ("hit", "m", "t", "-", "1"), ("select", "m", "t", "1", "4294967296"), ("select", "m", "t", "1", "-1")):
             self.assertEqual(run(*words, m=sample, t=tree)[0], 2)
 
+    def test_a_superscript_moves_in_by_kerns(self):
+        sample = (TOP / "crates" / "run_cases" / "data" / "sample.metrics").read_bytes()
+        kerned = sample.replace(b"metrics 1", b"metrics 2", 1) + b"kern x.it TR -40 400 -20\nkern one BL 0 100 10\n"
+        tree = b'{"name":"math","children":[{"name":"msup","children":[{"name":"mi","text":"x"},{"name":"mn","text":"1"}]}]}'
+        self.assertIn(b"\nglyph 9080 -5760 12288 one\n", run("layout", "m", "t", m=kerned, t=tree)[1])
+        self.assertIn(b"\nglyph 9280 -5760 12288 one\n", run("layout", "m", "t", m=sample, t=tree)[1])
+        self.assertIn(b"\nkern one BL 0 100 10\nkern x.it TR -40 400 -20\nvvariant ", run("check", "m", "t", m=kerned, t=tree)[1])
+
+    def test_faults_of_kerns(self):
+        for line, kind in ((b"x", 3), (b"kern one TR", 4), (b"kern nobody TR x", 8), (b"kern one XX x", 7), (b"kern one TR 0 x 0", 5), (b"kern one TR 0 70000 0", 6), (b"kern one TR 0 5 0 5 0", 15)):
+            with self.subTest(line):
+                metrics = SMALL.replace(b"metrics 1", b"metrics 2") + line
+                self.assertEqual(run("check", "m", "t", m=metrics, t=ONE), (3, b"metrics 8 %d\n" % kind))
+        self.assertEqual(run("check", "m", "t", m=SMALL + b"kern one TR 0", t=ONE), (3, b"metrics 8 3\n"))
+        self.assertEqual(run("check", "m", "t", m=SMALL.replace(b"metrics 1", b"metrics 3"), t=ONE), (3, b"metrics 1 2\n"))
+
     def test_every_sample_is_laid_out_with_its_own_font(self):
         font = read_metrics(FONT)
         for path in sorted(SAMPLES.glob("*.json")):

@@ -25,6 +25,7 @@ glyph_named name =
 
 abbrev font : MetricsValue
 font = record {
+  version = 1;
   upem = 1024;
   line_ascent = 900;
   line_descent = 300;

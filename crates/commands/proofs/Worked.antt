@@ -73,6 +73,7 @@ glyph_named name ink =
 
 abbrev font : MetricsValue
 font = record {
+  version = 1;
   upem = 1024;
   line_ascent = 900;
   line_descent = 300;

@@ -1,16 +1,16 @@
 -- Lines of a text, and words of a line, cut off at the front.
-use Rattle.std.proofs.Common.{subst, lit<, ◌≡◌, ◌<◌, ◌≤◌, ◌&&◌, nat_le, length-drop, Ok, Err, ℕ, suc, ◌==◌, if◌then◌else◌, ◌+◌, ◌-◌, Bool, true, false, cond, not, nat_eq, nat_lt, List, [], ◌∷◌, length, take, drop, position, Option, Some, None, refl, ap, sym, ◌∙◌, arith}
+use Rattle.std.proofs.Common.{subst, lit<, ◌≡◌, ◌<◌, ◌≤◌, ◌&&◌, nat_le, length-drop, Ok, Err, ℕ, suc, ◌==◌, if◌then◌else◌, ◌+◌, ◌-◌, ◌%◌, Bool, true, false, cond, not, nat_eq, nat_lt, List, [], ◌∷◌, length, take, drop, position, Option, Some, None, refl, ap, sym, ◌∙◌, arith}
 use Rattle.std.proofs.lemmas.Bool.Decides.{nat_tests, Decides-ltb}
 use Rattle.std.proofs.lemmas.List.Splits.{slice_split-cons_no, slice_split_first}
 use Rattle.std.proofs.lemmas.Option.{none-some, same_Some}
 use Rattle.std.specs.List.{list_all, slice_split, onto_first, position_or_len}
 use Rattle.std.specs.Str.Lines.{lines, lines_of_parts, strip_carriage_return}
 use Rattle.font_metrics.specs.declared.keyword.Keyword.{Keyword}
-use Rattle.font_metrics.specs.declared.keyword.Keyword.TheVariants.{Table as TableOf, Unknown}
+use Rattle.font_metrics.specs.declared.keyword.Keyword.TheVariants.{Kern as KernOf, Unknown}
 use Rattle.font_metrics.specs.declared.given.Given.{Given}
-use Rattle.font_metrics.specs.Lines.{Words, Item, SaysEntry, keyword_of, item_in}
+use Rattle.font_metrics.specs.Lines.{Words, Item, says_kern, are_pairs, kern_with, keyword_of, known_in, item_in}
 use Rattle.font_metrics.specs.Metrics.{NamedGlyph}
-use Rattle.font_metrics.specs.Reading.{lines_of, words_of, is_foreign, is_comment, allowed, put, after, after_fields, after_words, is_version, most_words}
+use Rattle.font_metrics.specs.Reading.{lines_of, words_of, is_foreign, is_comment, allowed, put, after, after_fields, after_words, version_in, most_words}
 use Rattle.std.specs.Char.{is_digit}
 use Rattle.std.specs.Str.Parse.{digits_value}
 use Rattle.std.proofs.lemmas.List.{take_all, length-take-le}
@@ -18,7 +18,6 @@ use Rattle.op_dictionary.specs.declared.text.OpText.TheVariants.{Two}
 use Rattle.font_metrics.specs.declared.fault.LineFault.TheVariants.{ForeignByte, UnknownWord, FieldCount, NotANumber}
 use Rattle.font_metrics.specs.Faults.{Step, ◌>>=◌, or_fault, fault_if, step_map}
 use Rattle.font_metrics.specs.Words.{plus, value_of_digits, numeral_of, code_of, in_pair, pair_in, text_of_codes}
-use Rattle.font_metrics.proofs.TableKinds.Each.{kind}
 use Rattle.font_metrics.proofs.Steps.{free}
 
 -- ---- the first part
@@ -101,6 +100,13 @@ refused : Keyword → Step Item
 refused Unknown = Err UnknownWord
 refused keyword = Err FieldCount
 
+no_pairs : (words : Words) → 32 < length words → are_pairs words ≡ false
+no_pairs words more = by (nat_eq (length words % 2) 0) (nat_le (length words) 32) (grind (arith, nat_tests))
+  where
+    by : (a b : Bool) → b ≡ false → (a && b) ≡ false
+    by true b h = h
+    by false b h = refl
+
 too_many_fields : (glyphs : List NamedGlyph) (keyword : Keyword) (fields : Words) → most_fields < length fields
     → item_in glyphs keyword fields ≡ refused keyword
 unfolding refused
@@ -112,8 +118,9 @@ too_many_fields glyphs keyword (a ∷ b ∷ c ∷ d ∷ []) more = absurd (omega
 too_many_fields glyphs keyword (a ∷ b ∷ c ∷ d ∷ e ∷ []) more = absurd (omega arith)
 too_many_fields glyphs keyword (a ∷ b ∷ c ∷ d ∷ e ∷ f ∷ []) more = absurd (omega arith)
 too_many_fields glyphs Unknown (a ∷ b ∷ c ∷ d ∷ e ∷ f ∷ g ∷ fields) more = refl
-too_many_fields glyphs (TableOf t) (a ∷ b ∷ c ∷ d ∷ e ∷ f ∷ g ∷ fields) more =
-    ap (step_map (SaysEntry t)) ((kind t).many glyphs (a ∷ b ∷ c ∷ d ∷ e ∷ f ∷ g ∷ fields) more)
+too_many_fields glyphs KernOf (a ∷ b ∷ c ∷ d ∷ e ∷ f ∷ g ∷ fields) more =
+    ap (λ t. step_map says_kern (fault_if (not t) FieldCount >>= λ whole. kern_with glyphs a b c (d ∷ e ∷ f ∷ g ∷ fields)))
+    (no_pairs (d ∷ e ∷ f ∷ g ∷ fields) (omega (arith, more)))
 too_many_fields glyphs keyword (a ∷ b ∷ c ∷ d ∷ e ∷ f ∷ g ∷ fields) more = refl
 
 fields-take : (g : Given) (keyword : Keyword) (count : ℕ) (fields : Words) → most_fields < count
@@ -142,20 +149,20 @@ by_count P h = subst P (sym most_words_are) h
 words-take_of : (g : Given) (count : ℕ) (words : Words) → most_fields < count
     → after_words g (take (suc count) words) ≡ after_words g words
 words-take_of g count [] most = refl
-words-take_of g count (word ∷ fields) most = fields-take g (keyword_of word) count fields most
+words-take_of g count (word ∷ fields) most = fields-take g (known_in g.version (keyword_of word)) count fields most
 
 pub words-take : (g : Given) (words : Words) → after_words g (take most_words words) ≡ after_words g words
 words-take g words =
     by_count (λ n. after_words g (take n words) ≡ after_words g words) (words-take_of g 37 words (lit< tt))
 
-version-take_of : (count : ℕ) (words : Words) → is_version (take (suc (suc (suc count))) words) ≡ is_version words
+version-take_of : (count : ℕ) (words : Words) → version_in (take (suc (suc (suc count))) words) ≡ version_in words
 version-take_of count [] = refl
 version-take_of count (w ∷ []) = refl
 version-take_of count (w ∷ a ∷ []) = refl
 version-take_of count (w ∷ a ∷ b ∷ more) = refl
 
-pub version-take : (words : Words) → is_version (take most_words words) ≡ is_version words
-version-take words = by_count (λ n. is_version (take n words) ≡ is_version words) (version-take_of 35 words)
+pub version-take : (words : Words) → version_in (take most_words words) ≡ version_in words
+version-take words = by_count (λ n. version_in (take n words) ≡ version_in words) (version-take_of 35 words)
 
 -- a slice to the end is all that is left
 pub rest_all : {X : Type 0} (xs : List X) (i : ℕ) → take (length xs - i) (drop i xs) ≡ drop i xs

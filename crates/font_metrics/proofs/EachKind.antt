@@ -64,7 +64,7 @@ length_range word n h = (natural_range 0 65535 word n h).1
 pub is_length : (n : ℕ) → n ≤ 65535 → IsLength (pos n)
 is_length n h = (omega (arith, signed), omega (arith, signed))
 
-reach_range : (word : List ℕ) (z : ℤ) → reach_in word ≡ Ok z → IsReach z
+pub reach_range : (word : List ℕ) (z : ℤ) → reach_in word ≡ Ok z → IsReach z
 reach_range word z h = number_range (negsuc 32767) (pos 65535) word z h
 
 given_reach : (word : Option (List ℕ)) (z : Option ℤ) → reach_if_given word ≡ Ok z → IfSome z IsReach

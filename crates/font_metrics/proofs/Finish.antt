@@ -44,6 +44,8 @@ taken_of g n h e =
     let upem = subst (λ o. IfSome o IsUpem) there.upem h.upem in
     let line = subst (λ o. IfSome o IsLine) there.line h.line in
     record {
+      version = h.version;
+      known = h.known;
       upem_low = upem.0;
       upem_high = upem.1;
       line_ascent = line.0;

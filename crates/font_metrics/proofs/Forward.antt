@@ -28,7 +28,7 @@ pub given_from-push : (g : Given) (lines : List (List ℕ)) (line : List ℕ)
 given_from-push g [] line = refl
 given_from-push g (l ∷ ls) line = given_from-push (kept g (after g l)) ls line
 
-one_by_one : (first : List ℕ) (start : Given) (before lines : List (List ℕ)) → kept nothing (after_first first) ≡ start
+one_by_one : (first : List ℕ) (start : Given) (before lines : List (List ℕ)) → kept (nothing 1) (after_first first) ≡ start
     → metrics_or (first_fault_behind (first ∷ before) lines) (first ∷ (before ++ lines))
     ≡ from_line (length (first ∷ before)) (given_from start before) lines
 one_by_one first start before [] begins =
@@ -70,12 +70,12 @@ from_first bytes first lines h =
     ∙ by (after_first first) refl (λ start. one_by_one first start [] lines)
   where
     by : (s : Step Given) → after_first first ≡ s
-        → ((start : Given) → kept nothing (after_first first) ≡ start
+        → ((start : Given) → kept (nothing 1) (after_first first) ≡ start
         → metrics_or (first_fault_behind (first ∷ []) lines) (first ∷ lines) ≡ from_line 1 start lines)
         → metrics_or (fault_or 1 s (first_fault_behind (first ∷ []) lines)) (first ∷ lines)
         ≡ continued 1 s (λ next. from_line 1 next lines)
     by (Err fault) e more = refl
-    by (Ok next) e more = more next (ap (kept nothing) e)
+    by (Ok next) e more = more next (ap (kept (nothing 1)) e)
 
 -- a line's refusal is that of the file
 pub stopped : (said : Result MetricsValue Fault) (number : ℕ) (s : Step Given) (new : Given)

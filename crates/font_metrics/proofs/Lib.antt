@@ -15,6 +15,7 @@ pub mod Slots
 pub mod Ranges
 pub mod LineTexts
 pub mod Refusing
+mod KernSteps
 pub mod Forward
 pub mod Values
 pub mod Scaling

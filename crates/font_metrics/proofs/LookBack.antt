@@ -43,11 +43,11 @@ seen see matter step (item ∷ items) g end h =
     ∙ append_assoc (see g) (matter item) (said matter items)
 
 -- from the beginning
-from_nothing : {X : Type 0} (see : Given → List X) (matter : Item → List X)
+from_nothing : {X : Type 0} (version : ℕ) (see : Given → List X) (matter : Item → List X)
     → ((g : Given) (item : Item) → allowed g item ≡ Ok tt → see (put g item) ≡ see g ++ matter item)
-    → see nothing ≡ [] → (items : List Item) (g : Given) → Grows nothing items g → see g ≡ said matter items
-from_nothing see matter step none items g h =
-    seen see matter step items nothing g h ∙ ap (λ l. l ++ said matter items) none
+    → see (nothing version) ≡ [] → (items : List Item) (g : Given) → Grows (nothing version) items g → see g ≡ said matter items
+from_nothing version see matter step none items g h =
+    seen see matter step items (nothing version) g h ∙ ap (λ l. l ++ said matter items) none
 
 -- ---- what is given once
 
@@ -120,9 +120,22 @@ operator-put : (g : Given) (item : Item) → allowed g item ≡ Ok tt
 operator-put g (SaysOperator line) h = refl
 operator-put g item h = sym (append-nil g.operators)
 
+-- the version of a file stays
+version-put : (g : Given) (item : Item) → (put g item).version ≡ g.version
+version-put g (SaysUpem n) = refl
+version-put g item = refl
+
+from_version : (version : ℕ) (items : List Item) (g : Given) → Grows (nothing version) items g → g.version ≡ version
+from_version version items g h = stays items (nothing version) g h
+  where
+    stays : (items : List Item) (g end : Given) → Grows g items end → end.version ≡ g.version
+    stays [] g end h = ap (λ (x : Given). x.version) (sym h)
+    stays (item ∷ items) g end h = stays items (put g item) end h.1 ∙ version-put g item
+
 -- ---- all that is given
 
-pub record IsSaid (items : List Item) (g : Given) : Type 0 where
+pub record IsSaid (file : ℕ) (items : List Item) (g : Given) : Type 0 where
+  pub version : g.version ≡ file
   pub upem : listed g.upem ≡ said upem_said items
   pub line : listed g.line ≡ said line_said items
   pub x_height : listed g.x_height ≡ said x_height_said items
@@ -133,17 +146,18 @@ pub record IsSaid (items : List Item) (g : Given) : Type 0 where
   pub tables : (t : Table) (place : ℕ) → items_of (entries t g.tables) place ≡ said (entry_said t place) items
   pub operators : g.operators ≡ said operator_said items
 
-pub is_said_by : (items : List Item) (g : Given) → Grows nothing items g → IsSaid items g
-is_said_by items g h = record {
-  upem = from_nothing (λ g. listed g.upem) upem_said upem-put refl items g h;
-  line = from_nothing (λ g. listed g.line) line_said line-put refl items g h;
-  x_height = from_nothing (λ g. listed g.x_height) x_height_said x_height-put refl items g h;
-  overlap = from_nothing (λ g. listed g.overlap) overlap_said overlap-put refl items g h;
-  constants = λ place. from_nothing (λ g. listed (lookup (nat_eq place) g.constants)) (constant_said place) (constant-put place) refl items g h;
-  glyphs = from_nothing (λ g. g.glyphs) glyph_said glyph-put refl items g h;
-  characters = λ code. from_nothing (λ g. listed (lookup (nat_eq code) g.characters)) (character_said code) (character-put code) refl items g h;
-  tables = λ t place. from_nothing (λ g. items_of (entries t g.tables) place) (entry_said t place) (table-put t place) (no-entry t place) items g h;
-  operators = from_nothing (λ g. g.operators) operator_said operator-put refl items g h;
+pub is_said_by : (version : ℕ) (items : List Item) (g : Given) → Grows (nothing version) items g → IsSaid version items g
+is_said_by version items g h = record {
+  version = from_version version items g h;
+  upem = from_nothing version (λ g. listed g.upem) upem_said upem-put refl items g h;
+  line = from_nothing version (λ g. listed g.line) line_said line-put refl items g h;
+  x_height = from_nothing version (λ g. listed g.x_height) x_height_said x_height-put refl items g h;
+  overlap = from_nothing version (λ g. listed g.overlap) overlap_said overlap-put refl items g h;
+  constants = λ place. from_nothing version (λ g. listed (lookup (nat_eq place) g.constants)) (constant_said place) (constant-put place) refl items g h;
+  glyphs = from_nothing version (λ g. g.glyphs) glyph_said glyph-put refl items g h;
+  characters = λ code. from_nothing version (λ g. listed (lookup (nat_eq code) g.characters)) (character_said code) (character-put code) refl items g h;
+  tables = λ t place. from_nothing version (λ g. items_of (entries t g.tables) place) (entry_said t place) (table-put t place) (no-entry t place) items g h;
+  operators = from_nothing version (λ g. g.operators) operator_said operator-put refl items g h;
 }
 
 -- ---- what may follow
@@ -156,17 +170,17 @@ once : {X : Type 0} (o : Option X) (l : List X) → listed o ≡ l
     → fault_if (is_some o) Repeated ≡ fault_if (is_said l) Repeated
 once o l h = ap (λ b. fault_if b Repeated) (some_is_said o l h)
 
-pub allowed-same : (items : List Item) (g : Given) (item : Item) → IsSaid items g
+pub allowed-same : (version : ℕ) (items : List Item) (g : Given) (item : Item) → IsSaid version items g
     → allowed g item ≡ allowed_behind items item
-allowed-same items g (SaysUpem n) h = once g.upem (said upem_said items) h.upem
-allowed-same items g (SaysLine n) h = once g.line (said line_said items) h.line
-allowed-same items g (SaysXHeight n) h = once g.x_height (said x_height_said items) h.x_height
-allowed-same items g (SaysOverlap n) h = once g.overlap (said overlap_said items) h.overlap
-allowed-same items g (SaysConstant c) h = once (lookup (nat_eq c.0) g.constants) _ (h.constants c.0)
-allowed-same items g (SaysGlyph n) h =
+allowed-same version items g (SaysUpem n) h = once g.upem (said upem_said items) h.upem
+allowed-same version items g (SaysLine n) h = once g.line (said line_said items) h.line
+allowed-same version items g (SaysXHeight n) h = once g.x_height (said x_height_said items) h.x_height
+allowed-same version items g (SaysOverlap n) h = once g.overlap (said overlap_said items) h.overlap
+allowed-same version items g (SaysConstant c) h = once (lookup (nat_eq c.0) g.constants) _ (h.constants c.0)
+allowed-same version items g (SaysGlyph n) h =
     ap (λ (glyphs : List NamedGlyph). fault_if (is_some (place_of_name glyphs n.name)) Repeated >>= λ new. fault_if (nat_le most_glyphs (length glyphs)) TooMany) h.glyphs
-allowed-same items g (SaysCharacter c) h = once (lookup (nat_eq c.0) g.characters) _ (h.characters c.0)
-allowed-same items g (SaysEntry t x) h =
-    ap (λ (l : List (EntryOf t)). fault_if (nat_le (slot t).most (length l)) TooMany) (h.tables t x.0)
-allowed-same items g (SaysOperator line) h =
+allowed-same version items g (SaysCharacter c) h = once (lookup (nat_eq c.0) g.characters) _ (h.characters c.0)
+allowed-same version items g (SaysEntry t x) h =
+    ap (λ (l : List (EntryOf t)). fault_if (nat_le (slot t).most (length l)) (slot t).full >>= λ free. (slot t).check x.1) (h.tables t x.0)
+allowed-same version items g (SaysOperator line) h =
     ap (λ (l : List OperatorLine). fault_if (is_named l line.text line.form) Repeated) h.operators

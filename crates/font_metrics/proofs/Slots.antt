@@ -1,15 +1,16 @@
 -- How the tables stand beside one another: each holds what was put there, and the others stay.
-use Rattle.std.proofs.Common.{◌≡◌, ◌∙◌, ap, refl, subst, sym, ℕ, Bool, true, false, ◌&&◌, List, [], ◌∷◌, ◌++◌, nat_eq, append-nil, true≢false, ◌⊎◌, inl, inr}
+use Rattle.std.proofs.Common.{◌≡◌, ◌∙◌, ap, refl, subst, sym, ℕ, ◌≤◌, ◌<◌, arith, Bool, true, false, ◌&&◌, List, [], ◌∷◌, ◌++◌, nat_eq, append-nil, true≢false, ◌⊎◌, inl, inr}
 use Rattle.std.specs.List.{AllByRecursion}
 use Rattle.std.proofs.lemmas.Bool.{and_parts}
 use Rattle.op_dictionary.specs.declared.operator.Axis.TheVariants.{Block, Inline}
+use Rattle.font_metrics.specs.declared.corner.Corner.TheVariants.{TopRight, TopLeft, BottomRight, BottomLeft}
 use Rattle.font_metrics.specs.declared.table.Table.{Table}
-use Rattle.font_metrics.specs.declared.table.Table.TheVariants.{Variants, Parts}
+use Rattle.font_metrics.specs.declared.table.Table.TheVariants.{Variants, Parts, Kerns}
 use Rattle.font_metrics.specs.declared.table.Tables.{Tables}
 use Rattle.font_metrics.specs.Laws.{one_if, of_table}
 use Rattle.font_metrics.specs.Metrics.{ByGlyph, items_of, with_item}
 use Rattle.font_metrics.specs.Ranges.{IsTable}
-use Rattle.font_metrics.specs.Tables.{EntryOf, slot, entries, with_entry, no_tables, all_tables, AreFilled}
+use Rattle.font_metrics.specs.Tables.{EntryOf, slot, entries, with_entry, no_tables, all_tables, AreFilled, IsSound}
 use Rattle.font_metrics.proofs.Entries.{item-put}
 use Rattle.font_metrics.proofs.TableKinds.Each.{kind}
 
@@ -23,20 +24,36 @@ same-or-other (Variants Block) (Variants Block) = inl refl
 same-or-other (Variants Inline) (Variants Inline) = inl refl
 same-or-other (Parts Block) (Parts Block) = inl refl
 same-or-other (Parts Inline) (Parts Inline) = inl refl
+same-or-other (Kerns TopRight) (Kerns TopRight) = inl refl
+same-or-other (Kerns TopLeft) (Kerns TopLeft) = inl refl
+same-or-other (Kerns BottomRight) (Kerns BottomRight) = inl refl
+same-or-other (Kerns BottomLeft) (Kerns BottomLeft) = inl refl
 same-or-other t other = inr (record { stays = λ tables table. refl; says = λ xs. refl })
 
 -- what holds of a table that is put and of all others holds of all
 pub put-filled : (count : ℕ) (t : Table) (tables : Tables) (table : ByGlyph (EntryOf t))
-    → IsTable count (slot t).most ((slot t).Is count) table → AreFilled count tables
+    → IsTable count (slot t).most (IsSound t count) table → AreFilled count tables
     → AreFilled count ((slot t).put tables table)
 put-filled count t tables table h k other = by (same-or-other t other)
   where
     by : (t ≡ other) ⊎ IsOther t other
-        → IsTable count (slot other).most ((slot other).Is count) (entries other ((slot t).put tables table))
+        → IsTable count (slot other).most (IsSound other count) (entries other ((slot t).put tables table))
     by (inl same) =
-        subst (λ o. IsTable count (slot o).most ((slot o).Is count) (entries o ((slot t).put tables table))) same
-        (subst (IsTable count (slot t).most ((slot t).Is count)) (sym ((kind t).stands.at-put tables table)) h)
-    by (inr is) = subst (IsTable count (slot other).most ((slot other).Is count)) (sym (is.stays tables table)) (k other)
+        subst (λ o. IsTable count (slot o).most (IsSound o count) (entries o ((slot t).put tables table))) same
+        (subst (IsTable count (slot t).most (IsSound t count)) (sym ((kind t).stands.at-put tables table)) h)
+    by (inr is) = subst (IsTable count (slot other).most (IsSound other count)) (sym (is.stays tables table)) (k other)
+
+-- so with tables that are empty in a version
+pub put-known : (version : ℕ) (t : Table) (tables : Tables) (table : ByGlyph (EntryOf t)) → (slot t).since ≤ version
+    → ((o : Table) → version < (slot o).since → entries o tables ≡ [])
+    → (o : Table) → version < (slot o).since → entries o ((slot t).put tables table) ≡ []
+put-known version t tables table had known other late = by (same-or-other t other)
+  where
+    by : (t ≡ other) ⊎ IsOther t other → entries other ((slot t).put tables table) ≡ []
+    by (inl same) =
+        let since : (slot t).since ≡ (slot other).since = ap (λ o. (slot o).since) same in
+        absurd (let none : ⊥ = omega (arith, had, late, since) in none)
+    by (inr is) = is.stays tables table ∙ known other late
 
 -- one more entry stands behind those of its table and glyph
 pub entry-more : (t other : Table) (q place : ℕ) (x : EntryOf other) (tables : Tables)

@@ -2,4 +2,5 @@
 pub mod Kind
 pub mod Variants
 pub mod Parts
+pub mod Kerns
 pub mod Each

@@ -1,7 +1,7 @@
 -- What is read off metrics stays within bounds.
 use Rattle.std.proofs.Common.{zero, suc, ◌≡◌, ◌∙◌, sym, ap, refl, subst, ℕ, ◌≤◌, ◌<◌, ◌^◌, ℤ, pos, negsuc, ◌≤ℤ◌, length, Option, Some, None, arith, nat_eq, Contains, if◌then◌else◌, Bool, true, false}
 use Rattle.std.proofs.lemmas.Bool.Decides.{nat_tests}
-use Rattle.std.proofs.lemmas.List.Elements.{All-contains}
+use Rattle.std.proofs.lemmas.List.Elements.{All-contains, All-weaker}
 use Rattle.std.proofs.lemmas.Map.Views.{IfSome-lookup}
 use Rattle.std.specs.List.{All}
 use Rattle.std.specs.Option.{unwrap_or, IfSome}
@@ -12,23 +12,25 @@ use Rattle.fixed_units.proofs.Signed.{signed}
 use Rattle.fixed_units.proofs.Within.{natural_in, widened}
 use Rattle.font_metrics.specs.declared.constants.ConstName.{ConstName}
 use Rattle.font_metrics.specs.declared.constants.ConstName.TheVariants.{ScriptPercentScaleDown, ScriptScriptPercentScaleDown}
+use Rattle.font_metrics.specs.declared.corner.Corner.{Corner}
 use Rattle.font_metrics.specs.declared.table.Table.{Table}
-use Rattle.font_metrics.specs.declared.table.Table.TheVariants.{Variants, Parts}
+use Rattle.font_metrics.specs.declared.table.Table.TheVariants.{Variants, Parts, Kerns}
 use Rattle.font_metrics.specs.Constants.{place_of_constant, is_scale_down}
-use Rattle.font_metrics.specs.Metrics.{MetricsValue, given_constant, or_default, percent_of, IsPercent, IsScaleDown, items_of, variants_of, parts_of}
-use Rattle.font_metrics.specs.Tables.{slot, entries}
-use Rattle.font_metrics.specs.Taken.{IsTaken, IsReach, IsVariant, IsPart, IsConstant}
+use Rattle.font_metrics.specs.Metrics.{MetricsValue, given_constant, or_default, percent_of, IsPercent, IsScaleDown, items_of, variants_of, parts_of, kerns_of}
+use Rattle.font_metrics.specs.Tables.{slot, entries, IsSound}
+use Rattle.font_metrics.specs.Taken.{IsTaken, IsReach, IsVariant, IsPart, IsKern, IsConstant}
 use Rattle.font_metrics.proofs.Ordered.{all_items, few_items}
 
 -- what a glyph has in a table
 module _ (m : MetricsValue) (place : ℕ) (h : IsTaken m) where
   pub entries_in : (t : Table) → All ((slot t).Is (length m.glyphs)) (items_of (entries t m.tables) place)
   entries_in t =
-      all_items ((slot t).Is (length m.glyphs)) (length m.glyphs) (slot t).most (entries t m.tables) place (h.tables t).entries
+      All-weaker (IsSound t (length m.glyphs)) ((slot t).Is (length m.glyphs)) (λ x is. is.0) (items_of (entries t m.tables) place)
+      (all_items (IsSound t (length m.glyphs)) (length m.glyphs) (slot t).most (entries t m.tables) place (h.tables t).entries)
 
   pub entries_few : (t : Table) → length (items_of (entries t m.tables) place) ≤ (slot t).most
   entries_few t =
-      few_items ((slot t).Is (length m.glyphs)) (length m.glyphs) (slot t).most (entries t m.tables) place (h.tables t).entries
+      few_items (IsSound t (length m.glyphs)) (length m.glyphs) (slot t).most (entries t m.tables) place (h.tables t).entries
 
 pub variants_in : (m : MetricsValue) (place : ℕ) (axis : Axis) → IsTaken m
     → All (IsVariant (length m.glyphs)) (variants_of m place axis)
@@ -47,6 +49,10 @@ parts_in m place axis h = entries_in m place h (Parts axis)
 pub parts_few : (m : MetricsValue) (place : ℕ) (axis : Axis) → IsTaken m → length (parts_of m place axis) ≤ 16
 unfolding parts_of
 parts_few m place axis h = entries_few m place h (Parts axis)
+
+pub kerns_in : (m : MetricsValue) (place : ℕ) (corner : Corner) → IsTaken m → All IsKern (kerns_of m place corner)
+unfolding kerns_of
+kerns_in m place corner h = entries_in m place h (Kerns corner)
 
 -- ---- constants
 

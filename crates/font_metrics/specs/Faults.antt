@@ -1,7 +1,7 @@
 -- The faults of a metrics file, and steps that give a value or the first fault.
 use Rattle.std.specs.Prelude.{ℕ, Bool, true, false, Option, Some, None, Result, Ok, Err}
 use Rattle.font_metrics.specs.declared.fault.LineFault.{LineFault}
-use Rattle.font_metrics.specs.declared.fault.LineFault.TheVariants.{ForeignByte, WrongFirstLine, UnknownWord, FieldCount, NotANumber, OutOfRange, WrongWord, NotNamed, Repeated, TooMany, NoUpem, NoLine, NoXHeight, NoMissing}
+use Rattle.font_metrics.specs.declared.fault.LineFault.TheVariants.{ForeignByte, WrongFirstLine, UnknownWord, FieldCount, NotANumber, OutOfRange, WrongWord, NotNamed, Repeated, TooMany, NotRising, NoUpem, NoLine, NoXHeight, NoMissing}
 
 -- a value, or the first fault that was met
 abbrev pub Step : Type 0 → Type 0
@@ -35,7 +35,7 @@ abbrev pub fault_if : Bool → LineFault → Step (Unit {0})
 fault_if true fault = Err fault
 fault_if false fault = Ok tt
 
--- the number under which a user is told of a fault; a line's faults are looked for in this order
+-- the number under which a user is told of a fault; the faults of a line are looked for in this order
 abbrev pub number_of_fault : LineFault → ℕ
 number_of_fault ForeignByte = 1
 number_of_fault WrongFirstLine = 2
@@ -47,6 +47,7 @@ number_of_fault WrongWord = 7
 number_of_fault NotNamed = 8
 number_of_fault Repeated = 9
 number_of_fault TooMany = 10
+number_of_fault NotRising = 15
 number_of_fault NoUpem = 11
 number_of_fault NoLine = 12
 number_of_fault NoXHeight = 13

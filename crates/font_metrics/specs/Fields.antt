@@ -1,14 +1,17 @@
 -- The fields of each kind of line of a metrics file, from left to right.
-use Rattle.std.specs.Prelude.{ℕ, ℤ, pos, negsuc, List, [], ◌∷◌, map, Option, Some, None, unwrap_or, slice_get, Ok, Err}
+use Rattle.std.specs.Prelude.{ℕ, ◌%◌, ℤ, pos, negsuc, Bool, not, ◌&&◌, nat_eq, nat_le, List, [], ◌∷◌, map, length, Option, Some, None, unwrap_or, slice_get, Ok, Err}
 use Rattle.std.specs.Borrow.{Bor}
 use Rattle.op_dictionary.specs.declared.extra.OperatorLine.{OperatorLine}
 use Rattle.font_metrics.specs.declared.fault.LineFault.TheVariants.{FieldCount, NotNamed}
+use Rattle.font_metrics.specs.declared.corner.Corner.{Corner}
+use Rattle.font_metrics.specs.declared.kern.Kern.{Kern}
+use Rattle.font_metrics.specs.declared.kern.KernStep.{KernStep}
 use Rattle.font_metrics.specs.declared.growth.Variant.{Variant}
 use Rattle.font_metrics.specs.declared.growth.Part.{Part}
 use Rattle.font_metrics.specs.Constants.{place_of_text, lowest_of, highest_of}
-use Rattle.font_metrics.specs.Faults.{Step, ◌>>=◌, or_fault}
+use Rattle.font_metrics.specs.Faults.{Step, ◌>>=◌, or_fault, fault_if}
 use Rattle.font_metrics.specs.Metrics.{NamedGlyph, place_of_name}
-use Rattle.font_metrics.specs.Words.{number_in, natural_in, letter_in, name_in, operator_text_in, extender_in, form_in, category_in, axis_in}
+use Rattle.font_metrics.specs.Words.{number_in, natural_in, letter_in, name_in, operator_text_in, extender_in, corner_in, form_in, category_in, axis_in}
 
 -- the words of a line
 abbrev pub Words : Type 0
@@ -159,6 +162,35 @@ abbrev pub part_in : List NamedGlyph → Words → Step (ℕ × Part)
 part_in glyphs (base ∷ part ∷ role ∷ start ∷ end ∷ full ∷ []) =
     based_on glyphs base (part_with glyphs part role start end full)
 part_in glyphs fields = Err FieldCount
+
+-- heights, each with the value from there on
+abbrev pub steps_in : Words → Step (List KernStep)
+steps_in [] = Ok []
+steps_in (height ∷ []) = Err FieldCount
+steps_in (height ∷ value ∷ more) = do
+  at ← reach_in height
+  amount ← reach_in value
+  above ← steps_in more
+  Ok (record { height = at; value = amount } ∷ above)
+
+-- up to 16 pairs of words
+abbrev pub are_pairs : Words → Bool
+are_pairs words = nat_eq (length words % 2) 0 && nat_le (length words) 32
+
+-- the corner and the place of a glyph, and its kern there
+abbrev pub kern_with : List NamedGlyph → List ℕ → List ℕ → List ℕ → Words → Step (Corner × (ℕ × Kern))
+kern_with glyphs base corner lowest more = do
+  place ← named_in glyphs base
+  at ← corner_in corner
+  value ← reach_in lowest
+  steps ← steps_in more
+  Ok (at, (place, record { lowest = value; steps = steps }))
+
+abbrev pub kern_in : List NamedGlyph → Words → Step (Corner × (ℕ × Kern))
+kern_in glyphs (base ∷ corner ∷ lowest ∷ more) = do
+  whole ← fault_if (not (are_pairs more)) FieldCount
+  kern_with glyphs base corner lowest more
+kern_in glyphs fields = Err FieldCount
 
 -- an operator's text and form, and what the dictionary is to say of them
 abbrev pub operator_with : List ℕ → List ℕ → List ℕ → List ℕ → Step OperatorLine

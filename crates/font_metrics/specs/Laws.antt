@@ -6,12 +6,15 @@ use Rattle.op_dictionary.specs.declared.operator.Axis.{Axis}
 use Rattle.op_dictionary.specs.declared.operator.Axis.TheVariants.{Block, Inline}
 use Rattle.op_dictionary.specs.Dictionary.{is_named}
 use Rattle.font_metrics.specs.declared.constants.ConstName.{ConstName}
+use Rattle.font_metrics.specs.declared.corner.Corner.{Corner}
+use Rattle.font_metrics.specs.declared.corner.Corner.TheVariants.{TopRight, TopLeft, BottomRight, BottomLeft}
+use Rattle.font_metrics.specs.declared.fault.LineFault.{LineFault}
 use Rattle.font_metrics.specs.declared.fault.LineFault.TheVariants.{ForeignByte, Repeated, TooMany, NoUpem, NoLine, NoXHeight, NoMissing}
 use Rattle.font_metrics.specs.declared.table.Table.{Table}
-use Rattle.font_metrics.specs.declared.table.Table.TheVariants.{Variants, Parts}
+use Rattle.font_metrics.specs.declared.table.Table.TheVariants.{Variants, Parts, Kerns}
 use Rattle.font_metrics.specs.Constants.{place_of_constant, place_of_text}
 use Rattle.font_metrics.specs.Faults.{Step, ◌>>=◌, fault_if}
-use Rattle.font_metrics.specs.Lines.{Words, Item, SaysUpem, SaysLine, SaysXHeight, SaysOverlap, SaysConstant, SaysGlyph, SaysCharacter, SaysEntry, SaysOperator, keyword_of, item_in}
+use Rattle.font_metrics.specs.Lines.{Words, Item, SaysUpem, SaysLine, SaysXHeight, SaysOverlap, SaysConstant, SaysGlyph, SaysCharacter, SaysEntry, SaysOperator, keyword_of, known_in, item_in}
 use Rattle.font_metrics.specs.Metrics.{NamedGlyph, MetricsValue, place_of_name, place_of_code, items_of}
 use Rattle.font_metrics.specs.Print.{constant_text}
 use Rattle.font_metrics.specs.Reading.{Fault, is_foreign, is_comment, first_in, words_of, lines_of, metrics_of}
@@ -59,10 +62,18 @@ same_axis Block Block = true
 same_axis Inline Inline = true
 same_axis _ _ = false
 
+abbrev pub same_corner : Corner → Corner → Bool
+same_corner TopRight TopRight = true
+same_corner TopLeft TopLeft = true
+same_corner BottomRight BottomRight = true
+same_corner BottomLeft BottomLeft = true
+same_corner _ _ = false
+
 -- entries of another table aren't this one's
 abbrev pub of_table : (t other : Table) → List (EntryOf other) → List (EntryOf t)
 of_table (Variants axis) (Variants other) xs = if same_axis axis other then xs else []
 of_table (Parts axis) (Parts other) xs = if same_axis axis other then xs else []
+of_table (Kerns corner) (Kerns other) xs = if same_corner corner other then xs else []
 of_table t other xs = []
 
 -- the entries of the glyph at a place in a table
@@ -84,7 +95,8 @@ abbrev pub is_said : {X : Type 0} → List X → Bool
 is_said [] = false
 is_said (x ∷ xs) = true
 
--- an item behind others: what one of them gives already, and what is one too many
+-- an item behind others: what one of them gives already, what is one too many, and what else is wrong with
+-- it
 abbrev pub allowed_behind : List Item → Item → Step (Unit {0})
 allowed_behind before (SaysUpem n) = fault_if (is_said (said upem_said before)) Repeated
 allowed_behind before (SaysLine n) = fault_if (is_said (said line_said before)) Repeated
@@ -95,42 +107,39 @@ allowed_behind before (SaysGlyph g) = do
   new ← fault_if (is_some (place_of_name (said glyph_said before) g.name)) Repeated
   fault_if (nat_le most_glyphs (length (said glyph_said before))) TooMany
 allowed_behind before (SaysCharacter c) = fault_if (is_said (said (character_said c.0) before)) Repeated
-allowed_behind before (SaysEntry t x) =
-    fault_if (nat_le (slot t).most (length (said (entry_said t x.0) before))) TooMany
+allowed_behind before (SaysEntry t x) = do
+  free ← fault_if (nat_le (slot t).most (length (said (entry_said t x.0) before))) (slot t).full
+  (slot t).check x.1
 allowed_behind before (SaysOperator line) =
     fault_if (is_named (said operator_said before) line.text line.form) Repeated
 
--- what words say behind these items, or the first fault: a name is that of a glyph said before
-abbrev pub words_say : List Item → Words → Step (List Item)
-words_say before [] = Ok []
-words_say before (word ∷ fields) = do
-  item ← item_in (said glyph_said before) (keyword_of word) fields
+-- what words say behind these items in a file of a version, or the first fault: a name is that of a glyph
+-- said before
+abbrev pub words_say : ℕ → List Item → Words → Step (List Item)
+words_say version before [] = Ok []
+words_say version before (word ∷ fields) = do
+  item ← item_in (said glyph_said before) (known_in version (keyword_of word)) fields
   free ← allowed_behind before item
   Ok (item ∷ [])
 
 -- what a line says, or its first fault: a comment says nothing
-abbrev pub line_says : List Item → List ℕ → Step (List Item)
-line_says before line = do
+abbrev pub line_says : ℕ → List Item → List ℕ → Step (List Item)
+line_says version before line = do
   plain ← fault_if (is_foreign line) ForeignByte
-  if is_comment line then Ok [] else words_say before (words_of line)
-
-abbrev pub first_says : List ℕ → Step (List Item)
-first_says line = do
-  first ← first_in line
-  Ok []
+  if is_comment line then Ok [] else words_say version before (words_of line)
 
 -- ---- lines without a fault
 
 -- these lines, one behind the other, have no fault, and take what is said to this
-abbrev pub Say : List Item → List (List ℕ) → List Item → Type 0
-Say before [] items = before ≡ items
-Say before (line ∷ lines) items =
-    (more : List Item) × (line_says before line ≡ Ok more) × Say (before ++ more) lines items
+abbrev pub Say : ℕ → List Item → List (List ℕ) → List Item → Type 0
+Say version before [] items = before ≡ items
+Say version before (line ∷ lines) items =
+    (more : List Item) × (line_says version before line ≡ Ok more) × Say version (before ++ more) lines items
 
--- the same, from the first line on
-abbrev pub SayAll : List (List ℕ) → List Item → Type 0
-SayAll [] items = items ≡ []
-SayAll (first ∷ lines) items = (first_says first ≡ Ok []) × Say [] lines items
+-- the same, from the first line on, which names the version
+abbrev pub SayAll : ℕ → List (List ℕ) → List Item → Type 0
+SayAll version [] items = items ≡ []
+SayAll version (first ∷ lines) items = (first_in first ≡ Ok version) × Say version [] lines items
 
 abbrev pub listed : {X : Type 0} → Option X → List X
 listed None = []
@@ -151,24 +160,25 @@ pub record AreSaid (items : List Item) (m : MetricsValue) : Type 0 where
 -- a file that gives metrics has no faulty line, and they are what its lines say
 abbrev pub MetricsLaw : Type 0
 MetricsLaw = (bytes : List ℕ) (m : MetricsValue) → metrics_of bytes ≡ Ok m
-    → (items : List Item) × SayAll (lines_of bytes) items × AreSaid items m
+    → (items : List Item) × SayAll m.version (lines_of bytes) items × AreSaid items m
 
 -- ---- the fault of a file
 
--- a line behind others
-abbrev pub next_says : List (List ℕ) → List Item → List ℕ → Step (List Item)
-next_says [] items line = first_says line
-next_says (first ∷ before) items line = line_says items line
+-- the fault of a line behind others
+abbrev pub IsFaultBehind : ℕ → List (List ℕ) → List Item → List ℕ → LineFault → Type 0
+IsFaultBehind version [] items line fault = first_in line ≡ Err fault
+IsFaultBehind version (first ∷ before) items line fault = line_says version items line ≡ Err fault
 
 -- a faulty line before which no line is faulty
 pub record IsFirstFault (lines : List (List ℕ)) (f : Fault) : Type 0 where
+  pub version : ℕ
   pub before : List (List ℕ)
   pub line : List ℕ
   pub after : List (List ℕ)
   pub items : List Item
   pub cut : lines ≡ before ++ line ∷ after
-  pub faultless : SayAll before items
-  pub fault : next_says before items line ≡ Err f.fault
+  pub faultless : SayAll version before items
+  pub fault : IsFaultBehind version before items line f.fault
   pub number : f.line ≡ length before + 1
 
 -- what a file has to say and doesn't, in this order
@@ -181,8 +191,9 @@ lacking items = do
 
 -- no line is faulty, and the file ends without something
 pub record EndsWithout (lines : List (List ℕ)) (f : Fault) : Type 0 where
+  pub version : ℕ
   pub items : List Item
-  pub faultless : SayAll lines items
+  pub faultless : SayAll version lines items
   pub fault : lacking items ≡ Err f.fault
   pub number : f.line ≡ length lines + 1
 

@@ -6,6 +6,7 @@ pub mod Metrics
 pub mod Ranges
 pub mod Fields
 pub mod Texts
+pub mod Heights
 pub mod Slot
 pub mod Tables
 pub mod Taken

@@ -1,5 +1,5 @@
 -- What a metrics file says, and what is read off it at a font size.
-use Rattle.std.specs.Prelude.{ℕ, ℤ, pos, ◌*ℤ◌, if◌then◌else◌, List, [], codes, Option, Some, None, unwrap_or, nat_eq, slice_index_or, position, Bool, nat_le, ◌∷◌, ◌++◌, length}
+use Rattle.std.specs.Prelude.{ℕ, ℤ, pos, ◌*ℤ◌, if◌then◌else◌, List, [], codes, Option, Some, None, unwrap_or, nat_eq, slice_index_or, position, Bool, nat_le, int_le, ◌∷◌, ◌++◌, length, map, count_by}
 use Rattle.std.specs.BTreeMap.{insert_entry}
 use Rattle.std.specs.Map.{lookup}
 use Rattle.std.specs.Ordering.{nat_cmp, int_eq}
@@ -10,6 +10,11 @@ use Rattle.op_dictionary.specs.declared.operator.Axis.{Axis}
 use Rattle.op_dictionary.specs.declared.operator.Axis.TheVariants.{Block, Inline}
 use Rattle.font_metrics.specs.declared.constants.ConstName.{ConstName}
 use Rattle.font_metrics.specs.declared.constants.ConstName.TheVariants.{ScriptPercentScaleDown, ScriptScriptPercentScaleDown, RadicalDegreeBottomRaisePercent}
+use Rattle.font_metrics.specs.declared.corner.Corner.{Corner}
+use Rattle.font_metrics.specs.declared.corner.Corner.TheVariants.{TopRight, TopLeft, BottomRight, BottomLeft}
+use Rattle.font_metrics.specs.declared.kern.Kern.{Kern}
+use Rattle.font_metrics.specs.declared.kern.KernStep.{KernStep}
+use Rattle.font_metrics.specs.declared.kern_tables.KernTables.{KernTables}
 use Rattle.font_metrics.specs.declared.glyph.Glyph.{Glyph}
 use Rattle.font_metrics.specs.declared.growth.Variant.{Variant}
 use Rattle.font_metrics.specs.declared.growth.Part.{Part}
@@ -38,10 +43,25 @@ abbrev pub with_along : {X : Type 0} → Axis → ByAxis X → ByGlyph X → ByA
 with_along Block tables table = (table, tables.1)
 with_along Inline tables table = (tables.0, table)
 
+-- the table of the kerns at a corner
+abbrev pub kerns_at : Corner → KernTables → ByGlyph Kern
+kerns_at TopRight kerns = kerns.top_right
+kerns_at TopLeft kerns = kerns.top_left
+kerns_at BottomRight kerns = kerns.bottom_right
+kerns_at BottomLeft kerns = kerns.bottom_left
+
+-- the kerns with this table at the corner
+abbrev pub with_kerns_at : Corner → KernTables → ByGlyph Kern → KernTables
+with_kerns_at TopRight kerns table = record kerns { top_right = table }
+with_kerns_at TopLeft kerns table = record kerns { top_left = table }
+with_kerns_at BottomRight kerns table = record kerns { bottom_right = table }
+with_kerns_at BottomLeft kerns table = record kerns { bottom_left = table }
+
 -- The numbers of a metrics file in design units; what may lack is an option. Glyphs and operator
 -- lines stand in file order. Constants are pairs of a place in the table of constants and a value,
 -- by that place; characters are pairs of a code and the place of a glyph, by that code.
 pub record MetricsValue : Type 0 where
+  pub version : ℕ
   pub upem : ℕ
   pub line_ascent : ℕ
   pub line_descent : ℕ
@@ -113,6 +133,10 @@ variants_of m place axis = items_of (along axis m.tables.variants) place
 unfoldable pub parts_of : MetricsValue → ℕ → Axis → List Part
 parts_of m place axis = items_of (along axis m.tables.parts) place
 
+-- what a glyph has at a corner: its kern, where it has one
+unfoldable pub kerns_of : MetricsValue → ℕ → Corner → List Kern
+kerns_of m place corner = items_of (kerns_at corner m.tables.kerns) place
+
 -- ---- values at a font size
 
 -- a value in design units at a font size: value * size / upem, rounded
@@ -140,6 +164,27 @@ given_constant m name = lookup (nat_eq (place_of_constant name)) m.constants
 -- a constant at a size; an absent one is 0
 unfoldable pub constant_of : MetricsValue → ConstName → ℤ → ℤ
 constant_of m name size = scale_of m (unwrap_or (given_constant m name) (pos 0)) size
+
+-- how many heights of a kern are at most a height, each at a font size
+abbrev pub reached_of : MetricsValue → List KernStep → ℤ → ℤ → ℕ
+reached_of m steps height size = count_by (λ step. int_le (scale_of m step.height size) height) steps
+
+-- the values of a kern, of which there is one more than heights
+abbrev pub values_of : Kern → List ℤ
+values_of kern = kern.lowest ∷ map (λ step. step.value) kern.steps
+
+-- the value of a kern at a height and a size: the one in the place of so many heights
+unfoldable pub kern_value : MetricsValue → Kern → ℤ → ℤ → ℤ
+kern_value m kern height size =
+    scale_of m (slice_index_or (values_of kern) (reached_of m kern.steps height size) (pos 0)) size
+
+abbrev pub first_value : MetricsValue → List Kern → ℤ → ℤ → ℤ
+first_value m [] height size = pos 0
+first_value m (kern ∷ kerns) height size = kern_value m kern height size
+
+-- how far a glyph is moved in at a corner and a height: 0 where it has no kern there
+unfoldable pub kern_of : MetricsValue → ℕ → Corner → ℤ → ℤ → ℤ
+kern_of m place corner height size = first_value m (kerns_of m place corner) height size
 
 -- a percent that counts as absent where it is 0
 abbrev pub or_default : ℤ → Option ℤ → ℤ

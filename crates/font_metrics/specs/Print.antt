@@ -12,12 +12,13 @@ use Rattle.font_metrics.specs.Metrics.{NamedGlyph, MetricsValue, name_in_list, i
 use Rattle.font_metrics.specs.Reading.{metrics_of}
 use Rattle.font_metrics.specs.Tables.{EntryOf, slot, entries, all_tables}
 use Rattle.font_metrics.specs.Taken.{IsTaken}
-pub use Rattle.font_metrics.specs.Texts.{code_text, operator_text, constant_text, extender_text, form_text, category_text, axis_text, variant_keyword, part_keyword}
+pub use Rattle.font_metrics.specs.Tables.{step_words}
+pub use Rattle.font_metrics.specs.Texts.{code_text, operator_text, constant_text, extender_text, corner_text, form_text, category_text, axis_text, variant_keyword, part_keyword}
 
 -- ---- the words of each kind of line
 
-abbrev pub version_words : Words
-version_words = codes "mathlay-metrics" ∷ codes "1" ∷ []
+abbrev pub version_words : ℕ → Words
+version_words version = codes "mathlay-metrics" ∷ decimal version ∷ []
 
 abbrev pub upem_words : ℕ → Words
 upem_words units = codes "upem" ∷ decimal units ∷ []
@@ -65,7 +66,7 @@ abbrev pub table_lines : MetricsValue → ℕ → Table → List Words
 table_lines m place t =
     map (entry_words t m.glyphs place) (items_of (entries t m.tables) place)
 
--- the lines of what the glyph at a place grows by
+-- the lines of what the glyph at a place has in all tables
 abbrev pub growth_lines : MetricsValue → ℕ → List Words
 growth_lines m place = flat_map (table_lines m place) all_tables
 
@@ -79,7 +80,7 @@ operator_words line =
 -- what stands first: the version, and what is given once
 abbrev pub header_lines : MetricsValue → List Words
 header_lines m =
-    (version_words ∷ upem_words m.upem ∷ line_words m.line_ascent m.line_descent
+    (version_words m.version ∷ upem_words m.upem ∷ line_words m.line_ascent m.line_descent
     ∷ x_height_words m.x_height ∷ [])
     ++ overlap_lines m.overlap
 

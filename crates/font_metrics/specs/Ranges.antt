@@ -7,6 +7,8 @@ use Rattle.std.specs.Ordering.{nat_cmp}
 use Rattle.fixed_units.specs.Numbers.{IsWithin}
 use Rattle.op_dictionary.specs.declared.text.OpText.{OpText}
 use Rattle.op_dictionary.specs.declared.text.OpText.TheVariants.{Empty, One, Two, Other}
+use Rattle.font_metrics.specs.declared.kern.Kern.{Kern}
+use Rattle.font_metrics.specs.declared.kern.KernStep.{KernStep}
 use Rattle.font_metrics.specs.declared.glyph.Glyph.{Glyph}
 use Rattle.font_metrics.specs.declared.growth.Variant.{Variant}
 use Rattle.font_metrics.specs.declared.growth.Part.{Part}
@@ -23,6 +25,14 @@ most_variants = 64
 
 abbrev pub most_parts : ℕ
 most_parts = 16
+
+abbrev pub most_steps : ℕ
+most_steps = 16
+
+-- the versions of a file
+pub record IsVersion (version : ℕ) : Type 0 where
+  pub low : 1 ≤ version
+  pub high : version ≤ 2
 
 -- a number of design units that isn't negative
 abbrev pub IsLength : ℤ → Type 0
@@ -69,6 +79,15 @@ pub record IsPart (count : ℕ) (p : Part) : Type 0 where
   pub start : IsLength p.start
   pub end : IsLength p.end
   pub full : IsLength p.full
+
+pub record IsKernStep (s : KernStep) : Type 0 where
+  pub height : IsReach s.height
+  pub value : IsReach s.value
+
+pub record IsKern (k : Kern) : Type 0 where
+  pub lowest : IsReach k.lowest
+  pub few : length k.steps ≤ most_steps
+  pub steps : All IsKernStep k.steps
 
 -- the items of one of these many glyphs: at least one and at most so many
 pub record IsEntry {X : Type 0} (count most : ℕ) (Is : X → Type 0) (entry : ℕ × List X) : Type 0 where

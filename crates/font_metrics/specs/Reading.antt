@@ -9,13 +9,17 @@ use Rattle.std.specs.Str.Lines.{lines}
 use Rattle.op_dictionary.specs.declared.operator.Axis.{Axis}
 use Rattle.op_dictionary.specs.Dictionary.{is_named}
 use Rattle.font_metrics.specs.declared.fault.LineFault.{LineFault}
-use Rattle.font_metrics.specs.declared.fault.LineFault.TheVariants.{ForeignByte, WrongFirstLine, Repeated, TooMany, NoUpem, NoLine, NoXHeight, NoMissing}
+use Rattle.font_metrics.specs.declared.fault.LineFault.TheVariants.{ForeignByte, WrongFirstLine, Repeated, TooMany, NotRising, NoUpem, NoLine, NoXHeight, NoMissing}
+use Rattle.font_metrics.specs.declared.corner.Corner.{Corner}
 use Rattle.font_metrics.specs.declared.given.Given.{Given}
 use Rattle.font_metrics.specs.declared.given.Needed.{Needed}
+use Rattle.font_metrics.specs.declared.kern.Kern.{Kern}
+use Rattle.font_metrics.specs.declared.kern_tables.KernTables.{KernTables}
 use Rattle.font_metrics.specs.declared.keyword.Keyword.{Keyword}
 use Rattle.font_metrics.specs.Faults.{Step, ◌>>=◌, step_map, or_fault, fault_if}
-use Rattle.font_metrics.specs.Lines.{Words, Item, SaysUpem, SaysLine, SaysXHeight, SaysOverlap, SaysConstant, SaysGlyph, SaysCharacter, SaysEntry, SaysOperator, keyword_of, item_in}
-use Rattle.font_metrics.specs.Metrics.{MetricsValue, ByGlyph, ByAxis, along, with_item, with_item_along, is_full, place_of_name}
+use Rattle.font_metrics.specs.Heights.{do_rise, heights_of}
+use Rattle.font_metrics.specs.Lines.{Words, Item, SaysUpem, SaysLine, SaysXHeight, SaysOverlap, SaysConstant, SaysGlyph, SaysCharacter, SaysEntry, SaysOperator, keyword_of, item_in, known_in}
+use Rattle.font_metrics.specs.Metrics.{MetricsValue, ByGlyph, ByAxis, along, kerns_at, with_kerns_at, with_item, with_item_along, is_full, place_of_name}
 use Rattle.font_metrics.specs.Tables.{slot, entries, with_entry, no_tables}
 use Rattle.font_metrics.specs.Taken.{most_glyphs}
 
@@ -61,9 +65,10 @@ is_foreign line = not (is_comment line) && list_any (λ b. not (is_plain b)) lin
 
 -- ---- what lines give
 
--- before any line
-abbrev pub nothing : Given
-nothing = record {
+-- before any line, in a file of this version
+abbrev pub nothing : ℕ → Given
+nothing version = record {
+  version = version;
   upem = None;
   line = None;
   x_height = None;
@@ -75,7 +80,8 @@ nothing = record {
   operators = [];
 }
 
--- whether an item may follow what is given: what is repeated, then what is too many
+-- whether an item may follow what is given: what is repeated, then what is too many, then what else is
+-- wrong with it
 abbrev pub allowed : Given → Item → Step (Unit {0})
 allowed given (SaysUpem n) = fault_if (is_some given.upem) Repeated
 allowed given (SaysLine n) = fault_if (is_some given.line) Repeated
@@ -86,7 +92,9 @@ allowed given (SaysGlyph g) = do
   new ← fault_if (is_some (place_of_name given.glyphs g.name)) Repeated
   fault_if (nat_le most_glyphs (length given.glyphs)) TooMany
 allowed given (SaysCharacter c) = fault_if (is_some (lookup (nat_eq c.0) given.characters)) Repeated
-allowed given (SaysEntry t x) = fault_if (is_full (slot t).most (entries t given.tables) x.0) TooMany
+allowed given (SaysEntry t x) = do
+  free ← fault_if (is_full (slot t).most (entries t given.tables) x.0) (slot t).full
+  (slot t).check x.1
 allowed given (SaysOperator line) = fault_if (is_named given.operators line.text line.form) Repeated
 
 -- what is given with one item more
@@ -115,6 +123,13 @@ taken_along axis most tables place item = do
   free ← fault_if (is_full most (along axis tables) place) TooMany
   Ok (with_item_along axis tables place item)
 
+-- the kerns with one more of a glyph at a corner; or that it has one there, or that its heights don't rise
+abbrev pub taken_kern : Corner → KernTables → ℕ → Kern → Step KernTables
+taken_kern corner kerns place kern = do
+  free ← fault_if (is_full 1 (kerns_at corner kerns) place) Repeated
+  sound ← fault_if (not (do_rise (heights_of kern))) NotRising
+  Ok (with_kerns_at corner kerns (with_item (kerns_at corner kerns) place kern))
+
 -- what is given after the fields of a line: what they say, whether it may follow, and then with it
 abbrev pub after_fields : Given → Keyword → Words → Step Given
 after_fields given keyword fields = do
@@ -124,7 +139,7 @@ after_fields given keyword fields = do
 
 abbrev pub after_words : Given → Words → Step Given
 after_words given [] = Ok given
-after_words given (word ∷ fields) = after_fields given (keyword_of word) fields
+after_words given (word ∷ fields) = after_fields given (known_in given.version (keyword_of word)) fields
 
 -- what is given after a line behind the first, or the first fault of that line
 unfoldable pub after : Given → List ℕ → Step Given
@@ -132,26 +147,32 @@ after given line = do
   plain ← fault_if (is_foreign line) ForeignByte
   if is_comment line then Ok given else after_words given (words_of line)
 
+-- the version of a file
+abbrev pub version_of : List ℕ → Option ℕ
+version_of word =
+    if bytes_eq word (codes "1") then Some 1
+    else if bytes_eq word (codes "2") then Some 2
+    else None
+
 -- the words of the first line
-abbrev pub is_first : List ℕ → List ℕ → Bool
-is_first name version =
-    bytes_eq name (codes "mathlay-metrics") && bytes_eq version (codes "1")
+abbrev pub first_of : List ℕ → List ℕ → Option ℕ
+first_of name version = if bytes_eq name (codes "mathlay-metrics") then version_of version else None
 
-abbrev pub is_version : Words → Bool
-is_version (name ∷ version ∷ []) = is_first name version
-is_version words = false
+abbrev pub version_in : Words → Option ℕ
+version_in (name ∷ version ∷ []) = first_of name version
+version_in words = None
 
--- the first line, or what is wrong with it
-abbrev pub first_in : List ℕ → Step (Unit {0})
+-- the version that the first line names, or what is wrong with the line
+abbrev pub first_in : List ℕ → Step ℕ
 first_in line = do
   plain ← fault_if (is_foreign line) ForeignByte
-  fault_if (not (is_version (words_of line))) WrongFirstLine
+  or_fault WrongFirstLine (version_in (words_of line))
 
 -- what the other lines begin from
 unfoldable pub after_first : List ℕ → Step Given
 after_first line = do
-  first ← first_in line
-  Ok nothing
+  version ← first_in line
+  Ok (nothing version)
 
 -- ---- looking back
 
@@ -166,8 +187,8 @@ given_from given (line ∷ lines) = given_from (kept given (after given line)) l
 
 -- what lines from the first one on have given
 abbrev pub given_by : List (List ℕ) → Given
-given_by [] = nothing
-given_by (first ∷ lines) = given_from (kept nothing (after_first first)) lines
+given_by [] = nothing 1
+given_by (first ∷ lines) = given_from (kept (nothing 1) (after_first first)) lines
 
 -- the fault of a line with these lines before it
 abbrev pub step_behind : List (List ℕ) → List ℕ → Step Given
@@ -211,6 +232,7 @@ needed given =
 -- the metrics of what is given
 abbrev pub metrics_with : Needed → Given → MetricsValue
 metrics_with needs given = record {
+  version = given.version;
   upem = needs.upem;
   line_ascent = needs.line.0;
   line_descent = needs.line.1;

@@ -48,6 +48,12 @@ Takes step new (Ok done) = step ≡ Ok new
 Takes step new (Err (FaultyLine fault)) = step ≡ Err fault
 Takes step new (Err NoMemory) = Unit {0}
 
+-- what a step gives, or exactly its fault
+abbrev pub Gives : {X : Type 0} → Step X → Result X LineRefusal → Type 0
+Gives step (Ok x) = step ≡ Ok x
+Gives step (Err (FaultyLine fault)) = step ≡ Err fault
+Gives step (Err NoMemory) = Unit {0}
+
 -- a line's refusal as that of its file
 abbrev pub refusal_at : ℕ → LineRefusal → MetricsRefusal
 refusal_at line (FaultyLine fault) = Faulty (told (fault_at line fault))

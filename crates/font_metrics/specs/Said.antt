@@ -2,7 +2,7 @@
 use Rattle.std.specs.Prelude.{⊤}
 use Rattle.op_dictionary.specs.Pairs.{IsLineText}
 use Rattle.font_metrics.specs.declared.keyword.Keyword.{Keyword}
-use Rattle.font_metrics.specs.declared.keyword.Keyword.TheVariants.{Table as TableOf}
+use Rattle.font_metrics.specs.declared.keyword.Keyword.TheVariants.{Variants as VariantsOf, Parts as PartsOf, Kern as KernOf}
 use Rattle.font_metrics.specs.declared.said.Said.{Said}
 use Rattle.font_metrics.specs.declared.said.Said.TheVariants.{Upem, Line, XHeight, Overlap, Constant, Glyph, Character, Operator}
 use Rattle.font_metrics.specs.Kept.{named_glyph}
@@ -10,7 +10,9 @@ use Rattle.font_metrics.specs.Lines.{Item, SaysUpem, SaysLine, SaysXHeight, Says
 
 -- the first word of a line that is no entry of a table
 abbrev pub IsOfNoTable : Keyword → Type 0
-IsOfNoTable (TableOf t) = ⊥
+IsOfNoTable (VariantsOf axis) = ⊥
+IsOfNoTable (PartsOf axis) = ⊥
+IsOfNoTable KernOf = ⊥
 IsOfNoTable keyword = ⊤
 
 abbrev pub item_of : Said → Item

@@ -1,18 +1,22 @@
 -- The one form of the tables by glyph of a metrics file.
 use Rattle.std.specs.Prelude.{ℕ, List}
+use Rattle.font_metrics.specs.declared.fault.LineFault.{LineFault}
 use Rattle.font_metrics.specs.declared.table.Tables.{Tables}
 use Rattle.font_metrics.specs.Faults.{Step}
 use Rattle.font_metrics.specs.Fields.{Words}
 use Rattle.font_metrics.specs.Metrics.{NamedGlyph, ByGlyph}
 
--- a table: how many entries a glyph may have, which they are where there are so many glyphs, their
--- lines, read behind the keyword and printed behind the base glyph, and where the table stands
+-- a table: the first version of a file that has it, how many entries a glyph may have and the fault of one
+-- more, which they are where there are so many glyphs, what else is looked for in one, their lines, printed
+-- behind the base glyph, and where the table stands
 pub record Slot : Type 1 where
   pub Entry : Type 0
+  pub since : ℕ
   pub most : ℕ
+  pub full : LineFault
   pub Is : ℕ → Entry → Type 0
+  pub check : Entry → Step (Unit {0})
   pub keyword : List ℕ
-  pub read : List NamedGlyph → Words → Step (ℕ × Entry)
   pub fields : List NamedGlyph → Entry → Words
   pub at : Tables → ByGlyph Entry
   pub put : Tables → ByGlyph Entry → Tables

@@ -9,6 +9,8 @@ use Rattle.op_dictionary.specs.declared.operator.Form.{Form}
 use Rattle.op_dictionary.specs.declared.operator.Form.TheVariants.{Prefix, Infix, Postfix}
 use Rattle.op_dictionary.specs.declared.text.OpText.{OpText}
 use Rattle.op_dictionary.specs.declared.text.OpText.TheVariants.{Empty, One, Two, Other}
+use Rattle.font_metrics.specs.declared.corner.Corner.{Corner}
+use Rattle.font_metrics.specs.declared.corner.Corner.TheVariants.{TopRight, TopLeft, BottomRight, BottomLeft}
 use Rattle.font_metrics.specs.Constants.{constant_texts}
 use Rattle.font_metrics.specs.Words.{plus}
 
@@ -54,6 +56,12 @@ category_text M = codes "M"
 abbrev pub axis_text : Axis → List ℕ
 axis_text Block = codes "block"
 axis_text Inline = codes "inline"
+
+abbrev pub corner_text : Corner → List ℕ
+corner_text TopRight = codes "TR"
+corner_text TopLeft = codes "TL"
+corner_text BottomRight = codes "BR"
+corner_text BottomLeft = codes "BL"
 
 -- the keywords of the variants and of the parts along an axis
 abbrev pub variant_keyword : Axis → List ℕ

@@ -1,5 +1,5 @@
 -- What holds of all that lines give, and of the metrics that are kept.
-use Rattle.std.specs.Prelude.{◌≡◌, ℕ, ℤ, ◌≤◌, List, length, IfSome, Ok}
+use Rattle.std.specs.Prelude.{◌≡◌, ℕ, ℤ, ◌<◌, ◌≤◌, List, [], length, IfSome, Ok}
 use Rattle.std.specs.List.{All, IsDistinct}
 use Rattle.std.specs.List.Sorted.{IsStrictlySortedBy}
 use Rattle.std.specs.Map.{keys_of}
@@ -11,8 +11,9 @@ use Rattle.font_metrics.specs.declared.given.Given.{Given}
 use Rattle.font_metrics.specs.declared.metrics.Metrics.TheInside.{Inside}
 use Rattle.font_metrics.specs.Metrics.{NamedGlyph, MetricsValue}
 use Rattle.font_metrics.specs.Reading.{needed, metrics_with}
-use Rattle.font_metrics.specs.Tables.{AreFilled}
-use Rattle.font_metrics.specs.Taken.{IsGlyph, IsConstant, IsCharacter, IsOperatorText, names_of, most_glyphs}
+use Rattle.font_metrics.specs.declared.table.Table.{Table}
+use Rattle.font_metrics.specs.Tables.{AreFilled, slot, entries}
+use Rattle.font_metrics.specs.Taken.{IsVersion, IsGlyph, IsConstant, IsCharacter, IsOperatorText, names_of, most_glyphs}
 
 -- ---- what holds of all that lines have given: `IsTaken`, where they have given it
 
@@ -40,6 +41,7 @@ pub record AreOperators (lines : List OperatorLine) : Type 0 where
   pub distinct : AreDistinct lines
 
 pub record IsGiven (given : Given) : Type 0 where
+  pub version : IsVersion given.version
   pub upem : IfSome given.upem IsUpem
   pub line : IfSome given.line IsLine
   pub x_height : IfSome given.x_height (λ n. n ≤ 65535)
@@ -48,6 +50,7 @@ pub record IsGiven (given : Given) : Type 0 where
   pub glyphs : AreGlyphs given.glyphs
   pub characters : AreCharacters (length given.glyphs) given.characters
   pub tables : AreFilled (length given.glyphs) given.tables
+  pub known : (t : Table) → given.version < (slot t).since → entries t given.tables ≡ []
   pub operators : AreOperators given.operators
 
 -- ---- the metrics that are kept: what lines have given, and what of it had to be there

@@ -13,6 +13,8 @@ use Rattle.op_dictionary.specs.declared.operator.Form.{Form}
 use Rattle.op_dictionary.specs.declared.operator.Form.TheVariants.{Prefix, Infix, Postfix}
 use Rattle.op_dictionary.specs.declared.text.OpText.{OpText}
 use Rattle.op_dictionary.specs.declared.text.OpText.TheVariants.{One, Two}
+use Rattle.font_metrics.specs.declared.corner.Corner.{Corner}
+use Rattle.font_metrics.specs.declared.corner.Corner.TheVariants.{TopRight, TopLeft, BottomRight, BottomLeft}
 use Rattle.font_metrics.specs.declared.fault.LineFault.TheVariants.{NotANumber, OutOfRange, WrongWord}
 use Rattle.font_metrics.specs.Faults.{Step, ◌>>=◌, or_fault, fault_if}
 
@@ -153,6 +155,14 @@ axis_of word =
     else if bytes_eq word (codes "inline") then Some Inline
     else None
 
+abbrev pub corner_of : List ℕ → Option Corner
+corner_of word =
+    if bytes_eq word (codes "TR") then Some TopRight
+    else if bytes_eq word (codes "TL") then Some TopLeft
+    else if bytes_eq word (codes "BR") then Some BottomRight
+    else if bytes_eq word (codes "BL") then Some BottomLeft
+    else None
+
 abbrev pub category_of : List ℕ → Option Category
 category_of word =
     if bytes_eq word (codes "Default") then Some Default
@@ -180,6 +190,9 @@ form_in word = or_fault WrongWord (form_of word)
 
 unfoldable pub axis_in : List ℕ → Step Axis
 axis_in word = or_fault WrongWord (axis_of word)
+
+unfoldable pub corner_in : List ℕ → Step Corner
+corner_in word = or_fault WrongWord (corner_of word)
 
 unfoldable pub category_in : List ℕ → Step Category
 category_in word = or_fault WrongWord (category_of word)

@@ -1,4 +1,4 @@
-ghost use Rattle.std.specs.Prelude.{◌≡◌, [], ◌∷◌, ◌++◌, OnOk};
+ghost use Rattle.std.specs.Prelude.{◌≡◌, true, [], ◌∷◌, ◌++◌, OnOk};
 ghost use Rattle.font_metrics.specs.Metrics.{items_of, with_item};
 ghost use Rattle.font_metrics.specs.Reading.{taken_into};
 ghost use Rattle.font_metrics.specs.Reads.{Takes};
@@ -29,7 +29,7 @@ impl<T> Model for ByGlyph<T> {
     ghost view = { λ table. lists_of_entries table.items.entries };
 }
 
-impl<T: Copy> ByGlyph<T> {
+impl<T: Drop> ByGlyph<T> {
     /// No item yet. It takes no memory.
     pub fn new(alloc: Global) -> ByGlyph<T>
         ensures { result ≡ [] }
@@ -37,6 +37,13 @@ impl<T: Copy> ByGlyph<T> {
         ByGlyph {
             items: BTreeMap::new(alloc),
         }
+    }
+
+    /// Whether no glyph has an item.
+    pub fn is_empty(&self) -> bool
+        ensures { result ≡ true → self.now ≡ [] }
+    {
+        self.items.is_empty()
     }
 
     /// The items of the glyph at a place, in file order.
@@ -69,7 +76,7 @@ impl<T: Copy> ByGlyph<T> {
 
     /// Adds an item to those of the glyph at a place. Where memory is refused, nothing is known of
     /// the table.
-    fn add(&mut self, alloc: Global, place: u16, item: T) -> Result<(), Memory>
+    pub fn add(&mut self, alloc: Global, place: u16, item: T) -> Result<(), Memory>
         ensures { OnOk result (self.new ≡ with_item self.old place item) }
     {
         match self.items.get_mut(&place) {

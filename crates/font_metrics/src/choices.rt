@@ -1,6 +1,7 @@
 ghost use Rattle.std.specs.Prelude.{◌≡◌};
-ghost use Rattle.font_metrics.specs.Words.{choice_in, extender_in, form_in, category_in, axis_in};
+ghost use Rattle.font_metrics.specs.Words.{choice_in, extender_in, corner_in, form_in, category_in, axis_in};
 
+use crate::corner::Corner;
 use crate::fault::LineFault;
 use crate::texts::is_text;
 use op_dictionary::{Axis, Category, Form};
@@ -10,6 +11,14 @@ const FORMS: [(&str, Form); 3] = [
     ("prefix", Form::Prefix),
     ("infix", Form::Infix),
     ("postfix", Form::Postfix),
+];
+
+/// The corners by their texts.
+const CORNERS: [(&str, Corner); 4] = [
+    ("TR", Corner::TopRight),
+    ("TL", Corner::TopLeft),
+    ("BR", Corner::BottomRight),
+    ("BL", Corner::BottomLeft),
 ];
 
 /// The categories by their texts.
@@ -49,6 +58,14 @@ pub fn extender(word: &[u8]) -> Result<bool, LineFault>
     ensures { result ≡ extender_in word.now }
 {
     choice_of(word, &[("FIX", false), ("EXT", true)]).ok_or(LineFault::WrongWord)
+}
+
+/// `TR`, `TL`, `BR` or `BL`
+#[tactic(auto, unfolding(crate::specs::Words::choice_in, crate::specs::Words::corner_in))]
+pub fn corner(word: &[u8]) -> Result<Corner, LineFault>
+    ensures { result ≡ corner_in word.now }
+{
+    choice_of(word, &CORNERS).ok_or(LineFault::WrongWord)
 }
 
 /// `prefix`, `infix` or `postfix`

@@ -7,7 +7,7 @@ ghost use Rattle.font_metrics.specs.Faults.{number_of_fault, fault_if, both};
 pub enum LineFault {
     /// A byte other than a tab and those from space to tilde, in a line that is no comment.
     ForeignByte,
-    /// The first line isn't the words `mathlay-metrics` and `1`.
+    /// The first line isn't the word `mathlay-metrics` and `1` or `2`.
     WrongFirstLine,
     /// The first word isn't that of a kind of line.
     UnknownWord,
@@ -25,6 +25,8 @@ pub enum LineFault {
     Repeated,
     /// One glyph too many, or one entry too many of a glyph in a table.
     TooMany,
+    /// A height of a kern isn't above the one before it.
+    NotRising,
     /// The file ended without `upem`.
     NoUpem,
     /// The file ended without `line`.
@@ -51,6 +53,7 @@ impl LineFault {
             LineFault::NotNamed => 8,
             LineFault::Repeated => 9,
             LineFault::TooMany => 10,
+            LineFault::NotRising => 15,
             LineFault::NoUpem => 11,
             LineFault::NoLine => 12,
             LineFault::NoXHeight => 13,

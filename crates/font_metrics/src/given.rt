@@ -7,6 +7,8 @@ use op_dictionary::Extra;
 /// What the lines of a file have given so far.
 #[derive(Drop)]
 pub struct Given {
+    /// The version of the file, 1 or 2.
+    pub version: u8,
     pub upem: Option<u16>,
     pub line: Option<(u16, u16)>,
     pub x_height: Option<u16>,

@@ -1,8 +1,8 @@
 ghost use Rattle.std.specs.Prelude.{◌≡◌};
-ghost use Rattle.font_metrics.specs.Lines.{keyword_of, table_of, table_or_unknown};
+ghost use Rattle.font_metrics.specs.Lines.{keyword_of, known_in};
 
 use crate::choices::choice_of;
-use crate::table::{Table, table_of};
+use op_dictionary::Axis;
 
 /// The first word of a line, which says what its fields are.
 #[derive(Clone, Copy)]
@@ -21,16 +21,20 @@ pub enum Keyword {
     Glyph,
     /// `char`
     Char,
-    /// The first word of a table by glyph.
-    Table(Table),
+    /// `vvariant`, `hvariant`: a variant along an axis.
+    Variants(Axis),
+    /// `vassembly`, `hassembly`: a part along an axis.
+    Parts(Axis),
+    /// `kern`
+    Kern,
     /// `operator`
     Operator,
     /// Any other word.
     Unknown,
 }
 
-/// The first words of the lines that belong to no table by glyph, but for the version's.
-const KEYWORDS: [(&str, Keyword); 8] = [
+/// The first words of all lines but the first.
+const KEYWORDS: [(&str, Keyword); 13] = [
     ("upem", Keyword::Upem),
     ("line", Keyword::Line),
     ("xheight", Keyword::XHeight),
@@ -38,6 +42,11 @@ const KEYWORDS: [(&str, Keyword); 8] = [
     ("const", Keyword::Constant),
     ("glyph", Keyword::Glyph),
     ("char", Keyword::Char),
+    ("vvariant", Keyword::Variants(Axis::Block)),
+    ("hvariant", Keyword::Variants(Axis::Inline)),
+    ("vassembly", Keyword::Parts(Axis::Block)),
+    ("hassembly", Keyword::Parts(Axis::Inline)),
+    ("kern", Keyword::Kern),
     ("operator", Keyword::Operator),
 ];
 
@@ -47,15 +56,18 @@ pub fn keyword_of(word: &[u8]) -> Keyword
 {
     match choice_of(word, &KEYWORDS) {
         Some(keyword) => keyword,
-        None => table_or_unknown(word),
+        None => Keyword::Unknown,
     }
 }
 
-fn table_or_unknown(word: &[u8]) -> Keyword
-    ensures { result ≡ table_or_unknown (table_of word.now) }
-{
-    match table_of(word) {
-        None => Keyword::Unknown,
-        Some(table) => Keyword::Table(table),
+impl Keyword {
+    /// The same in a file of this version: the first knows no kerns.
+    pub fn known_in(self, version: u8) -> Keyword
+        ensures { result ≡ known_in version self }
+    {
+        match self {
+            Keyword::Kern if version < 2 => Keyword::Unknown,
+            keyword => keyword,
+        }
     }
 }

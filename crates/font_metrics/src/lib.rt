@@ -16,7 +16,7 @@
 //! - Change a line of the format: `specs/Fields.antt`, `specs/Reading.antt` and `specs/Print.antt`,
 //!   then `src/lines.rt`, `src/said.rt`, `src/taking.rt` and the mirror `src/print.rt`.
 //! - Add a table by glyph: a case of `Table` and a field of `Tables` (`src/table.rt`), its `Slot` in
-//!   `specs/Tables.antt`, how its lines are taken and printed (`Given::take_entry`, `print_table`), and
+//!   `specs/Tables.antt`, how its lines are taken and printed (`take_fields`, `print_table`), and
 //!   what is proved of its kind (`IsKind`, `proofs/TableKinds`). The rest is proved of all tables.
 #![tactic(auto)]
 
@@ -26,11 +26,15 @@ mod characters; // CharacterMap
 mod choices; // words of a small choice: FIX, prefix, block, A
 mod constant_table; // ConstantTable
 mod constants; // ConstName
+mod corner; // Corner
 mod fault; // LineFault
 mod given; // Given: what lines have given so far
 mod glyph; // GlyphId, Glyph
 mod glyphs; // GlyphTable
 mod growth; // Variant, Part
+mod kern; // Kern: the kern of a glyph at a corner
+mod kern_lines; // their lines
+mod kern_tables; // KernTables: kerns by corner and glyph
 mod keyword; // the first word of a line
 pub mod laws; // of all files: what their lines say, their first fault, their print
 mod lines; // the fields of each kind of line
@@ -50,6 +54,7 @@ mod texts; // the texts of a choice
 mod words; // numbers, codes and names
 
 pub use constants::ConstName;
+pub use corner::Corner;
 pub use fault::LineFault;
 pub use glyph::{Glyph, GlyphId};
 pub use growth::{Part, Variant};

@@ -1,14 +1,17 @@
-ghost use Rattle.std.specs.Prelude.{◌≡◌, ◌<◌, ◌≤◌, ◌^◌, length, pos, ◌≤ℤ◌, ◌*ℤ◌, IfSome, unwrap_or};
+ghost use Rattle.std.specs.Prelude.{◌≡◌, ◌<◌, ◌≤◌, ◌^◌, true, length, pos, int_le, ◌≤ℤ◌, ◌*ℤ◌, IfSome, unwrap_or, slice_index_or};
 ghost use Rattle.std.specs.List.{All};
 ghost use Rattle.fixed_units.specs.Numbers.{IsWithin, rounded};
-ghost use Rattle.font_metrics.specs.Metrics.{scale_of, constant_of, percent_of, or_default, IsPercent, IsScaleDown, given_constant, line_ascent_of, line_descent_of, ex_of, overlap_of, place_of_letter, glyph_at, name_at, variants_of, parts_of};
+ghost use Rattle.font_metrics.specs.Metrics.{scale_of, constant_of, percent_of, or_default, IsPercent, IsScaleDown, given_constant, line_ascent_of, line_descent_of, ex_of, overlap_of, place_of_letter, glyph_at, name_at, variants_of, parts_of, kerns_of, reached_of, values_of, kern_value, kern_of};
 ghost use Rattle.font_metrics.specs.Constants.{place_of_constant};
-ghost use Rattle.font_metrics.specs.Taken.{IsInDesign, IsMeasured, IsConstant, IsVariant, IsPart, IsTaken};
+ghost use Rattle.font_metrics.specs.Taken.{IsInDesign, IsMeasured, IsConstant, IsVariant, IsPart, IsKern, IsKernStep, IsTaken};
+ghost use Rattle.font_metrics.specs.Tables.{no_kerns};
 
 use crate::constants::ConstName;
+use crate::corner::Corner;
 use crate::given::{Given, Needed};
 use crate::glyph::{Glyph, GlyphId};
 use crate::growth::{Part, Variant};
+use crate::kern::{Kern, KernStep};
 use fixed_units::{Ratio, round};
 use op_dictionary::{Axis, Extra};
 use std::marker::Model;
@@ -40,6 +43,13 @@ impl Metrics {
         ensures { IsTaken self.now }
     {
         let _ = &self.needs;
+    }
+
+    /// The version of the file, 1 or 2.
+    pub fn version(&self) -> u8
+        ensures { result ≡ self.now.version }
+    {
+        self.given.version
     }
 
     /// A value of at most 2^20 design units at a font size, in units (1/1024 px): the value times
@@ -208,11 +218,94 @@ impl Metrics {
         self.scale(i64::from(units), size)
     }
 
+    /// How far a script is moved at a corner of a glyph, in units: the value of its kern there at a
+    /// height and a font size, both in units, and 0 where it has none.
+    pub fn kern(&self, glyph: GlyphId, corner: Corner, height: i64, size: i64) -> i64
+        requires glyph { glyph.0 < length self.now.glyphs }
+        requires size_low { pos 0 ≤ℤ size }
+        requires size_high { size ≤ℤ pos (2 ^ 20) }
+        ensures value { result ≡ kern_of self.now glyph.0 corner height size }
+        ensures within { IsWithin (2 ^ 32) result }
+    {
+        match self.kerns(glyph, corner).first() {
+            None => 0,
+            Some(kern) => self.kern_value(kern, height, size),
+        }
+    }
+
+    /// Whether no glyph has a kern. A caller then needs no glyph to know that its kerns are 0.
+    pub fn has_no_kerns(&self) -> bool
+        ensures { result ≡ true → self.now.tables.kerns ≡ no_kerns }
+    {
+        self.given.tables.kerns.is_empty()
+    }
+
+    /// What a glyph has at a corner: its kern, where it has one.
+    pub(crate) fn kerns(&self, glyph: GlyphId, corner: Corner) -> &[Kern]
+        ensures value { result.now ≡ kerns_of self.now glyph.0 corner }
+        ensures items { All IsKern result.now }
+    {
+        self.given.tables.kerns.items(corner, glyph.0)
+    }
+
+    /// The value of a kern at a height and a size.
+    fn kern_value(&self, kern: &Kern, height: i64, size: i64) -> i64
+        requires ranges { IsKern kern.now }
+        requires size_low { pos 0 ≤ℤ size }
+        requires size_high { size ≤ℤ pos (2 ^ 20) }
+        ensures value { result ≡ kern_value self.now kern.now height size }
+        ensures within { IsWithin (2 ^ 32) result }
+    {
+        let place = self.reached(kern.steps.as_slice(), height, size);
+        self.scale(i64::from(value_at(kern, place)), size)
+    }
+
+    /// How many heights are at most a height, each at a size.
+    fn reached(&self, steps: &[KernStep], height: i64, size: i64) -> usize
+        requires ranges { All IsKernStep steps.now }
+        requires size_low { pos 0 ≤ℤ size }
+        requires size_high { size ≤ℤ pos (2 ^ 20) }
+        ensures value { result ≡ reached_of self.now steps.now height size }
+        ensures within { result ≤ length steps.now }
+    {
+        let mut count = 0;
+        for step in steps {
+            if self.is_reached(step, height, size) {
+                count += 1;
+            }
+        }
+        count
+    }
+
+    /// Whether the height of a step is at most a height, at a size.
+    fn is_reached(&self, step: &KernStep, height: i64, size: i64) -> bool
+        requires range { IsKernStep step.now }
+        requires size_low { pos 0 ≤ℤ size }
+        requires size_high { size ≤ℤ pos (2 ^ 20) }
+        ensures { result ≡ int_le (scale_of self.now step.now.height size) height }
+    {
+        self.scale(i64::from(step.height), size) <= height
+    }
+
     /// The operator lines of the file, in file order.
     pub fn extra(&self) -> &Extra
         ensures { result.now ≡ self.now.operators }
     {
         &self.given.operators
+    }
+}
+
+/// The value of a kern at a place.
+fn value_at(kern: &Kern, place: usize) -> i32
+    requires ranges { IsKern kern.now }
+    requires place { place ≤ length kern.now.steps }
+    ensures value { result ≡ slice_index_or (values_of kern.now) place (pos 0) }
+    ensures within { IsWithin (2 ^ 16) result }
+{
+    if place == 0 {
+        kern.lowest
+    } else {
+        kern.steps.as_slice()[place - 1].value
     }
 }
 

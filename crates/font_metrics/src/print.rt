@@ -1,17 +1,20 @@
-ghost use Rattle.std.specs.Prelude.{◌≡◌, ◌<◌, [], ◌++◌, All, length, map, flat_map, IfOk, OnOk, Ok};
+ghost use Rattle.std.specs.Prelude.{◌≡◌, ◌<◌, [], ◌∷◌, ◌++◌, All, length, map, flat_map, IfOk, OnOk, Ok};
+ghost use Rattle.std.specs.Fmt.{signed_decimal};
 ghost use Rattle.std.specs.List.{range_with_len};
-ghost use Rattle.font_metrics.specs.Print.{constant_words, glyph_words, character_words, table_lines, growth_lines, operator_words, header_lines, measures_words, overlap_lines, line_text, print_of};
+ghost use Rattle.font_metrics.specs.Print.{constant_words, glyph_words, character_words, table_lines, growth_lines, operator_words, header_lines, measures_words, overlap_lines, corner_text, step_words, word_text, line_text, print_of};
 ghost use Rattle.font_metrics.specs.Reading.{metrics_of};
-ghost use Rattle.font_metrics.specs.declared.table.Table.TheVariants.{Variants, Parts};
+ghost use Rattle.font_metrics.specs.declared.table.Table.TheVariants.{Variants, Parts, Kerns};
 
 use crate::constant_table::ConstantTable;
 use crate::constants::text_of_place;
+use crate::corner::Corner;
 use crate::glyph::{Glyph, GlyphId};
 use crate::glyphs::GlyphTable;
+use crate::kern::Kern;
 use crate::metrics::Metrics;
 use crate::printed::{PrintedLines, Word};
 use crate::table::{TABLES, Table};
-use crate::texts::{axis_text, category_text, extender_text, form_text};
+use crate::texts::{axis_text, category_text, corner_text, extender_text, form_text};
 use fixed_units::{List, Memory};
 use op_dictionary::{Axis, Extra};
 use std::alloc::Global;
@@ -23,12 +26,12 @@ impl Metrics {
         ensures reads_back { IfOk result (λ text. metrics_of text ≡ Ok self.now) }
     {
         let mut lines = PrintedLines::new(alloc);
-        self.print_lines(&mut lines)?;
+        self.print_lines(alloc, &mut lines)?;
         Ok(lines.into_bytes())
     }
 
     /// All lines, in order.
-    fn print_lines(&self, lines: &mut PrintedLines) -> Result<(), Memory>
+    fn print_lines(&self, alloc: Global, lines: &mut PrintedLines) -> Result<(), Memory>
         requires { lines.old ≡ [] }
         ensures print { OnOk result (lines.new ≡ print_of self.now) }
         ensures reads_back { OnOk result (metrics_of lines.new ≡ Ok self.now) }
@@ -37,7 +40,7 @@ impl Metrics {
         print_constants(&self.given.constants, lines)?;
         print_glyphs(&self.given.glyphs, lines)?;
         self.print_characters(lines)?;
-        self.print_growth(lines)?;
+        self.print_growth(alloc, lines)?;
         print_operators(&self.given.operators, lines)
     }
 
@@ -46,7 +49,8 @@ impl Metrics {
         ensures { OnOk result (lines.new ≡ lines.old ++ flat_map line_text (header_lines self.now)) }
     {
         let (ascent, descent) = self.needs.line;
-        lines.add_line("mathlay-metrics", &[Word::Text("1")])?;
+        let version = u16::from(self.given.version);
+        lines.add_line("mathlay-metrics", &[Word::Natural(version)])?;
         lines.add_line("upem", &[Word::Natural(self.needs.upem)])?;
         lines.add_line("line", &[Word::Natural(ascent), Word::Natural(descent)])?;
         lines.add_line("xheight", &[Word::Natural(self.needs.x_height)])?;
@@ -64,24 +68,29 @@ impl Metrics {
         Ok(())
     }
 
-    /// What each glyph grows by.
-    fn print_growth(&self, lines: &mut PrintedLines) -> Result<(), Memory>
+    /// What each glyph has in the tables by glyph.
+    fn print_growth(&self, alloc: Global, lines: &mut PrintedLines) -> Result<(), Memory>
         ensures { OnOk result (lines.new ≡ lines.old ++ flat_map line_text
             (flat_map (growth_lines self.now) (range_with_len 0 (length self.now.glyphs)))) }
     {
         for place in 0..self.glyph_count() as u16 {
-            self.print_place(GlyphId(place), lines)?;
+            self.print_place(alloc, GlyphId(place), lines)?;
         }
         Ok(())
     }
 
-    /// What a glyph grows by, table after table.
-    fn print_place(&self, base: GlyphId, lines: &mut PrintedLines) -> Result<(), Memory>
+    /// What a glyph has, table after table.
+    fn print_place(
+        &self,
+        alloc: Global,
+        base: GlyphId,
+        lines: &mut PrintedLines,
+    ) -> Result<(), Memory>
         requires { base.0 < length self.now.glyphs }
         ensures { OnOk result (lines.new ≡ lines.old ++ flat_map line_text (growth_lines self.now base.0)) }
     {
         for table in &TABLES {
-            self.print_table(base, *table, lines)?;
+            self.print_table(alloc, base, *table, lines)?;
         }
         Ok(())
     }
@@ -89,6 +98,7 @@ impl Metrics {
     /// What a glyph has in a table.
     fn print_table(
         &self,
+        alloc: Global,
         base: GlyphId,
         table: Table,
         lines: &mut PrintedLines,
@@ -99,6 +109,7 @@ impl Metrics {
         match table {
             Table::Variants(axis) => self.print_variants(base, axis, lines),
             Table::Parts(axis) => self.print_parts(base, axis, lines),
+            Table::Kerns(corner) => self.print_kerns(alloc, base, corner, lines),
         }
     }
 
@@ -143,6 +154,47 @@ impl Metrics {
         }
         Ok(())
     }
+}
+
+impl Metrics {
+    fn print_kerns(
+        &self,
+        alloc: Global,
+        base: GlyphId,
+        corner: Corner,
+        lines: &mut PrintedLines,
+    ) -> Result<(), Memory>
+        requires { base.0 < length self.now.glyphs }
+        ensures { OnOk result (lines.new ≡ lines.old ++ flat_map line_text (table_lines self.now base.0 (Kerns corner))) }
+    {
+        let base_name = self.name(base);
+        for kern in self.kerns(base, corner) {
+            let words = kern_words(alloc, base_name, corner, kern)?;
+            lines.add_line("kern", words.as_slice())?;
+        }
+        Ok(())
+    }
+}
+
+/// The words of a kern behind the keyword.
+fn kern_words<'a>(
+    alloc: Global,
+    base_name: &'a str,
+    corner: Corner,
+    kern: &Kern,
+) -> Result<Vec<Word<'a>>, Memory>
+    ensures { IfOk result (λ words. map word_text words.items
+        ≡ base_name.now ∷ corner_text corner ∷ signed_decimal kern.now.lowest ∷ flat_map step_words kern.now.steps) }
+{
+    let mut words = Vec::new(alloc);
+    words.push(Word::Text(base_name))?;
+    words.push(Word::Text(corner_text(corner)))?;
+    words.push(Word::Number(i64::from(kern.lowest)))?;
+    for step in kern.steps.as_slice() {
+        words.push(Word::Number(i64::from(step.height)))?;
+        words.push(Word::Number(i64::from(step.value)))?;
+    }
+    Ok(words)
 }
 
 fn print_overlap(overlap: Option<u16>, lines: &mut PrintedLines) -> Result<(), Memory>

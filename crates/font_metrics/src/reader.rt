@@ -1,11 +1,12 @@
 ghost use Rattle.std.specs.Prelude.{◌≡◌, ◌≤◌, length};
 ghost use Rattle.font_metrics.specs.Taken.{most_glyphs};
 ghost use Rattle.font_metrics.specs.Lines.{lent};
-ghost use Rattle.font_metrics.specs.Reading.{after, after_first, after_words, after_fields, first_in, is_version, needed, lines_of, metrics_of, most_file_bytes};
+ghost use Rattle.font_metrics.specs.Reading.{after, after_first, after_words, after_fields, first_in, first_of, version_in, version_of, needed, lines_of, metrics_of, most_file_bytes};
 ghost use Rattle.font_metrics.specs.Reads.{Takes, Begins, Ends};
 ghost use Rattle.font_metrics.specs.Said.{IsOfNoTable};
 
-use crate::fault::{LineFault, fault_if};
+use crate::choices::choice_of;
+use crate::fault::LineFault;
 use crate::given::{Given, Needed};
 use crate::keyword::{Keyword, keyword_of};
 use crate::pieces::{LineWords, cut, first_line, is_comment, is_foreign};
@@ -20,8 +21,8 @@ impl Given {
     pub fn begun(alloc: Global, line: &[u8]) -> Result<Given, LineFault>
         ensures { result ≡ after_first line.now }
     {
-        take_first(line)?;
-        Ok(Given::nothing(alloc))
+        let version = take_first(line)?;
+        Ok(Given::nothing(alloc, version))
     }
 
     /// Takes all lines of a file behind the first, from which this was begun, and tells what metrics
@@ -70,7 +71,10 @@ impl Given {
     {
         match words.split_first() {
             None => Ok(()),
-            Some((word, fields)) => self.take_fields(alloc, keyword_of(word), fields),
+            Some((word, fields)) => {
+                let keyword = keyword_of(word).known_in(self.version);
+                self.take_fields(alloc, keyword, fields)
+            }
         }
     }
 
@@ -84,7 +88,9 @@ impl Given {
         ensures { Takes (after_fields self.old keyword (lent fields.now)) self.new result }
     {
         match keyword {
-            Keyword::Table(table) => self.take_entry(alloc, table, fields),
+            Keyword::Variants(axis) => self.take_variant(alloc, axis, fields),
+            Keyword::Parts(axis) => self.take_part(alloc, axis, fields),
+            Keyword::Kern => self.take_kern(alloc, fields),
             _ => self.take_said(alloc, keyword, fields),
         }
     }
@@ -132,8 +138,8 @@ impl Given {
     }
 }
 
-/// Whether the first line is the format's.
-fn take_first(line: &[u8]) -> Result<(), LineFault>
+/// The version that the first line names.
+fn take_first(line: &[u8]) -> Result<u8, LineFault>
     ensures { result ≡ first_in line.now }
 {
     if is_foreign(line) {
@@ -141,15 +147,36 @@ fn take_first(line: &[u8]) -> Result<(), LineFault>
     }
     let mut words = LineWords::new();
     cut(line, &mut words);
-    fault_if(!is_version(words.as_slice()), LineFault::WrongFirstLine)
+    match version_in(words.as_slice()) {
+        Some(version) => Ok(version),
+        None => Err(LineFault::WrongFirstLine),
+    }
 }
 
-/// Whether the words are `mathlay-metrics` and `1`.
-fn is_version(words: &[&[u8]]) -> bool
-    ensures { result ≡ is_version (lent words.now) }
+/// The version of the words `mathlay-metrics` and `1` or `2`.
+fn version_in(words: &[&[u8]]) -> Option<u8>
+    ensures { result ≡ version_in (lent words.now) }
 {
     match words {
-        &[name, version] => is_text(name, "mathlay-metrics") & is_text(version, "1"),
-        _ => false,
+        &[name, version] => first_of(name, version),
+        _ => None,
     }
+}
+
+fn first_of(name: &[u8], version: &[u8]) -> Option<u8>
+    ensures { result ≡ first_of name.now version.now }
+{
+    if is_text(name, "mathlay-metrics") {
+        version_of(version)
+    } else {
+        None
+    }
+}
+
+/// `1` or `2`
+#[tactic(auto, unfolding(crate::specs::Words::choice_in))]
+fn version_of(word: &[u8]) -> Option<u8>
+    ensures { result ≡ version_of word.now }
+{
+    choice_of(word, &[("1", 1), ("2", 2)])
 }

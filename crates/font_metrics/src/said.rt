@@ -49,7 +49,7 @@ pub fn line_says<'a>(
         Keyword::Constant => constant_line(fields),
         Keyword::Glyph => glyph_line(fields),
         Keyword::Char => character_line(glyphs, fields),
-        Keyword::Table(_) => unreachable!(),
+        Keyword::Variants(_) | Keyword::Parts(_) | Keyword::Kern => unreachable!(),
         Keyword::Operator => operator_line(fields),
         Keyword::Unknown => Err(LineFault::UnknownWord),
     }

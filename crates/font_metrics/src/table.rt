@@ -1,11 +1,11 @@
 ghost use Rattle.std.specs.Prelude.{◌≡◌};
-ghost use Rattle.font_metrics.specs.Lines.{table_of};
 ghost use Rattle.font_metrics.specs.Tables.{slot, no_tables};
 ghost use Rattle.font_metrics.specs.Texts.{variant_keyword, part_keyword};
 
 use crate::by_axis::ByAxis;
+use crate::corner::Corner;
 use crate::growth::{Part, Variant};
-use crate::texts::is_text;
+use crate::kern_tables::KernTables;
 use op_dictionary::Axis;
 use std::alloc::Global;
 
@@ -16,14 +16,20 @@ pub enum Table {
     Variants(Axis),
     /// The parts of the assemblies along an axis.
     Parts(Axis),
+    /// The kerns at a corner.
+    Kerns(Corner),
 }
 
 /// Each table, in the order in which a glyph's lines are printed.
-pub const TABLES: [Table; 4] = [
+pub const TABLES: [Table; 8] = [
     Table::Variants(Axis::Block),
     Table::Variants(Axis::Inline),
     Table::Parts(Axis::Block),
     Table::Parts(Axis::Inline),
+    Table::Kerns(Corner::TopRight),
+    Table::Kerns(Corner::TopLeft),
+    Table::Kerns(Corner::BottomRight),
+    Table::Kerns(Corner::BottomLeft),
 ];
 
 impl Table {
@@ -34,6 +40,7 @@ impl Table {
         match self {
             Table::Variants(axis) => variant_keyword(axis),
             Table::Parts(axis) => part_keyword(axis),
+            Table::Kerns(_) => "kern",
         }
     }
 }
@@ -56,23 +63,12 @@ fn part_keyword(axis: Axis) -> &'static str
     }
 }
 
-/// The table whose lines have this first word; words are compared exactly.
-pub fn table_of(word: &[u8]) -> Option<Table>
-    ensures { result ≡ table_of word.now }
-{
-    for table in &TABLES {
-        if is_text(word, table.keyword()) {
-            return Some(*table);
-        }
-    }
-    None
-}
-
 /// What all tables by glyph have.
 #[derive(Drop)]
 pub struct Tables {
     pub variants: ByAxis<Variant>,
     pub parts: ByAxis<Part>,
+    pub kerns: KernTables,
 }
 
 impl Tables {
@@ -83,6 +79,7 @@ impl Tables {
         Tables {
             variants: ByAxis::new(alloc),
             parts: ByAxis::new(alloc),
+            kerns: KernTables::new(alloc),
         }
     }
 }

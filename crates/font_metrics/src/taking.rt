@@ -6,18 +6,18 @@ ghost use Rattle.font_metrics.specs.Ranges.{most_glyphs};
 ghost use Rattle.font_metrics.specs.Reading.{nothing, allowed, put, after_fields};
 ghost use Rattle.font_metrics.specs.Reads.{Takes};
 ghost use Rattle.font_metrics.specs.Said.{item_of, HasLineText};
-ghost use Rattle.font_metrics.specs.declared.keyword.Keyword.TheVariants.{Table as TableOf};
-ghost use Rattle.font_metrics.specs.declared.table.Table.TheVariants.{Variants, Parts};
+ghost use Rattle.font_metrics.specs.declared.keyword.Keyword.TheVariants.{Variants as VariantsOf, Parts as PartsOf, Kern as KernOf};
 
 use crate::characters::CharacterMap;
 use crate::constant_table::ConstantTable;
 use crate::fault::{LineFault, fault_if};
 use crate::given::Given;
 use crate::glyphs::GlyphTable;
+use crate::kern_lines::kern_line;
 use crate::named_lines::{part_line, variant_line};
 use crate::refusal::LineRefusal;
 use crate::said::Said;
-use crate::table::{Table, Tables};
+use crate::table::Tables;
 use fixed_units::Memory;
 use op_dictionary::{Axis, Extra, OperatorLine};
 use std::alloc::Global;
@@ -30,11 +30,12 @@ const MOST_VARIANTS: usize = 64;
 const MOST_PARTS: usize = 16;
 
 impl Given {
-    /// Nothing yet. It takes no memory.
-    pub fn nothing(alloc: Global) -> Given
-        ensures { result ≡ nothing }
+    /// Nothing yet, in a file of this version. It takes no memory.
+    pub fn nothing(alloc: Global, version: u8) -> Given
+        ensures { result ≡ nothing version }
     {
         Given {
+            version,
             upem: None,
             line: None,
             x_height: None,
@@ -107,30 +108,15 @@ impl Given {
 }
 
 impl Given {
-    /// Takes the fields of a line of a table.
-    pub fn take_entry(
-        &mut self,
-        alloc: Global,
-        table: Table,
-        fields: &[&[u8]],
-    ) -> Result<(), LineRefusal>
-        requires { length self.old.glyphs ≤ most_glyphs }
-        ensures { Takes (after_fields self.old (TableOf table) (lent fields.now)) self.new result }
-    {
-        match table {
-            Table::Variants(axis) => self.take_variant(alloc, axis, fields),
-            Table::Parts(axis) => self.take_part(alloc, axis, fields),
-        }
-    }
-
-    fn take_variant(
+    /// Takes the fields of a line of a variant.
+    pub fn take_variant(
         &mut self,
         alloc: Global,
         axis: Axis,
         fields: &[&[u8]],
     ) -> Result<(), LineRefusal>
         requires { length self.old.glyphs ≤ most_glyphs }
-        ensures { Takes (after_fields self.old (TableOf (Variants axis)) (lent fields.now)) self.new result }
+        ensures { Takes (after_fields self.old (VariantsOf axis) (lent fields.now)) self.new result }
     {
         let (place, variant) = variant_line(&self.glyphs, fields)?;
         self.tables
@@ -138,12 +124,27 @@ impl Given {
             .take(alloc, axis, MOST_VARIANTS, place, variant)
     }
 
-    fn take_part(&mut self, alloc: Global, axis: Axis, fields: &[&[u8]]) -> Result<(), LineRefusal>
+    /// Takes the fields of a line of a part.
+    pub fn take_part(
+        &mut self,
+        alloc: Global,
+        axis: Axis,
+        fields: &[&[u8]],
+    ) -> Result<(), LineRefusal>
         requires { length self.old.glyphs ≤ most_glyphs }
-        ensures { Takes (after_fields self.old (TableOf (Parts axis)) (lent fields.now)) self.new result }
+        ensures { Takes (after_fields self.old (PartsOf axis) (lent fields.now)) self.new result }
     {
         let (place, part) = part_line(&self.glyphs, fields)?;
         self.tables.parts.take(alloc, axis, MOST_PARTS, place, part)
+    }
+
+    /// Takes the fields of a line of a kern.
+    pub fn take_kern(&mut self, alloc: Global, fields: &[&[u8]]) -> Result<(), LineRefusal>
+        requires { length self.old.glyphs ≤ most_glyphs }
+        ensures { Takes (after_fields self.old KernOf (lent fields.now)) self.new result }
+    {
+        let (corner, (place, kern)) = kern_line(alloc, &self.glyphs, fields)?;
+        self.tables.kerns.take(alloc, corner, place, kern)
     }
 }
 

@@ -1,7 +1,8 @@
 ghost use Rattle.std.specs.Prelude.{◌≡◌};
 ghost use Rattle.std.specs.Str.{bytes_eq};
-ghost use Rattle.font_metrics.specs.Print.{extender_text, form_text, category_text, axis_text};
+ghost use Rattle.font_metrics.specs.Print.{extender_text, corner_text, form_text, category_text, axis_text};
 
+use crate::corner::Corner;
 use op_dictionary::{Axis, Category, Form};
 
 /// Whether a word is this text, compared exactly.
@@ -16,6 +17,18 @@ pub fn extender_text(extender: bool) -> &'static str
     ensures { result.now ≡ extender_text extender }
 {
     if extender { "EXT" } else { "FIX" }
+}
+
+/// `TR`, `TL`, `BR` or `BL`
+pub fn corner_text(corner: Corner) -> &'static str
+    ensures { result.now ≡ corner_text corner }
+{
+    match corner {
+        Corner::TopRight => "TR",
+        Corner::TopLeft => "TL",
+        Corner::BottomRight => "BR",
+        Corner::BottomLeft => "BL",
+    }
 }
 
 /// `prefix`, `infix` or `postfix`

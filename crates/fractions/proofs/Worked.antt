@@ -16,6 +16,7 @@ use Rattle.fractions.specs.Placing.{spot, centred_of, placed_of, lower_of, with_
 -- and the gap is 200.
 abbrev sample : MetricsValue
 sample = record {
+  version = 1;
   upem = 1024;
   line_ascent = 900;
   line_descent = 300;

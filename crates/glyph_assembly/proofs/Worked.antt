@@ -38,6 +38,7 @@ extender glyph start end full = record { glyph = record { 0 = glyph }; extender 
 
 abbrev sample : MetricsValue
 sample = record {
+  version = 1;
   upem = 1024;
   line_ascent = 900;
   line_descent = 300;

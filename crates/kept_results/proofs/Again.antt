@@ -16,7 +16,7 @@ use Rattle.style_scope.specs.Sizes.{size_of}
 use Rattle.embellished.proofs.InFlow.{among, shown}
 use Rattle.layout_model.specs.Answers.{answers_in, questions_in}
 use Rattle.layout_model.specs.Laws.{answer_of}
-use Rattle.layout_model.specs.Fits.{AreAnswers, HasStyle}
+use Rattle.layout_model.specs.Fits.{AreAnswers, HasFont, HasStyle}
 use Rattle.layout_model.specs.Layout.{equation, in_range, lay}
 use Rattle.layout_model.specs.Questions.{IsBelow, first}
 use Rattle.layout_model.specs.Range.{is_font_size, outcome_fits}
@@ -29,7 +29,7 @@ use Rattle.layout_model.proofs.Made.{answer_of_child}
 use Rattle.layout_model.proofs.Places.{first_below}
 use Rattle.layout_model.proofs.Replies.{answer_there, answers_set, as_many, asked_within, question_there, question_was, questions_set}
 use Rattle.layout_model.proofs.Children.{few_children, in_flow}
-use Rattle.layout_model.proofs.Fits.{answers_are as answers_are_stored}
+use Rattle.layout_model.proofs.Fits.{answers_are as answers_are_stored, fonts_are}
 use Rattle.layout_model.proofs.Waves.{all_fit, broken}
 use Rattle.layout_model.proofs.Whole.{ones_false, range_waves}
 use Rattle.child_questions.proofs.Unstretched.{one_wave}
@@ -222,6 +222,10 @@ module _ (m : MetricsValue) (node : Node) (memo : Memo) (context : Context) (bef
 
         pub stored_again : element_count node ≤ 65_536 → AreAnswers one
         stored_again few = subst AreAnswers (sym told_again) (answers_are_stored m node few asks fits_again)
+
+        pub sized_again : element_count node ≤ 65_536 → All (HasFont m) asks
+        sized_again few =
+            fonts_are m node few asks (subst (All (IsBelow (length (seen_of node).kids))) (sym first_is) (first_below m (seen_of node) context)) fits_again
 
     pub regular_again : IsRegular m node context asks
     regular_again = record {
@@ -438,6 +442,9 @@ module _ (m : MetricsValue) (node : Node) (memo : Memo) (context : Context) (bef
 
     pub stored : AreAnswers answers
     stored = stored_again m node memo context before h b asks o asked own_ask child there old new at pass.keeps answer e answers refl agrees kept few
+
+    pub sized : All (HasFont m) asks
+    sized = sized_again m node memo context before h b asks o asked own_ask child there old new at pass.keeps answer e answers refl agrees kept few
 
     named : AllByRecursion (NamesKept node below_now) asks
     named = named_again m node memo context before h b asks o asked own_ask child there old new at pass.keeps answer e answers refl agrees kept

@@ -1,9 +1,10 @@
 ghost use Rattle.std.specs.Prelude.{◌≡◌, ◌≤◌, ◌<◌, ◌+◌, ◌^◌, pos, ◌≤ℤ◌, true, false, [], length, Err, IfOk, IfNone, IfSome, OnOk};
+ghost use Rattle.std.specs.List.{All};
 ghost use Rattle.fixed_units.specs.declared.refusal.LayRefusal.TheVariants.{Range};
 ghost use Rattle.embellished.specs.Seen.{seen_of};
 ghost use Rattle.style_scope.specs.Sizes.{IsStyle, size_of};
 ghost use Rattle.layout_model.specs.Answers.{answers_in, questions_in};
-ghost use Rattle.layout_model.specs.Fits.{AreAnswers, HasStyle, IsContext};
+ghost use Rattle.layout_model.specs.Fits.{AreAnswers, HasFont, HasStyle, IsContext};
 ghost use Rattle.layout_model.specs.Layout.{equation};
 ghost use Rattle.layout_model.specs.Questions.{first};
 ghost use Rattle.layout_model.specs.Range.{outcome_fits};
@@ -101,6 +102,7 @@ pub fn outcome_of<L: Ledger>(
     requires ones { questions_in one.now ≡ first metrics.now (seen_of view.now.node.now)
         context.now }
     requires stored { AreAnswers (answers_in one.now) }
+    requires fonts { All (HasFont metrics.now) (questions_in one.now) }
     ensures ok { IfOk result (λ outcome. outcome ≡ equation metrics.now (seen_of view.now.node.now)
         context.now (answers_in one.now) []) }
     ensures fit { OnOk result

@@ -1,9 +1,10 @@
 ghost use Rattle.std.specs.Prelude.{◌≡◌, ◌≤◌, ◌<◌, ◌+◌, ◌^◌, pos, ◌≤ℤ◌, true, false, [], length, Some, slice_get, slice_set, Err, IfOk, OnErr, OnOk};
+ghost use Rattle.std.specs.List.{All};
 ghost use Rattle.embellished.specs.Seen.{seen_of};
 ghost use Rattle.fixed_units.specs.declared.refusal.LayRefusal.TheVariants.{Range};
 ghost use Rattle.style_scope.specs.Sizes.{size_of};
 ghost use Rattle.layout_model.specs.Answers.{answers_in, questions_in};
-ghost use Rattle.layout_model.specs.Fits.{AreAnswers, IsContext};
+ghost use Rattle.layout_model.specs.Fits.{AreAnswers, HasFont, IsContext};
 ghost use Rattle.layout_model.specs.Layout.{equation};
 ghost use Rattle.layout_model.specs.Questions.{first};
 ghost use Rattle.layout_model.specs.Range.{outcome_fits};
@@ -46,6 +47,7 @@ pub fn make_again<L: Ledger>(
     requires ones { questions_in (one_with memo.old before reply) ≡ first metrics.now
         (seen_of node.now) context.now }
     requires stored { AreAnswers (answers_in (one_with memo.old before reply)) }
+    requires fonts { All (HasFont metrics.now) (questions_in (one_with memo.old before reply)) }
     ensures ok { IfOk result (λ answer.
         answer ≡ (equation metrics.now (seen_of node.now) context.now
         (answers_in (one_with memo.old before reply)) []).answer) }
@@ -107,6 +109,7 @@ fn lay_again<L: Ledger>(
     requires ones { questions_in (one_at (out-Memo memo.now) entry) ≡ first metrics.now
         (seen_of node.now) context.now }
     requires stored { AreAnswers (answers_in (one_at (out-Memo memo.now) entry)) }
+    requires fonts { All (HasFont metrics.now) (questions_in (one_at (out-Memo memo.now) entry)) }
     ensures outcome { IfOk result
         (λ laid. laid.outcome ≡ equation metrics.now (seen_of node.now) context.now
         (answers_in (one_at (out-Memo memo.now) entry)) []) }

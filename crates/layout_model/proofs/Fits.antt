@@ -1,9 +1,9 @@
--- Answers of layouts that can be stored can be stored.
-use Rattle.std.proofs.Common.{◌≡◌, ◌∙◌, refl, sym, ap, ℕ, ◌≤◌, arith, true, ◌&&◌, List, [], ◌∷◌, length, map, All, Option, Some, None, slice_get}
+-- Answers of layouts that can be stored can be stored, and each is made at a font size in range.
+use Rattle.std.proofs.Common.{◌≡◌, ◌∙◌, refl, sym, ap, ℕ, ◌≤◌, arith, true, ◌&&◌, List, [], ◌∷◌, length, map, All, get_or, Option, Some, None, slice_get}
 use Rattle.std.proofs.lemmas.Bool.{and_parts}
 use Rattle.std.proofs.lemmas.List.Elements.{All-cons, All-map, All-nil}
 use Rattle.std.proofs.lemmas.List.Folds.{list_all-append}
-use Rattle.std.proofs.lemmas.Option.{none-some, same_Some, slice_get-map}
+use Rattle.std.proofs.lemmas.Option.{none-some, same_Some, slice_get-get_or, slice_get-map}
 use Rattle.std.specs.List.{flat_map, list_all}
 use Rattle.std.specs.Option.{option_map, option_map_or}
 use Rattle.fixed_units.specs.Boxes.{is_stored}
@@ -16,9 +16,10 @@ use Rattle.embellished.specs.Seen.{Child, flow_children, flow_nodes, seen_of}
 use Rattle.embellished.proofs.InFlow.{among}
 use Rattle.style_scope.specs.Sizes.{size_of}
 use Rattle.layout_model.specs.Answers.{no_answer}
-use Rattle.layout_model.specs.Fits.{AreAnswers}
+use Rattle.layout_model.specs.Fits.{AreAnswers, HasFont}
 use Rattle.layout_model.specs.Laws.{answer_of, visits_below}
 use Rattle.layout_model.specs.Layout.{in_range, lay, questions, visit_fits, visits}
+use Rattle.layout_model.specs.Questions.{IsBelow}
 use Rattle.layout_model.specs.Range.{answer_fits, is_font_size, mark_fits, offset_fits, outcome_fits}
 use Rattle.layout_model.specs.declared.context.Context.{Context}
 use Rattle.layout_model.specs.declared.context.Question.{Question}
@@ -26,7 +27,7 @@ use Rattle.layout_model.specs.declared.outcome.Answer.{Answer}
 use Rattle.layout_model.specs.declared.outcome.Outcome.{Outcome}
 use Rattle.layout_model.proofs.Cells.{lay_cells}
 use Rattle.layout_model.proofs.Trees.{visits_are}
-use Rattle.layout_model.proofs.Children.{few_children, few_in_flow}
+use Rattle.layout_model.proofs.Children.{as_many_nodes, few_children, few_in_flow}
 use Rattle.layout_model.proofs.Waves.{all_fit}
 
 module _ (m : MetricsValue) where
@@ -44,6 +45,12 @@ module _ (m : MetricsValue) where
       (and_parts (is_font_size (size_of m context.style)) (outcome_fits (lay m node context))
       (and_parts (is_font_size (size_of m context.style) && outcome_fits (lay m node context)) (all_fit m node (questions m (seen_of node) context (answer_of m node)))
       (sym (range_is node context) ∙ e)).0).1
+
+  own_size : (node : Node) (context : Context) → in_range m node context ≡ true → is_font_size (size_of m context.style) ≡ true
+  own_size node context e =
+      (and_parts (is_font_size (size_of m context.style)) (outcome_fits (lay m node context))
+      (and_parts (is_font_size (size_of m context.style) && outcome_fits (lay m node context)) (all_fit m node (questions m (seen_of node) context (answer_of m node)))
+      (sym (range_is node context) ∙ e)).0).0
 
   answer_in : (outcome : Outcome) → outcome_fits outcome ≡ true → answer_fits outcome.answer ≡ true
   unfolding outcome_fits
@@ -99,3 +106,19 @@ module _ (m : MetricsValue) where
       fit = All-map (λ answer. answer_fits answer ≡ true) (answer_of m node) asks (λ k d l. answer_passes _ (each_fits asks e k d l));
       few = All-map (λ (answer : Answer). length answer.cells ≤ 65_536) (answer_of m node) asks (λ k d l. cells_few _);
     }
+
+    -- what goes to a child is asked at a font size in range
+    font_passes : (question : Question) → IsBelow (length (seen_of node).kids) question → PassBelow question → HasFont m question
+    unfolding visits_below in_range
+    font_passes question below = by (slice_get (flow_nodes node) question.kid) refl
+      where
+        by : (found : Option Node) → slice_get (flow_nodes node) question.kid ≡ found
+            → list_all (visit_fits m) (option_map_or (λ (kid : Node). visits m kid question.context) found []) ≡ true
+            → HasFont m question
+        by None is e =
+            let within = slice_get-get_or (flow_nodes node) question.kid node (omega (arith, below, as_many_nodes node)) in
+            absurd (none-some (get_or (flow_nodes node) question.kid node) (sym is ∙ within))
+        by (Some kid) is e = own_size kid question.context e
+
+    pub fonts_are : (asks : List Question) → All (IsBelow (length (seen_of node).kids)) asks → all_fit m node asks ≡ true → All (HasFont m) asks
+    fonts_are asks below e = λ k d l. font_passes _ (below k d l) (each_fits asks e k d l)

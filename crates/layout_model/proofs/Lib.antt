@@ -4,10 +4,12 @@ pub mod Asked
 pub mod Carried
 pub mod Cells
 pub mod Children
+pub mod Cornerless
 pub mod Counted
 pub mod Drawn
 pub mod Fits
 pub mod FontSizes
+pub mod KidFonts
 pub mod LaidTrees
 pub mod Made
 pub mod Offsets

@@ -13,7 +13,7 @@ use Rattle.math_tree.specs.declared.node.Node.TheViews.{out-Node}
 use Rattle.embellished.specs.Seen.{flow_nodes, seen_of}
 use Rattle.style_scope.specs.Sizes.{size_of}
 use Rattle.fixed_units.specs.Sums.{list_to}
-use Rattle.layout_model.specs.Fits.{AnswersAll, AreAnswers, IsStretch}
+use Rattle.layout_model.specs.Fits.{AnswersAll, AreAnswers, HasFont, IsStretch}
 use Rattle.layout_model.specs.Laws.{answer_of, laid_below, visits_below}
 use Rattle.layout_model.specs.Layout.{equation, in_range, laid, lay, lay_by, questions, visit_fits, visits}
 use Rattle.layout_model.specs.Questions.{IsBelow, first, second}
@@ -89,12 +89,16 @@ module _ (m : MetricsValue) (node shown : Node) (context : Context) (e : shown �
           ∙ ap (equation m (seen_of node) context (map (answer_of m node) (first m (seen_of node) context))) (b ∙ ap (map (answer_of m node)) twos_are)
           ∙ sym (lay_is m node context)
 
-      pub answers_all : AreAnswers one → AreAnswers two → AnswersAll m (seen_of shown) context one two
-      answers_all h k = record {
+      pub answers_all : AreAnswers one → AreAnswers two → All (HasFont m) ones → All (HasFont m) twos
+          → AnswersAll m (seen_of shown) context one two
+      answers_all h k f g = record {
         ones = ap length a ∙ length-map ones (answer_of m node) ∙ ap length o;
         twos = ap length b ∙ length-map twos (answer_of m node) ∙ ap length t;
         one_fits = h;
         two_fits = k;
+        fonts =
+            All-append (HasFont m) (first m (seen_of shown) context) (second m (seen_of shown) context one)
+            (subst (All (HasFont m)) o f) (subst (All (HasFont m)) t g);
       }
 
 all_true : (a b c : Bool) → a ≡ true → b ≡ true → c ≡ true → (a && (b && c)) ≡ true

@@ -37,6 +37,7 @@ use Rattle.radicals.specs.Lengths.{index_lengths_of, root_lengths_of}
 use Rattle.radicals.specs.Placing.{covered_of, root_of, root_with_index_of, with_index_of}
 use Rattle.row_stretch.specs.Equation.{accent_of, advance_of, ahead_of, offset_of, room_of}
 use Rattle.row_stretch.specs.Questions.{asks_from, planned}
+use Rattle.scripts.specs.Kerns.{sub_kern_of, sup_kern_of}
 use Rattle.scripts.specs.Beside.{ending_at_of, sub_sup_of, sub_x_of, sup_x_of}
 use Rattle.scripts.specs.Lengths.{pair_lengths_of, sub_lengths_of, sup_lengths_of}
 use Rattle.scripts.specs.LimitGaps.{below_of, distance_of, extra_of}
@@ -50,9 +51,10 @@ use Rattle.style_scope.specs.Styles.{by_attributes, child_style_of, initial}
 use Rattle.layout_model.specs.Answers.{last_answer}
 use Rattle.token_boxes.specs.Lengths.{absolute_in}
 use Rattle.token_boxes.specs.Space.{side_of, space_of}
+use Rattle.token_boxes.specs.Token.{token_glyph_of}
 use Rattle.layout_model.specs.Contexts.{kid_axis, kid_style, pull_of}
 use Rattle.layout_model.specs.Elements.{offset, outcome_with, row_in}
-use Rattle.layout_model.specs.Equations.{limit_case, outcome_by, space_outcome, thickness_of}
+use Rattle.layout_model.specs.Equations.{corner_at, limit_case, outcome_by, space_outcome, thickness_of}
 use Rattle.layout_model.specs.Layout.{Subtree, equation, last_answers, lay, lay_by, over, subtree}
 use Rattle.layout_model.specs.Questions.{asking, asking_of, base_properties, first, first_asks, kid_pulls, second, second_asks}
 use Rattle.layout_model.specs.declared.context.Context.{Context}
@@ -66,6 +68,7 @@ use Rattle.font_metrics.specs.declared.mark.Mark.{Mark}
 
 abbrev sample : MetricsValue
 sample = record {
+  version = 1;
   upem = 1024;
   line_ascent = 900;
   line_descent = 300;
@@ -209,11 +212,11 @@ pub root-one : equation sample (element (plain Mroot) (child Mn ∷ child Mn ∷
 unfolding equation last_answers last_answer first second asking asking_of kid_pulls kid_axis stretch_axis pull_of first_asks second_asks asks_from planned outcome_by outcome_with size_of root_with_index_of with_index_of root_of covered_of root_frame_of top_of root_start_of index_height_of share_of root_lengths_of index_lengths_of raised joined shaped_of glyph_frame glyph_reach place_of_letter constant_of percent_of scale_of glyph_at rounded list_to halved
 root-one = refl
 
--- x with a high space below and a 1 above: the two are moved apart
-pub scripts-apart : equation sample (element (plain Msubsup) (child Mi ∷ child Mspace ∷ child Mn ∷ [])) in_text (letter ∷ space ∷ small_one ∷ []) []
+-- boxes as of x with a high space below and a 1 above: the two are moved apart
+pub scripts-apart : equation sample (element (plain Msubsup) (child Mspace ∷ child Mspace ∷ child Mspace ∷ [])) in_text (letter ∷ space ∷ small_one ∷ []) []
     ≡ made (box (pos 16224) (pos 17200) (pos 7040) (pos 14560) (pos 7040) (pos 8112)) (pos 0)
     (offset 0 (pos 0) (pos 0) ∷ offset 1 (pos 9280) (pos 7040) ∷ offset 2 (pos 9280) (neg_ℤ (pos 6400)) ∷ []) []
-unfolding equation last_answers last_answer first second asking asking_of kid_pulls kid_axis stretch_axis base_properties pull_of first_asks second_asks asks_from planned outcome_by outcome_with size_of sub_sup_of pair_shifts_of moved_apart_of lack_of rise_of sub_shift_of sup_shift_of sub_lengths_of sup_lengths_of pair_lengths_of sub_x_of sup_x_of ending_at_of raised joined constant_of scale_of rounded list_to halved
+unfolding equation last_answers last_answer first second asking asking_of kid_pulls kid_axis stretch_axis base_properties pull_of first_asks second_asks asks_from planned outcome_by outcome_with size_of corner_at token_glyph_of sub_sup_of sub_kern_of sup_kern_of pair_shifts_of moved_apart_of lack_of rise_of sub_shift_of sup_shift_of sub_lengths_of sup_lengths_of pair_lengths_of sub_x_of sup_x_of ending_at_of raised joined constant_of scale_of rounded list_to halved
 scripts-apart = refl
 
 -- a sum in display style with a 1 below it

@@ -1,6 +1,6 @@
 -- How each kind of element is laid out over the answers of its children: one arm a kind, which names
 -- its equation (MathML Core 3).
-use Rattle.std.specs.Prelude.{ℕ, ◌+◌, ◌*◌, ◌-◌, ◌/◌, ◌%◌, nat_eq, nat_le, ℤ, pos, ◌-ℤ◌, Bool, true, false, if◌then◌else◌, codes, List, [], ◌∷◌, length, map, Option, Some, None, slice_index_or}
+use Rattle.std.specs.Prelude.{ℕ, ◌+◌, ◌*◌, ◌-◌, ◌/◌, ◌%◌, nat_eq, nat_le, ℤ, pos, ◌-ℤ◌, Bool, true, false, if◌then◌else◌, codes, List, [], ◌∷◌, length, map, Option, Some, None, option_map, slice_get, slice_index_or}
 use Rattle.std.specs.Int.{int_max}
 use Rattle.std.specs.Option.{option_and_then, option_map_or}
 use Rattle.embellished.specs.declared.facts.Core.{Core}
@@ -9,6 +9,8 @@ use Rattle.fixed_units.specs.Sums.{list_to}
 use Rattle.fixed_units.specs.declared.boxes.MathBox.{MathBox}
 use Rattle.font_metrics.specs.Metrics.{constant_of, ex_of}
 use Rattle.font_metrics.specs.declared.constants.ConstName.TheVariants.{FractionRuleThickness}
+use Rattle.font_metrics.specs.declared.corner.Corner.{Corner}
+use Rattle.font_metrics.specs.declared.corner.Corner.TheVariants.{TopRight, TopLeft, BottomRight, BottomLeft}
 use Rattle.font_metrics.specs.declared.mark.Mark.{Mark}
 use Rattle.fractions.specs.Placing.{fraction_of}
 use Rattle.fractions.specs.declared.parts.Fraction.{Fraction}
@@ -27,15 +29,18 @@ use Rattle.radicals.specs.declared.parts.Radical.{Radical}
 use Rattle.row_stretch.specs.declared.parts.Row.{Row}
 use Rattle.scripts.specs.Beside.{sub_of, sup_of, sub_sup_of}
 use Rattle.scripts.specs.Limits.{under_over_of}
+use Rattle.scripts.specs.declared.parts.Inked.{Inked}
+use Rattle.scripts.specs.declared.parts.KernFrom.{KernFrom}
 use Rattle.scripts.specs.declared.parts.LimitCase.{LimitCase}
 use Rattle.scripts.specs.declared.parts.LimitCase.TheVariants.{Large, Stretchy, Plain}
 use Rattle.scripts.specs.declared.parts.Limits.{Limits}
 use Rattle.scripts.specs.declared.parts.Spot.{Spot}
 use Rattle.token_boxes.specs.Operator.{operator_of}
 use Rattle.token_boxes.specs.Space.{space_of}
-use Rattle.token_boxes.specs.Token.{leaf, token_of}
+use Rattle.style_scope.specs.Sizes.{size_of}
+use Rattle.token_boxes.specs.Token.{leaf, token_glyph_of, token_of}
 use Rattle.token_boxes.specs.declared.leaf.Leaf.{Leaf}
-use Rattle.layout_model.specs.Contexts.{is_true, kid_axis, pull_of}
+use Rattle.layout_model.specs.Contexts.{is_true, kid_axis, kid_style, pull_of}
 use Rattle.layout_model.specs.Elements.{Element, along, font, frame_at, frames_of, offset, outcome, outcome_with, row_in}
 use Rattle.layout_model.specs.Questions.{base_properties, columns_over, has_moved_limits}
 use Rattle.layout_model.specs.Rows.{error_of, border, padded_of, padded_start, padded_rise}
@@ -124,19 +129,42 @@ root_outcome e = with_index e (root_with_index_of e.metrics (frame_at e 0) (fram
 abbrev pub has_large_base : Element → Bool
 has_large_base e = option_map_or (λ base. base.largeop) (base_properties e.metrics e.seen e.context) false
 
+-- the corner of a child in flow that shows one glyph alone, at its own font size
+unfoldable pub corner_at : Element → Corner → ℕ → Option Inked
+corner_at e corner index =
+    option_map (λ glyph. record { glyph = glyph; corner = corner; size = size_of e.metrics (kid_style e.metrics e.seen e.context.style index) })
+    (option_and_then (λ kid. token_glyph_of e.metrics kid.head) (slice_get e.seen.kids index))
+
+-- a subscript stands at the bottom right of its base, which stands at the top left of it; a superscript at the
+-- top right, and its base at the bottom left
+abbrev pub sub_corners : Element → KernFrom
+sub_corners e = record { base_sub = corner_at e BottomRight 0; sub = corner_at e TopLeft 1; base_sup = None; sup = None }
+
+abbrev pub sup_corners : Element → KernFrom
+sup_corners e = record { base_sub = None; sub = None; base_sup = corner_at e TopRight 0; sup = corner_at e BottomLeft 1 }
+
+abbrev pub sub_sup_corners : Element → KernFrom
+sub_sup_corners e = record {
+  base_sub = corner_at e BottomRight 0;
+  sub = corner_at e TopLeft 1;
+  base_sup = corner_at e TopRight 0;
+  sup = corner_at e BottomLeft 2;
+}
+
 abbrev pub sub_outcome : Element → Outcome
 sub_outcome e =
-    let scripted = sub_of e.metrics (frame_at e 0) (has_large_base e) (frame_at e 1) (font e) in
+    let scripted = sub_of e.metrics (frame_at e 0) (has_large_base e) (frame_at e 1) (sub_corners e) (font e) in
     outcome e scripted.frame (offset 0 (pos 0) (pos 0) ∷ offset 1 scripted.sub.x scripted.sub.y ∷ []) []
 
 abbrev pub sup_outcome : Element → Outcome
 sup_outcome e =
-    let scripted = sup_of e.metrics (frame_at e 0) (has_large_base e) e.context.style.cramped (frame_at e 1) (font e) in
+    let scripted = sup_of e.metrics (frame_at e 0) (has_large_base e) e.context.style.cramped (frame_at e 1) (sup_corners e) (font e) in
     outcome e scripted.frame (offset 0 (pos 0) (pos 0) ∷ offset 1 scripted.sup.x scripted.sup.y ∷ []) []
 
 abbrev pub sub_sup_outcome : Element → Outcome
 sub_sup_outcome e =
-    let scripted = sub_sup_of e.metrics (frame_at e 0) (has_large_base e) e.context.style.cramped (frame_at e 1) (frame_at e 2) (font e) in
+    let scripted = sub_sup_of e.metrics (frame_at e 0) (has_large_base e) e.context.style.cramped (frame_at e 1) (frame_at e 2)
+    (sub_sup_corners e) (font e) in
     outcome e scripted.frame
     (offset 0 (pos 0) (pos 0) ∷ offset 1 scripted.sub.x scripted.sub.y ∷ offset 2 scripted.sup.x scripted.sup.y ∷ []) []
 

@@ -1,14 +1,14 @@
 -- In which contexts an element may be laid out, and over which answers.
-use Rattle.std.specs.Prelude.{◌≡◌, ◌≤◌, ⊤, List, [], ◌∷◌, length}
+use Rattle.std.specs.Prelude.{◌≡◌, ◌≤◌, ⊤, true, List, [], ◌∷◌, ◌++◌, length}
 use Rattle.std.specs.List.{All, AllPass}
 use Rattle.fixed_units.specs.Boxes.{farthest}
 use Rattle.fixed_units.specs.Numbers.{IsWithin}
 use Rattle.font_metrics.specs.Metrics.{MetricsValue}
 use Rattle.embellished.specs.Seen.{Seen}
-use Rattle.style_scope.specs.Sizes.{IsStyle}
+use Rattle.style_scope.specs.Sizes.{IsStyle, size_of}
 use Rattle.layout_model.specs.Answers.{answers_in, questions_in}
 use Rattle.layout_model.specs.Questions.{first, second}
-use Rattle.layout_model.specs.Range.{answer_fits}
+use Rattle.layout_model.specs.Range.{answer_fits, is_font_size}
 use Rattle.layout_model.specs.declared.context.Context.{Context}
 use Rattle.layout_model.specs.declared.context.Question.{Question}
 use Rattle.layout_model.specs.declared.context.Stretch.{Stretch}
@@ -34,21 +34,28 @@ pub record IsContext (context : Context) : Type 0 where
 abbrev pub HasStyle : Question → Type 0
 HasStyle question = IsStyle question.context.style
 
+-- a question in whose context the font size is in range
+abbrev pub HasFont : MetricsValue → Question → Type 0
+HasFont m question = is_font_size (size_of m question.context.style) ≡ true
+
 -- answers can be stored, and none is of a row of more cells than a tree has elements
 pub record AreAnswers (answers : List Answer) : Type 0 where
   pub fit : AllPass answer_fits answers
   pub few : All (λ answer. length answer.cells ≤ 65_536) answers
 
--- the answers to exactly what an element asks in both waves
+-- the answers to exactly what an element asks in both waves, each in a context whose font size is in range
 pub record AnswersAll (m : MetricsValue) (seen : Seen) (context : Context) (one two : List Answer) : Type 0 where
   pub ones : length one ≡ length (first m seen context)
   pub twos : length two ≡ length (second m seen context one)
   pub one_fits : AreAnswers one
   pub two_fits : AreAnswers two
+  pub fonts : All (HasFont m) (first m seen context ++ second m seen context one)
 
--- replies to exactly what an element asks in both waves, of which all answers can be stored
+-- replies to exactly what an element asks in both waves, of which all answers can be stored, each in a
+-- context whose font size is in range
 pub record RepliesAll (m : MetricsValue) (seen : Seen) (context : Context) (one two : List Reply) : Type 0 where
   pub one_asked : questions_in one ≡ first m seen context
   pub two_asked : questions_in two ≡ second m seen context (answers_in one)
   pub one_fits : AreAnswers (answers_in one)
   pub two_fits : AreAnswers (answers_in two)
+  pub fonts : All (HasFont m) (questions_in one ++ questions_in two)

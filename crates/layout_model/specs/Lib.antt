@@ -1,5 +1,6 @@
 pub mod Answers
 pub mod Contexts
+pub mod Cornerless
 pub mod Elements
 pub mod Fits
 pub mod Equations

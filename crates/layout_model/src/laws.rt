@@ -2,6 +2,7 @@
 //!
 //! A law is proved where it is a contract, so each function here has one and computes nothing.
 //! Proofs above cite `proofs/Trees` itself.
+ghost use Rattle.layout_model.specs.Cornerless.{CornerlessLaw};
 ghost use Rattle.layout_model.specs.Laid.{DrawnLaw, LaidKidsLaw, LevelsLaw, OffsetsLaw, StoredLaw};
 ghost use Rattle.layout_model.specs.Laws.{LaidLaw, LayoutLaw, VisitsLaw};
 ghost use Rattle.layout_model.specs.Made.{MadeLaw, ReadsLaw, TwoContextsLaw};
@@ -10,6 +11,12 @@ ghost use Rattle.layout_model.specs.Waves.{AlikeLaw, AskedLaw, EachWaveLaw, Hand
 /// An element is laid out by its equation, over the layouts of its children in flow.
 pub fn an_element_is_its_equation_over_its_children()
     ensures { LayoutLaw }
+{}
+
+/// Where no glyph has a kern, scripts are laid out without corners: every tree has the boxes that it had
+/// before files had kerns.
+pub fn without_kerns_no_tree_has_corners()
+    ensures { CornerlessLaw }
 {}
 
 /// The layouts that are made for an element are its own, and those made for what it asks.

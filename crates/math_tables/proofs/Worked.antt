@@ -13,6 +13,7 @@ use Rattle.math_tables.specs.Placing.{start_of, cell_x_of, row_of_cells_of, top_
 -- 1024 design units to the em, the x-height 512 and the axis at 256
 abbrev sample : MetricsValue
 sample = record {
+  version = 1;
   upem = 1024;
   line_ascent = 900;
   line_descent = 300;

@@ -12,28 +12,29 @@ use Rattle.multiscripts.specs.Along.{base_lean_of, lean_at, sub_start_of, sup_st
 use Rattle.multiscripts.specs.Laws.{behind, IsLaidOutAs}
 use Rattle.multiscripts.specs.Placing.{multi_of}
 use Rattle.scripts.specs.Beside.{spot, below, sub_x_of, sup_x_of, ending_at_of, sub_sup_of}
+use Rattle.scripts.specs.Kerns.{no_corners, sub_kern_of, sup_kern_of}
 use Rattle.scripts.specs.Shifts.{pair_shifts_of}
 
 module _ (space : ℤ) (base sub sup : MathBox) where
-  sub_begins : (large : Bool) → sub_x_at space (pos 0 +ℤ base.width) base large (behind sub sup ∷ []) 0 ≡ sub_x_of base large
+  sub_begins : (large : Bool) → sub_x_at space (pos 0 +ℤ base.width) base large (behind sub sup ∷ []) 0 ≡ sub_x_of base large +ℤ pos 0
   unfolding ahead_of behind_of lean_at base_lean_of sub_start_of room_x_of sub_x_of sum_to
   sub_begins true = omega (arith, signed)
   sub_begins false = omega (arith, signed)
 
-  sup_begins : (large : Bool) → sup_x_at space (pos 0 +ℤ base.width) base large (behind sub sup ∷ []) 0 ≡ sup_x_of base large
+  sup_begins : (large : Bool) → sup_x_at space (pos 0 +ℤ base.width) base large (behind sub sup ∷ []) 0 ≡ sup_x_of base large +ℤ pos 0
   unfolding ahead_of behind_of lean_at base_lean_of sup_start_of room_x_of sup_x_of sum_to
   sup_begins true = omega (arith, signed)
   sup_begins false = omega (arith, signed)
 
   ends : (large : Bool) → pos 0 +ℤ base.width +ℤ behind_of space base large (behind sub sup ∷ []) 1
-      ≡ int_max (sub_x_of base large +ℤ sub.width) (sup_x_of base large +ℤ sup.width) +ℤ space
+      ≡ int_max (sub_x_of base large +ℤ pos 0 +ℤ sub.width) (sup_x_of base large +ℤ pos 0 +ℤ sup.width) +ℤ space
   unfolding behind_of lean_at base_lean_of room_of sub_start_of sup_start_of sub_x_of sup_x_of sum_to
   ends true = omega (arith, signed)
   ends false = omega (arith, signed)
 
 pub one_pair : (m : MetricsValue) (base : MathBox) (large cramped : Bool) (sub sup : MathBox) (size : ℤ)
-    → IsLaidOutAs (sub_sup_of m base large cramped sub sup size) (multi_of m base large cramped (behind sub sup ∷ []) size)
-unfolding sub_sup_of ending_at_of ahead_of sum_to list_to
+    → IsLaidOutAs (sub_sup_of m base large cramped sub sup no_corners size) (multi_of m base large cramped (behind sub sup ∷ []) size)
+unfolding sub_sup_of sub_kern_of sup_kern_of ending_at_of ahead_of sum_to list_to
 one_pair m base large cramped sub sup size =
     let space = constant_of m SpaceAfterScript size in
     let shifts = pair_shifts_of m size cramped base sub sup in

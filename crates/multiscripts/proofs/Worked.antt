@@ -19,6 +19,7 @@ use Rattle.scripts.specs.Shifts.{sub_shift_of, sup_shift_of, lack_of, rise_of, m
 -- 1024 design units to the em; the constants of scripts
 abbrev sample : MetricsValue
 sample = record {
+  version = 1;
   upem = 1024;
   line_ascent = 900;
   line_descent = 300;

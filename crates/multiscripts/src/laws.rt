@@ -10,6 +10,7 @@ ghost use Rattle.multiscripts.specs.Laws.{AllKeepGap, PrescriptsEndTogether, Fir
 ghost use Rattle.multiscripts.specs.Placing.{multi_of};
 ghost use Rattle.multiscripts.specs.declared.parts.Pair.{Pair};
 ghost use Rattle.scripts.specs.Beside.{sub_sup_of};
+ghost use Rattle.scripts.specs.Kerns.{no_corners};
 ghost use Rattle.scripts.specs.Lengths.{pair_lengths_of};
 
 /// The ink of the scripts of each pair keeps the least gap, though all are moved as far as those of
@@ -44,6 +45,6 @@ pub fn the_base_leans_over_one_pair()
 /// One pair behind its base is laid out as a subscript and a superscript are.
 pub fn one_pair_is_two_scripts()
     ensures { (m : MetricsValue) (base : MathBox) (large cramped : Bool) (sub sup : MathBox) (size : ℤ) →
-        IsLaidOutAs (sub_sup_of m base large cramped sub sup size)
+        IsLaidOutAs (sub_sup_of m base large cramped sub sup no_corners size)
         (multi_of m base large cramped (behind sub sup ∷ []) size) }
 {}

@@ -19,7 +19,8 @@ use Rattle.layout_model.specs.Elements.{Element, row_kid, row_kids}
 use Rattle.layout_model.specs.Fits.{AreAnswers, IsContext}
 use Rattle.layout_model.specs.Layout.{last_answers}
 use Rattle.layout_model.specs.Questions.{first, second}
-use Rattle.layout_model.specs.Range.{answer_fits}
+use Rattle.layout_model.specs.Contexts.{kid_style}
+use Rattle.layout_model.specs.Range.{answer_fits, is_font_size}
 use Rattle.layout_model.specs.declared.context.Context.{Context}
 use Rattle.layout_model.specs.declared.context.Question.{Question}
 use Rattle.layout_model.specs.declared.outcome.Answer.{Answer}
@@ -68,9 +69,11 @@ all_last : (P : Answer → Type 0) → P no_answer → (n : ℕ) (asks : List Qu
 all_last P none n asks one two a b = All-list_to P n (last_answer asks (one ++ two)) (λ i l. last_answer-holds P none asks (one ++ two) i (All-append P one two a b))
 
 pub whole : (m : MetricsValue) (seen : Seen) (context : Context) (one two : List Answer) (size : ℤ) → IsContext context
-    → AreAnswers one → AreAnswers two → size ≡ size_of m context.style → IsSize size → length seen.kids ≤ 65535 → IsWhole (answered m seen context one two) size
+    → AreAnswers one → AreAnswers two → size ≡ size_of m context.style → IsSize size → length seen.kids ≤ 65535
+    → ((index : ℕ) → index < length seen.kids → is_font_size (size_of m (kid_style m seen context.style index)) ≡ true)
+    → IsWhole (answered m seen context one two) size
 unfolding last_answers
-whole m seen context one two size fits one_fits two_fits e s few =
+whole m seen context one two size fits one_fits two_fits e s few fonts =
     let n = length seen.kids in
     let asks = first m seen context ++ second m seen context one in
     let count = length-list_to n (last_answer asks (one ++ two)) in
@@ -79,6 +82,7 @@ whole m seen context one two size fits one_fits two_fits e s few =
       is_font = e;
       low = s.low;
       high = s.high;
+      fonts = fonts;
       each = count;
       few = omega (arith, count, few);
       stored = all_last (λ answer. answer_fits answer ≡ true) no_answer_fits n asks one two one_fits.fit two_fits.fit;

@@ -1,4 +1,5 @@
 mod CellBounds
+mod Cornered
 mod Exactly
 mod FontSizes
 mod Kids

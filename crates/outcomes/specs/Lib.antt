@@ -1,3 +1,4 @@
+pub mod Corners
 pub mod Elements
 pub mod Outcomes
 pub mod Rows

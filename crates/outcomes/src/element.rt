@@ -7,6 +7,7 @@ ghost use Rattle.embellished.specs.Seen.{seen_of};
 ghost use Rattle.row_stretch.specs.Equation.{IsKidStored};
 ghost use Rattle.style_scope.specs.Sizes.{size_of};
 ghost use Rattle.layout_model.specs.Answers.{answers_in, no_answer};
+ghost use Rattle.layout_model.specs.Contexts.{kid_style};
 ghost use Rattle.layout_model.specs.Elements.{font, frame_at, lead_place, outcome, outcome_with, row_kid, row_kids, spaces_of};
 ghost use Rattle.layout_model.specs.Fits.{IsContext, RepliesAll};
 ghost use Rattle.layout_model.specs.Questions.{columns_over};
@@ -14,6 +15,7 @@ ghost use Rattle.layout_model.specs.Range.{is_font_size};
 ghost use Rattle.outcomes.specs.Elements.{IsWhole, answered};
 
 use crate::answers::last_answers;
+use child_questions::style_of_kid;
 use embellished::{View, fences_of};
 use fixed_units::{LayRefusal, List, MathBox, Memory};
 use font_metrics::{Mark, Metrics};
@@ -132,6 +134,20 @@ impl<'a, V: View> Element<'a, V> {
         ensures high { result ≤ℤ pos (2 ^ 20) }
     {
         self.size
+    }
+
+    /// The font size of the child in flow at a place, in units.
+    pub fn size_of_kid(&self, index: usize) -> i64
+        requires { index < length self.now.seen.kids }
+        ensures value { result ≡ size_of self.now.metrics (kid_style self.now.metrics self.now.seen self.now.context.style index) }
+        ensures low { pos 0 ≤ℤ result }
+        ensures high { result ≤ℤ pos (2 ^ 20) }
+    {
+        let style = style_of_kid(self.view, self.context, self.metrics, index);
+        match font_size(&style, self.metrics) {
+            Some(size) => size,
+            None => unreachable!(),
+        }
     }
 
     /// How many children are in flow.

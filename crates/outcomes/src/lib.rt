@@ -15,6 +15,7 @@
 #![tactic(auto, using(fixed_units::proofs::Signed::from_bits))]
 
 mod answers; // the answer that counts of each child
+mod corners; // the corners of a base and its scripts
 mod element; // Element
 mod finishing; // finish, finish_replies
 mod fraction; // a fraction

@@ -1,8 +1,9 @@
 ghost use Rattle.std.specs.Prelude.{◌≡◌, IfOk, pos, [], ◌∷◌};
 ghost use Rattle.scripts.specs.Beside.{sub_of, sub_sup_of, sup_of};
 ghost use Rattle.layout_model.specs.Elements.{font, frame_at, offset, outcome};
-ghost use Rattle.layout_model.specs.Equations.{has_large_base, sub_outcome, sub_sup_outcome, sup_outcome};
+ghost use Rattle.layout_model.specs.Equations.{has_large_base, sub_corners, sub_outcome, sub_sup_corners, sub_sup_outcome, sup_corners, sup_outcome};
 
+use crate::corners::{sub_corners, sub_sup_corners, sup_corners};
 use crate::element::Element;
 use crate::listing::list_of;
 use child_questions::base_properties;
@@ -41,14 +42,18 @@ const BASE: Offset = Offset { kid: 0, x: 0, y: 0 };
 pub fn sub_outcome<V: View>(alloc: Global, e: &Element<V>) -> Result<Outcome, Memory>
     ensures { IfOk result (λ outcome. outcome ≡ sub_outcome e.now) }
 {
-    with_sub(alloc, e, &sub_in(e))
+    let scripted = sub_in(alloc, e)?;
+    with_sub(alloc, e, &scripted)
 }
 
-fn sub_in<V: View>(e: &Element<V>) -> Scripted
-    ensures { result ≡ sub_of e.now.metrics (frame_at e.now 0) (has_large_base e.now) (frame_at e.now 1) (font e.now) }
+fn sub_in<V: View>(alloc: Global, e: &Element<V>) -> Result<Scripted, Memory>
+    ensures { IfOk result (λ scripted. scripted ≡ sub_of e.now.metrics (frame_at e.now 0) (has_large_base e.now) (frame_at e.now 1)
+        (sub_corners e.now) (font e.now)) }
 {
+    let from = sub_corners(alloc, e)?;
     let large = has_large_base(e);
-    sub(&e.frame(0), large, &e.frame(1), e.size(), e.metrics())
+    let (base, script) = (e.frame(0), e.frame(1));
+    Ok(sub(&base, large, &script, &from, e.size(), e.metrics()))
 }
 
 fn with_sub<V: View>(alloc: Global, e: &Element<V>, scripted: &Scripted) -> Result<Outcome, Memory>
@@ -63,16 +68,20 @@ fn with_sub<V: View>(alloc: Global, e: &Element<V>, scripted: &Scripted) -> Resu
 pub fn sup_outcome<V: View>(alloc: Global, e: &Element<V>) -> Result<Outcome, Memory>
     ensures { IfOk result (λ outcome. outcome ≡ sup_outcome e.now) }
 {
-    with_sup(alloc, e, &sup_in(e))
+    let scripted = sup_in(alloc, e)?;
+    with_sup(alloc, e, &scripted)
 }
 
-fn sup_in<V: View>(e: &Element<V>) -> Scripted
-    ensures { result ≡ sup_of e.now.metrics (frame_at e.now 0) (has_large_base e.now) e.now.context.style.cramped (frame_at e.now 1) (font e.now) }
+fn sup_in<V: View>(alloc: Global, e: &Element<V>) -> Result<Scripted, Memory>
+    ensures { IfOk result (λ scripted. scripted ≡ sup_of e.now.metrics (frame_at e.now 0) (has_large_base e.now) e.now.context.style.cramped
+        (frame_at e.now 1) (sup_corners e.now) (font e.now)) }
 {
+    let from = sup_corners(alloc, e)?;
     let large = has_large_base(e);
     let cramped = e.context().style.cramped;
     let (base, script) = (e.frame(0), e.frame(1));
-    sup(&base, large, cramped, &script, e.size(), e.metrics())
+    let size = e.size();
+    Ok(sup(&base, large, cramped, &script, &from, size, e.metrics()))
 }
 
 fn with_sup<V: View>(alloc: Global, e: &Element<V>, scripted: &Scripted) -> Result<Outcome, Memory>
@@ -87,17 +96,29 @@ fn with_sup<V: View>(alloc: Global, e: &Element<V>, scripted: &Scripted) -> Resu
 pub fn sub_sup_outcome<V: View>(alloc: Global, e: &Element<V>) -> Result<Outcome, Memory>
     ensures { IfOk result (λ outcome. outcome ≡ sub_sup_outcome e.now) }
 {
-    with_both(alloc, e, &sub_sup_in(e))
+    let scripted = sub_sup_in(alloc, e)?;
+    with_both(alloc, e, &scripted)
 }
 
-fn sub_sup_in<V: View>(e: &Element<V>) -> Scripted
-    ensures { result ≡ sub_sup_of e.now.metrics (frame_at e.now 0) (has_large_base e.now) e.now.context.style.cramped
-        (frame_at e.now 1) (frame_at e.now 2) (font e.now) }
+fn sub_sup_in<V: View>(alloc: Global, e: &Element<V>) -> Result<Scripted, Memory>
+    ensures { IfOk result (λ scripted. scripted ≡ sub_sup_of e.now.metrics (frame_at e.now 0) (has_large_base e.now) e.now.context.style.cramped
+        (frame_at e.now 1) (frame_at e.now 2) (sub_sup_corners e.now) (font e.now)) }
 {
+    let from = sub_sup_corners(alloc, e)?;
     let large = has_large_base(e);
     let cramped = e.context().style.cramped;
     let (base, below, above) = (e.frame(0), e.frame(1), e.frame(2));
-    sub_sup(&base, large, cramped, &below, &above, e.size(), e.metrics())
+    let size = e.size();
+    Ok(sub_sup(
+        &base,
+        large,
+        cramped,
+        &below,
+        &above,
+        &from,
+        size,
+        e.metrics(),
+    ))
 }
 
 fn with_both<V: View>(alloc: Global, e: &Element<V>, scripted: &Scripted) -> Result<Outcome, Memory>

@@ -18,6 +18,7 @@ use Rattle.radicals.specs.Placing.{spot, covered_of, root_of, square_root_of, wi
 -- 1024 design units to the em
 abbrev sample : MetricsValue
 sample = record {
+  version = 1;
   upem = 1024;
   line_ascent = 900;
   line_descent = 300;

@@ -6,6 +6,7 @@ use Rattle.font_metrics.specs.Metrics.{MetricsValue}
 use Rattle.scripts.specs.declared.lengths.PairLengths.{PairLengths}
 use Rattle.scripts.specs.declared.parts.Shifts.{Shifts}
 use Rattle.scripts.specs.Beside.{sub_sup_of}
+use Rattle.scripts.specs.declared.parts.KernFrom.{KernFrom}
 use Rattle.scripts.specs.Laws.{ink_gap}
 use Rattle.scripts.specs.Lengths.{pair_lengths_of}
 use Rattle.scripts.specs.Shifts.{ink_bottom, ink_top, lack_of, moved_apart_of, pair_shifts_of}
@@ -26,9 +27,9 @@ pub pair_keeps_gap : (m : MetricsValue) (size : ℤ) (cramped : Bool) (base sub 
 unfolding pair_shifts_of
 pair_keeps_gap m size cramped base sub sup = moved_apart_keeps_gap (pair_lengths_of m size) _ sub sup
 
-pub scripts_keep_gap : (m : MetricsValue) (base : MathBox) (large cramped : Bool) (sub sup : MathBox) (size : ℤ)
-    → (pair_lengths_of m size).gap ≤ℤ ink_gap sub sup (sub_sup_of m base large cramped sub sup size)
+pub scripts_keep_gap : (m : MetricsValue) (base : MathBox) (large cramped : Bool) (sub sup : MathBox) (from : KernFrom) (size : ℤ)
+    → (pair_lengths_of m size).gap ≤ℤ ink_gap sub sup (sub_sup_of m base large cramped sub sup from size)
 unfolding sub_sup_of
-scripts_keep_gap m base large cramped sub sup size =
+scripts_keep_gap m base large cramped sub sup from size =
     let gap = pair_keeps_gap m size cramped base sub sup in
     omega (arith, signed)

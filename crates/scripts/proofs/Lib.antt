@@ -4,3 +4,4 @@ pub mod LimitBounds
 pub mod LimitLaws
 pub mod ScriptLaws
 pub mod Worked
+pub mod KernLaws

@@ -4,6 +4,7 @@ use Rattle.fixed_units.specs.declared.boxes.MathBox.{MathBox}
 use Rattle.fixed_units.proofs.Signed.{signed}
 use Rattle.font_metrics.specs.Metrics.{MetricsValue}
 use Rattle.scripts.specs.Beside.{spot, sub_of, sup_of, sub_sup_of}
+use Rattle.scripts.specs.declared.parts.KernFrom.{KernFrom}
 use Rattle.scripts.specs.Laws.{IsLowEnough, IsHighEnough}
 use Rattle.scripts.specs.Lengths.{sub_lengths_of, sup_lengths_of, pair_lengths_of}
 use Rattle.scripts.specs.Shifts.{sub_shift_of, sup_shift_of, lack_of, rise_of, moved_apart_of, pair_shifts_of}
@@ -42,22 +43,22 @@ unfolding moved_apart_of rise_of
 moved_up font shifts sub sup = omega (arith, signed)
 
 -- ---- the laws
-pub sub_low : (m : MetricsValue) (base : MathBox) (large : Bool) (script : MathBox) (size : ℤ)
-    → IsLowEnough (sub_lengths_of m size) base script (sub_of m base large script size).sub
+pub sub_low : (m : MetricsValue) (base : MathBox) (large : Bool) (script : MathBox) (from : KernFrom) (size : ℤ)
+    → IsLowEnough (sub_lengths_of m size) base script (sub_of m base large script from size).sub
 unfolding sub_of
-sub_low m base large script size = low_enough _ base script _ _ (itself _)
+sub_low m base large script from size = low_enough _ base script _ _ (itself _)
 
-pub sub_sup_low : (m : MetricsValue) (base : MathBox) (large cramped : Bool) (sub sup : MathBox) (size : ℤ)
-    → IsLowEnough (sub_lengths_of m size) base sub (sub_sup_of m base large cramped sub sup size).sub
+pub sub_sup_low : (m : MetricsValue) (base : MathBox) (large cramped : Bool) (sub sup : MathBox) (from : KernFrom) (size : ℤ)
+    → IsLowEnough (sub_lengths_of m size) base sub (sub_sup_of m base large cramped sub sup from size).sub
 unfolding sub_sup_of pair_shifts_of
-sub_sup_low m base large cramped sub sup size = low_enough _ base sub _ _ (moved_down (pair_lengths_of m size) _ sub sup)
+sub_sup_low m base large cramped sub sup from size = low_enough _ base sub _ _ (moved_down (pair_lengths_of m size) _ sub sup)
 
-pub sup_high : (m : MetricsValue) (base : MathBox) (large cramped : Bool) (script : MathBox) (size : ℤ)
-    → IsHighEnough (sup_lengths_of m size cramped) base script (sup_of m base large cramped script size).sup
+pub sup_high : (m : MetricsValue) (base : MathBox) (large cramped : Bool) (script : MathBox) (from : KernFrom) (size : ℤ)
+    → IsHighEnough (sup_lengths_of m size cramped) base script (sup_of m base large cramped script from size).sup
 unfolding sup_of
-sup_high m base large cramped script size = high_enough _ base script _ _ (itself _)
+sup_high m base large cramped script from size = high_enough _ base script _ _ (itself _)
 
-pub sub_sup_high : (m : MetricsValue) (base : MathBox) (large cramped : Bool) (sub sup : MathBox) (size : ℤ)
-    → IsHighEnough (sup_lengths_of m size cramped) base sup (sub_sup_of m base large cramped sub sup size).sup
+pub sub_sup_high : (m : MetricsValue) (base : MathBox) (large cramped : Bool) (sub sup : MathBox) (from : KernFrom) (size : ℤ)
+    → IsHighEnough (sup_lengths_of m size cramped) base sup (sub_sup_of m base large cramped sub sup from size).sup
 unfolding sub_sup_of pair_shifts_of
-sub_sup_high m base large cramped sub sup size = high_enough _ base sup _ _ (moved_up (pair_lengths_of m size) _ sub sup)
+sub_sup_high m base large cramped sub sup from size = high_enough _ base sup _ _ (moved_up (pair_lengths_of m size) _ sub sup)

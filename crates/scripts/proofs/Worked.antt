@@ -5,8 +5,9 @@ use Rattle.fixed_units.specs.Boxes.{raised, joined}
 use Rattle.fixed_units.specs.Numbers.{rounded, halved}
 use Rattle.fixed_units.specs.declared.boxes.MathBox.{MathBox}
 use Rattle.fixed_units.specs.declared.pull.Pull.TheVariants.{Free, Block, Inline}
-use Rattle.font_metrics.specs.Metrics.{MetricsValue, scale_of, constant_of}
-use Rattle.font_metrics.specs.Tables.{no_tables}
+use Rattle.font_metrics.specs.Metrics.{MetricsValue, scale_of, constant_of, kern_of, kern_value, kerns_of}
+use Rattle.font_metrics.specs.Tables.{no_kerns, no_tables}
+use Rattle.font_metrics.specs.declared.corner.Corner.TheVariants.{TopRight, BottomLeft}
 use Rattle.op_dictionary.specs.declared.operator.Axis.TheVariants.{Inline as Sideways}
 use Rattle.row_stretch.specs.declared.parts.KidPull.{KidPull}
 use Rattle.row_stretch.specs.Questions.{planned, asks_from}
@@ -14,6 +15,8 @@ use Rattle.scripts.specs.Beside.{spot, sub_x_of, sup_x_of, ending_at_of, sub_of,
 use Rattle.scripts.specs.declared.parts.LimitCase.TheVariants.{Large, Stretchy, Plain}
 use Rattle.scripts.specs.LimitGaps.{above_of, below_of, distance_of, extra_of}
 use Rattle.scripts.specs.Limits.{lean_of, middle_of, leaning_of, under_x_of, over_x_of, under_limit_of, over_limit_of, whole_of, attached_of, spot_in_of, limits_of, under_over_of}
+use Rattle.scripts.specs.Kerns.{no_corners, sub_kern_of, sup_kern_of}
+use Rattle.scripts.specs.declared.parts.KernFrom.{KernFrom}
 use Rattle.scripts.specs.Lengths.{sub_lengths_of, sup_lengths_of, pair_lengths_of}
 use Rattle.scripts.specs.Questions.{first_limit_asks_of, second_limit_asks_of}
 use Rattle.scripts.specs.Shifts.{sub_shift_of, sup_shift_of, lack_of, rise_of, moved_apart_of, pair_shifts_of}
@@ -21,6 +24,7 @@ use Rattle.scripts.specs.Shifts.{sub_shift_of, sup_shift_of, lack_of, rise_of, m
 -- 1024 design units to the em; the constants of scripts
 abbrev sample : MetricsValue
 sample = record {
+  version = 1;
   upem = 1024;
   line_ascent = 900;
   line_descent = 300;
@@ -69,16 +73,16 @@ abbrev integral : MathBox
 integral = record (box (pos 14400) (pos 22400) (pos 14208) (pos 22400) (pos 14208)) { italic = pos 4800 }
 
 -- the largest of 2560, 3360 and 5696
-sub-under_sum : (sub_of sample sum true one (pos 16384)).sub ≡ spot (pos 16000) (pos 5696)
-unfolding sub_of sub_shift_of sub_lengths_of sub_x_of constant_of scale_of rounded
+sub-under_sum : (sub_of sample sum true one no_corners (pos 16384)).sub ≡ spot (pos 16000) (pos 5696)
+unfolding sub_of sub_kern_of sub_shift_of sub_lengths_of sub_x_of constant_of scale_of rounded
 sub-under_sum = refl
 
-width-under_sum : (sub_of sample sum true one (pos 16384)).frame.width ≡ pos 22944
-unfolding sub_of sub_x_of ending_at_of constant_of scale_of rounded
+width-under_sum : (sub_of sample sum true one no_corners (pos 16384)).frame.width ≡ pos 22944
+unfolding sub_of sub_kern_of sub_shift_of sub_lengths_of sub_x_of ending_at_of constant_of scale_of rounded
 width-under_sum = refl
 
 -- the subscript stands under the lean of a large operator
-sub_sup-integral : sub_sup_of sample integral true false one one (pos 16384) ≡ record {
+sub_sup-integral : sub_sup_of sample integral true false one one no_corners (pos 16384) ≡ record {
   frame = record {
     width = pos 21344;
     ascent = pos 27120;
@@ -91,7 +95,7 @@ sub_sup-integral : sub_sup_of sample integral true false one one (pos 16384) ≡
   sub = spot (pos 9600) (pos 15808);
   sup = spot (pos 14400) (neg_ℤ (pos 16320));
 }
-unfolding sub_sup_of pair_shifts_of moved_apart_of lack_of rise_of sub_shift_of sup_shift_of sub_lengths_of sup_lengths_of pair_lengths_of sub_x_of sup_x_of ending_at_of raised joined constant_of scale_of rounded halved
+unfolding sub_sup_of sub_kern_of sup_kern_of pair_shifts_of moved_apart_of lack_of rise_of sub_shift_of sup_shift_of sub_lengths_of sup_lengths_of pair_lengths_of sub_x_of sup_x_of ending_at_of raised joined constant_of scale_of rounded halved
 sub_sup-integral = refl
 
 -- a lack of 2240: the superscript rises by 640 to 6400, the subscript falls by 1600 to 7040
@@ -100,9 +104,33 @@ unfolding pair_shifts_of moved_apart_of lack_of rise_of sub_shift_of sup_shift_o
 shifts-both_move = refl
 
 -- behind a letter a superscript begins behind its lean
-sup-leaning : (sup_of sample (record letter { italic = pos 500 }) false true one (pos 16384)).sup ≡ spot (pos 9780) (neg_ℤ (pos 4800))
-unfolding sup_of sup_shift_of sup_lengths_of sup_x_of constant_of scale_of rounded
+sup-leaning : (sup_of sample (record letter { italic = pos 500 }) false true one no_corners (pos 16384)).sup ≡ spot (pos 9780) (neg_ℤ (pos 4800))
+unfolding sup_of sup_kern_of sup_shift_of sup_lengths_of sup_x_of constant_of scale_of rounded
 sup-leaning = refl
+
+-- ---- kerns: x has -40 at its top right, and -20 from 400 on; the digit 1 has 0 at its bottom left, and 10
+-- from 100 on. The superscript's bottom lies at 5760, and the top of the base at 7168
+abbrev kerned : MetricsValue
+kerned = record sample {
+  version = 2;
+  tables = record no_tables {
+    kerns = record no_kerns {
+      top_right = (0, record { lowest = neg_ℤ (pos 40); steps = record { height = pos 400; value = neg_ℤ (pos 20) } ∷ [] } ∷ []) ∷ [];
+      bottom_left = (1, record { lowest = pos 0; steps = record { height = pos 100; value = pos 10 } ∷ [] } ∷ []) ∷ [];
+    };
+  };
+}
+
+abbrev both_corners : KernFrom
+both_corners = record no_corners {
+  base_sup = Some (record { glyph = record { 0 = 0 }; corner = TopRight; size = pos 16384 });
+  sup = Some (record { glyph = record { 0 = 1 }; corner = BottomLeft; size = pos 12288 });
+}
+
+-- -640 and 0 at the bottom, -320 and 120 at the top: the larger sum counts
+sup-kerned : (sup_of kerned letter false false one both_corners (pos 16384)).sup ≡ spot (pos 9080) (neg_ℤ (pos 5760))
+unfolding sup_of sup_kern_of kern_of kerns_of kern_value sup_shift_of sup_lengths_of sup_x_of constant_of scale_of rounded
+sup-kerned = refl
 
 -- ---- questions: an accent that stretches over a letter asks the letter first
 abbrev plain : KidPull

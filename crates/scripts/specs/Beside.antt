@@ -7,8 +7,10 @@ use Rattle.fixed_units.specs.Numbers.{halved}
 use Rattle.fixed_units.specs.declared.boxes.MathBox.{MathBox}
 use Rattle.font_metrics.specs.Metrics.{MetricsValue, constant_of}
 use Rattle.font_metrics.specs.declared.constants.ConstName.TheVariants.{SpaceAfterScript}
+use Rattle.scripts.specs.declared.parts.KernFrom.{KernFrom}
 use Rattle.scripts.specs.declared.parts.Scripted.{Scripted}
 use Rattle.scripts.specs.declared.parts.Spot.{Spot}
+use Rattle.scripts.specs.Kerns.{sub_kern_of, sup_kern_of}
 use Rattle.scripts.specs.Lengths.{sub_lengths_of, sup_lengths_of}
 use Rattle.scripts.specs.Shifts.{sub_shift_of, sup_shift_of, pair_shifts_of}
 
@@ -36,31 +38,31 @@ spot x y = record { x = x; y = y }
 abbrev pub below : MathBox → ℤ → MathBox
 below part depth = raised part (pos 0 -ℤ depth)
 
-unfoldable pub sub_of : MetricsValue → MathBox → Bool → MathBox → ℤ → Scripted
-sub_of m base large script size =
+unfoldable pub sub_of : MetricsValue → MathBox → Bool → MathBox → KernFrom → ℤ → Scripted
+sub_of m base large script from size =
     let down = sub_shift_of (sub_lengths_of m size) base script in
-    let x = sub_x_of base large in
+    let x = sub_x_of base large +ℤ sub_kern_of m from base script down in
     record {
       frame = ending_at_of m (joined base (below script down)) (x +ℤ script.width) size;
       sub = spot x down;
       sup = spot (pos 0) (pos 0);
     }
 
-unfoldable pub sup_of : MetricsValue → MathBox → Bool → Bool → MathBox → ℤ → Scripted
-sup_of m base large cramped script size =
+unfoldable pub sup_of : MetricsValue → MathBox → Bool → Bool → MathBox → KernFrom → ℤ → Scripted
+sup_of m base large cramped script from size =
     let up = sup_shift_of (sup_lengths_of m size cramped) base script in
-    let x = sup_x_of base large in
+    let x = sup_x_of base large +ℤ sup_kern_of m from base script up in
     record {
       frame = ending_at_of m (joined base (raised script up)) (x +ℤ script.width) size;
       sub = spot (pos 0) (pos 0);
       sup = spot x (pos 0 -ℤ up);
     }
 
-unfoldable pub sub_sup_of : MetricsValue → MathBox → Bool → Bool → MathBox → MathBox → ℤ → Scripted
-sub_sup_of m base large cramped sub sup size =
+unfoldable pub sub_sup_of : MetricsValue → MathBox → Bool → Bool → MathBox → MathBox → KernFrom → ℤ → Scripted
+sub_sup_of m base large cramped sub sup from size =
     let shifts = pair_shifts_of m size cramped base sub sup in
-    let sub_x = sub_x_of base large in
-    let sup_x = sup_x_of base large in
+    let sub_x = sub_x_of base large +ℤ sub_kern_of m from base sub shifts.down in
+    let sup_x = sup_x_of base large +ℤ sup_kern_of m from base sup shifts.up in
     record {
       frame = ending_at_of m (joined (joined base (below sub shifts.down)) (raised sup shifts.up))
           (int_max (sub_x +ℤ sub.width) (sup_x +ℤ sup.width)) size;

@@ -1,4 +1,5 @@
 pub mod Beside
+pub mod Kerns
 pub mod Laws
 pub mod Lengths
 pub mod LimitGaps

@@ -12,12 +12,14 @@
 //!   and stand inside their box (`laws`). `sub`, `sup`, `sub_sup` and `under_over` take no memory.
 //! - Knows nothing of: trees, styles, other elements. It sees boxes and numbers. How far scripts and
 //!   limits move up and down is found apart from where they stand along the line.
+//! - Change how kerns at corners count: `specs/Kerns.antt`, then `src/kerns.rt`.
 //! - Change a shift: `specs/Shifts.antt`, then `src/shifts.rt`, then `rt check`; of a limit:
 //!   `specs/LimitGaps.antt`, then `src/spacing.rt`.
 #![tactic(auto, using(fixed_units::proofs::Signed::from_bits))]
 
 mod asking; // the waves of limits
 mod beside; // sub, sup, sub_sup
+mod kerns; // how far scripts are moved at corners
 pub mod laws; // what keeps apart
 mod lengths; // the constants at one size
 mod limits; // under_over
@@ -28,5 +30,5 @@ mod spacing; // how far limits move up and down
 pub use asking::{limit_wave_one, limit_wave_two};
 pub use beside::{sub, sub_sup, sup};
 pub use limits::under_over;
-pub use parts::{LimitCase, Limits, Scripted, Shifts, Spot};
+pub use parts::{Inked, KernFrom, LimitCase, Limits, NO_CORNERS, Scripted, Shifts, Spot};
 pub use shifts::pair_shifts;

@@ -54,6 +54,7 @@ part extender glyph start end full = record { glyph = record { 0 = glyph }; exte
 
 abbrev sample : MetricsValue
 sample = record {
+  version = 1;
   upem = 1024;
   line_ascent = 900;
   line_descent = 300;

@@ -1,12 +1,12 @@
 -- The characters that a token shows, of which the only letter of an `mi` is italic.
 use Rattle.std.specs.Prelude.{ℕ, ◌+◌, ◌-◌, Bool, true, false, not, ◌&&◌, nat_le, if◌then◌else◌, List, [], ◌∷◌, chars, codes, Option, Some, None}
-use Rattle.std.specs.Option.{option_map_or}
+use Rattle.std.specs.Option.{option_map, option_map_or}
 use Rattle.embellished.specs.Texts.{shown}
 use Rattle.fixed_units.specs.Words.{is_word}
 use Rattle.math_tree.specs.Attributes.{value_of}
 use Rattle.math_tree.specs.declared.attributes.Attribute.{Attribute}
 use Rattle.math_tree.specs.declared.kind.Kind.{Kind}
-use Rattle.math_tree.specs.declared.kind.Kind.TheVariants.{Mi}
+use Rattle.math_tree.specs.declared.kind.Kind.TheVariants.{Mi, Mn, Ms, Mtext}
 use Rattle.math_tree.specs.declared.node.Head.{Head}
 
 -- ---- italic letters
@@ -73,3 +73,15 @@ lone (first ∷ second ∷ letters) = None
 -- the characters of the text that an element shows, as they are written
 abbrev pub letters_of : Head → List ℕ
 letters_of head = chars (shown head.text)
+
+-- what is laid out as a token
+abbrev pub is_token : Kind → Bool
+is_token Mi = true
+is_token Mn = true
+is_token Ms = true
+is_token Mtext = true
+is_token other = false
+
+-- the one character that a token shows, where it shows just one
+abbrev pub shown_letter : Head → Option ℕ
+shown_letter head = if is_token head.kind then option_map (slanted head) (lone (letters_of head)) else None

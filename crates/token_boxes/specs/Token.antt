@@ -2,7 +2,7 @@
 use Rattle.std.specs.Prelude.{◌≡◌, ◌⊎◌, ℕ, ◌^◌, ℤ, pos, ◌+ℤ◌, ◌<ℤ◌, ◌≤ℤ◌, List, [], ◌∷◌, length, map, take, fold, slice_index_or, Option, Some, None}
 use Rattle.std.specs.Int.{int_min}
 use Rattle.std.specs.List.{reduce}
-use Rattle.std.specs.Option.{option_map_or}
+use Rattle.std.specs.Option.{option_map, option_map_or}
 use Rattle.fixed_units.specs.Boxes.{empty_box, joined}
 use Rattle.fixed_units.specs.Numbers.{halved}
 use Rattle.fixed_units.specs.Sums.{list_to}
@@ -15,7 +15,7 @@ use Rattle.glyph_assembly.specs.Glyphs.{frame_at}
 use Rattle.math_tree.specs.declared.node.Head.{Head}
 use Rattle.token_boxes.specs.declared.leaf.Drawn.{Drawn}
 use Rattle.token_boxes.specs.declared.leaf.Leaf.{Leaf}
-use Rattle.token_boxes.specs.Letters.{letters_of, lone, slanted}
+use Rattle.token_boxes.specs.Letters.{letters_of, lone, shown_letter, slanted}
 
 -- a leaf without spaces
 abbrev pub leaf : MathBox → List Mark → Leaf
@@ -87,6 +87,10 @@ unfoldable pub token_of : MetricsValue → Head → ℤ → Leaf
 token_of m head size =
     option_map_or (λ letter. leaf_of (lone_letter m size (slanted head letter))) (lone (letters_of head))
     (word_leaf m size (letters_of head))
+
+-- the glyph of a token that shows one character
+unfoldable pub token_glyph_of : MetricsValue → Head → Option GlyphId
+token_glyph_of m head = option_map (glyph_of m) (shown_letter head)
 
 -- ---- texts that are too long
 

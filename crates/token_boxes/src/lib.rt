@@ -2,6 +2,7 @@
 //!
 //! `token` sets the text of an `mi`, `mn`, `mtext` or `ms`; `operator` sets an `mo`, stretched to
 //! what its row asks for or large in display style, with its spaces; `space` is an `mspace`.
+//! `token_glyph` gives the glyph of a token of one character, for who sets scripts by its corners.
 //! Lengths are in units (1/1024 px).
 //!
 //! - Models: MathML Core 3.2, "Token Elements"; own choices stand at their definitions.
@@ -21,9 +22,9 @@ mod operators; // operator
 mod sizes; // minsize, maxsize, the spaces of operators
 mod spaces; // space
 mod stretched; // an operator of one character
-mod tokens; // token
+mod tokens; // token, token_glyph
 
 pub use leaf::Leaf;
 pub use operators::operator;
 pub use spaces::space;
-pub use tokens::token;
+pub use tokens::{token, token_glyph};

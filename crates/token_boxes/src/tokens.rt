@@ -1,17 +1,17 @@
-ghost use Rattle.std.specs.Prelude.{◌≡◌, ◌+◌, ◌*◌, ◌^◌, ◌≤ℤ◌, pos, chars, string_bytes, IfOk, IfSome, [], ◌∷◌};
+ghost use Rattle.std.specs.Prelude.{◌≡◌, ◌<◌, ◌+◌, ◌*◌, ◌^◌, ◌≤ℤ◌, pos, length, chars, string_bytes, IfOk, IfSome, [], ◌∷◌};
 ghost use Rattle.std.specs.List.{reduce};
 ghost use Rattle.fixed_units.specs.Boxes.{IsBoxWithin};
 ghost use Rattle.fixed_units.specs.Numbers.{IsWithin};
-ghost use Rattle.token_boxes.specs.Letters.{lone};
-ghost use Rattle.token_boxes.specs.Token.{IsLeaf, token_of, lone_letter, word_leaf, word_frame_of, on_line, further, also_inked};
+ghost use Rattle.token_boxes.specs.Letters.{is_token, lone, shown_letter};
+ghost use Rattle.token_boxes.specs.Token.{IsLeaf, token_of, token_glyph_of, lone_letter, word_leaf, word_frame_of, on_line, further, also_inked};
 
 use crate::italics::slanted;
 use crate::leaf::{Drawn, Leaf};
 use embellished::shown_text;
 use fixed_units::{List, MathBox, Memory, half, join};
-use font_metrics::{Mark, Metrics};
+use font_metrics::{GlyphId, Mark, Metrics};
 use glyph_assembly::glyph_frame;
-use math_tree::Head;
+use math_tree::{Head, Kind};
 use std::alloc::Global;
 
 /// A token at a font size: the glyphs of its text side by side (MathML Core 3.2.1.1, "Layout of
@@ -30,6 +30,39 @@ pub fn token(alloc: Global, head: &Head, size: i64, metrics: &Metrics) -> Result
         }
         None => word_leaf(alloc, text.as_str(), size, metrics),
     }
+}
+
+/// The glyph of an `mi`, `mn`, `ms` or `mtext` that shows one character; of any other element there is
+/// none. What it takes of memory it gives back.
+#[tactic(auto, using(fixed_units::proofs::Signed::from_bits), unfolding(crate::specs::Token::token_glyph_of))]
+pub fn token_glyph(alloc: Global, head: &Head, metrics: &Metrics) -> Result<Option<GlyphId>, Memory>
+    ensures value { IfOk result (λ glyph. glyph ≡ token_glyph_of metrics.now head.now) }
+    ensures within { IfOk result (λ glyph. IfSome glyph (λ g. g.0 < length metrics.now.glyphs)) }
+{
+    match shown_letter(alloc, head)? {
+        Some(letter) => Ok(Some(metrics.glyph_of(letter))),
+        None => Ok(None),
+    }
+}
+
+/// The one character that a token shows, where it shows just one.
+fn shown_letter(alloc: Global, head: &Head) -> Result<Option<char>, Memory>
+    ensures { IfOk result (λ letter. letter ≡ shown_letter head.now) }
+{
+    if !is_token(head.kind) {
+        return Ok(None);
+    }
+    let text = shown_text(alloc, head.text.as_str())?;
+    match lone(text.as_str()) {
+        Some(letter) => Ok(Some(slanted(head, letter))),
+        None => Ok(None),
+    }
+}
+
+fn is_token(kind: Kind) -> bool
+    ensures { result ≡ is_token kind }
+{
+    matches!(kind, Kind::Mi | Kind::Mn | Kind::Ms | Kind::Mtext)
 }
 
 /// The only character of a text, where it has just one.

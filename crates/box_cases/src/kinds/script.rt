@@ -3,7 +3,7 @@
 use crate::values::{ByMetrics, add_place, size_in};
 use case_format::{Fault, Fields, add_box};
 use font_metrics::Metrics;
-use scripts::{Scripted, sub, sub_sup, sup};
+use scripts::{NO_CORNERS, Scripted, sub, sub_sup, sup};
 use std::alloc::{AllocError, Global};
 
 const SUB: [&str; 5] = ["metrics", "base", "large", "script", "size"];
@@ -29,7 +29,7 @@ impl ByMetrics for OfSub {
         let large = fields.flag("large")?;
         let script = fields.stored_box("script")?;
         let size = size_in(fields)?;
-        let laid = sub(&base, large, &script, size, metrics);
+        let laid = sub(&base, large, &script, &NO_CORNERS, size, metrics);
         add_scripted(&laid, words)?;
         Ok(())
     }
@@ -53,7 +53,7 @@ impl ByMetrics for OfSup {
         let cramped = fields.flag("cramped")?;
         let script = fields.stored_box("script")?;
         let size = size_in(fields)?;
-        let laid = sup(&base, large, cramped, &script, size, metrics);
+        let laid = sup(&base, large, cramped, &script, &NO_CORNERS, size, metrics);
         add_scripted(&laid, words)?;
         Ok(())
     }
@@ -78,7 +78,8 @@ impl ByMetrics for OfSubSup {
         let below = fields.stored_box("sub")?;
         let above = fields.stored_box("sup")?;
         let size = size_in(fields)?;
-        let laid = sub_sup(&base, large, cramped, &below, &above, size, metrics);
+        let from = NO_CORNERS;
+        let laid = sub_sup(&base, large, cramped, &below, &above, &from, size, metrics);
         add_scripted(&laid, words)?;
         Ok(())
     }

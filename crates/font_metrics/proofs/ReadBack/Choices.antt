@@ -8,9 +8,11 @@ use Rattle.op_dictionary.specs.declared.operator.Category.{Category}
 use Rattle.op_dictionary.specs.declared.operator.Category.TheVariants.{Default, A, B, C, D, E, F, G, H, I, J, K, L, M}
 use Rattle.op_dictionary.specs.declared.operator.Form.{Form}
 use Rattle.op_dictionary.specs.declared.operator.Form.TheVariants.{Prefix, Infix, Postfix}
+use Rattle.font_metrics.specs.declared.corner.Corner.{Corner}
+use Rattle.font_metrics.specs.declared.corner.Corner.TheVariants.{TopRight, TopLeft, BottomRight, BottomLeft}
 use Rattle.font_metrics.specs.Constants.{place_of_text}
-use Rattle.font_metrics.specs.Words.{extender_in, form_in, category_in, axis_in}
-use Rattle.font_metrics.specs.Print.{constant_text, extender_text, form_text, category_text, axis_text}
+use Rattle.font_metrics.specs.Words.{extender_in, corner_in, form_in, category_in, axis_in}
+use Rattle.font_metrics.specs.Print.{constant_text, extender_text, corner_text, form_text, category_text, axis_text}
 use Rattle.font_metrics.proofs.ReadBack.Joined.{is_word}
 
 -- ---- a test of each place of a table
@@ -65,6 +67,13 @@ pub extender_in-text : (extender : Bool) → extender_in (extender_text extender
 unfolding extender_in
 extender_in-text false = refl
 extender_in-text true = refl
+
+pub corner_in-text : (corner : Corner) → corner_in (corner_text corner) ≡ Ok corner
+unfolding corner_in
+corner_in-text TopRight = refl
+corner_in-text TopLeft = refl
+corner_in-text BottomRight = refl
+corner_in-text BottomLeft = refl
 
 pub form_in-text : (form : Form) → form_in (form_text form) ≡ Ok form
 unfolding form_in

@@ -1,14 +1,14 @@
 -- The printed variants and parts, glyph by glyph.
 use Rattle.std.proofs.Common.{◌≡◌, ◌∙◌, ap, sym, refl, subst, ℕ, ◌≤◌, ◌<◌, ◌+◌, zero, suc, true, List, [], ◌∷◌, length, map, flat_map, All, nat_eq, arith, inl, inr, add-zero}
 use Rattle.std.specs.List.{AllByRecursion, range_with_len}
-use Rattle.std.proofs.lemmas.Bool.{and_parts, cases_Bool}
+use Rattle.std.proofs.lemmas.Bool.{and_parts, cases_Bool, cases_order}
 use Rattle.std.proofs.lemmas.List.Elements.{recursion_from_All, All-nil}
 use Rattle.font_metrics.specs.declared.table.Table.{Table}
 use Rattle.font_metrics.specs.declared.table.Tables.{Tables}
 use Rattle.font_metrics.specs.Metrics.{MetricsValue, ByGlyph, items_of, with_item}
 use Rattle.font_metrics.specs.Print.{entry_words, table_lines, growth_lines}
 use Rattle.font_metrics.specs.declared.given.Given.{Given}
-use Rattle.font_metrics.specs.Tables.{EntryOf, slot, entries, no_tables, all_tables, AreFilled}
+use Rattle.font_metrics.specs.Tables.{EntryOf, slot, entries, no_tables, all_tables, AreFilled, IsSound}
 use Rattle.font_metrics.specs.Taken.{IsEntry, IsTable}
 use Rattle.font_metrics.proofs.ReadBack.Fields.{AreNamed}
 use Rattle.font_metrics.proofs.ReadBack.Following.{Follows, follows-append, follows-to, items-follow}
@@ -86,35 +86,56 @@ tables-below-zero tables =
 pub tables-below-all : (count : ℕ) (tables : Tables) → AreFilled count tables → tables-below count tables ≡ tables
 tables-below-all count tables h =
     put_each-same all_tables (λ t. below count (entries t tables)) (λ t. entries t tables) no_tables
-    (λ t. table-all count (slot t).most ((slot t).Is count) (entries t tables) (h t))
+    (λ t. table-all count (slot t).most (IsSound t count) (entries t tables) (h t))
 
 abbrev pub grown_to : Given → MetricsValue → ℕ → Given
 grown_to given m place = grown given m (tables-below place m.tables)
 
 -- the lines of a place in a table take it to the next place, and leave the others
 table-grows : (given : Given) (m : MetricsValue) (t : Table) (place : ℕ) (tables : Tables) → AreNamed m.glyphs
-    → AreFilled (length m.glyphs) m.tables → place < length m.glyphs
+    → AreFilled (length m.glyphs) m.tables → place < length m.glyphs → (slot t).since ≤ given.version
     → Follows (grown given m ((slot t).put tables (below place (entries t m.tables))))
     (table_lines m place t)
     (grown given m ((slot t).put tables (below (place + 1) (entries t m.tables))))
-table-grows given m t place tables n h low =
+table-grows given m t place tables n h low old =
     let count = length m.glyphs in
     at-place (λ table. grown given m ((slot t).put tables table)) (entry_words t m.glyphs place) count (slot t).most
-    ((slot t).Is count) (entries t m.tables) place (h t)
+    (IsSound t count) (entries t m.tables) place (h t)
     (λ had x is room.
     let given' = grown given m ((slot t).put tables had) in
     takes-to given' (entry_words t m.glyphs place x) _ _ (ap (grown given m) ((kind t).stands.entry-at-put tables had place x))
-    (entry-taken given' t place x n low is
+    (entry-taken given' t place x n low is old
     (subst (λ (table : ByGlyph (EntryOf t)). length (items_of table place) < (slot t).most) (sym ((kind t).stands.at-put tables had)) room)))
+
+-- the tables that a file of this version doesn't have are empty
+abbrev pub AreKnown : ℕ → Tables → Type 0
+AreKnown version tables = (t : Table) → version < (slot t).since → entries t tables ≡ []
+
+-- so a table that there is, or that is empty
+known-grows : (given : Given) (m : MetricsValue) (t : Table) (place : ℕ) (tables : Tables) → AreNamed m.glyphs
+    → AreFilled (length m.glyphs) m.tables → AreKnown given.version m.tables → place < length m.glyphs
+    → Follows (grown given m ((slot t).put tables (below place (entries t m.tables))))
+    (table_lines m place t)
+    (grown given m ((slot t).put tables (below (place + 1) (entries t m.tables))))
+known-grows given m t place tables n h v low = elim (cases_order given.version (slot t).since) [
+  | inl same ↦ table-grows given m t place tables n h low (omega (arith, same))
+  | inr (inl late) ↦ (
+      let none = v t late in
+      let nothing = λ (table : ByGlyph (EntryOf t)). Follows (grown given m ((slot t).put tables (below place table)))
+      (map (entry_words t m.glyphs place) (items_of table place)) (grown given m ((slot t).put tables (below (place + 1) table))) in
+      subst nothing (sym none) refl
+      )
+  | inr (inr more) ↦ table-grows given m t place tables n h low (omega (arith, more))
+]
 
 -- the lines of a place in these tables in turn take them to the next place
 tables-grow : (given : Given) (m : MetricsValue) (place : ℕ) (ts : List Table) (tables : Tables) → AreNamed m.glyphs
-    → AreFilled (length m.glyphs) m.tables → place < length m.glyphs → are_distinct ts ≡ true
+    → AreFilled (length m.glyphs) m.tables → AreKnown given.version m.tables → place < length m.glyphs → are_distinct ts ≡ true
     → AreAt ts (λ t. below place (entries t m.tables)) tables
     → Follows (grown given m tables) (flat_map (table_lines m place) ts)
     (grown given m (put_each ts (λ t. below (place + 1) (entries t m.tables)) tables))
-tables-grow given m place [] tables n h low distinct at = refl
-tables-grow given m place (t ∷ ts) tables n h low distinct at =
+tables-grow given m place [] tables n h v low distinct at = refl
+tables-grow given m place (t ∷ ts) tables n h v low distinct at =
     let next = λ (t : Table). below (place + 1) (entries t m.tables) in
     let now = λ (t : Table). below place (entries t m.tables) in
     let one = (slot t).put tables (next t) in
@@ -124,28 +145,28 @@ tables-grow given m place (t ∷ ts) tables n h low distinct at =
     follows-append (grown given m tables) (grown given m one) (grown given m (put_each ts next one)) (table_lines m place t)
     (flat_map (table_lines m place) ts)
     (subst (λ (before : Tables). Follows (grown given m before) (table_lines m place t) (grown given m one)) same
-    (table-grows given m t place tables n h low))
-    (tables-grow given m place ts one n h low p.1 (others-stay t (next t) ts now tables p.0 at.1))
+    (known-grows given m t place tables n h v low))
+    (tables-grow given m place ts one n h v low p.1 (others-stay t (next t) ts now tables p.0 at.1))
 
 -- the lines of a place take all tables to the next place
 grows-at : (given : Given) (m : MetricsValue) (place : ℕ) → AreNamed m.glyphs
-    → AreFilled (length m.glyphs) m.tables → place < length m.glyphs
+    → AreFilled (length m.glyphs) m.tables → AreKnown given.version m.tables → place < length m.glyphs
     → Follows (grown_to given m place) (growth_lines m place) (grown_to given m (place + 1))
-grows-at given m place n h low =
+grows-at given m place n h v low =
     let now = λ (t : Table). below place (entries t m.tables) in
-    tables-grow given m place all_tables (tables-below place m.tables) n h low all-distinct
+    tables-grow given m place all_tables (tables-below place m.tables) n h v low all-distinct
     (put_each-at all_tables now no_tables all-distinct)
 
 pub grows-from : (given : Given) (m : MetricsValue) (from count : ℕ) → AreNamed m.glyphs
-    → AreFilled (length m.glyphs) m.tables → from + count ≤ length m.glyphs
+    → AreFilled (length m.glyphs) m.tables → AreKnown given.version m.tables → from + count ≤ length m.glyphs
     → Follows (grown_to given m from) (flat_map (growth_lines m) (range_with_len from count))
     (grown_to given m (from + count))
-grows-from given m from zero n h few = ap (grown_to given m) (sym (add-zero from))
-grows-from given m from (suc count) n h few =
+grows-from given m from zero n h v few = ap (grown_to given m) (sym (add-zero from))
+grows-from given m from (suc count) n h v few =
     let more = flat_map (growth_lines m) (range_with_len (from + 1) count) in
     let e : from + 1 + count ≡ from + suc count = omega arith in
     follows-append (grown_to given m from) (grown_to given m (from + 1)) (grown_to given m (from + suc count))
-    (growth_lines m from) more (grows-at given m from n h (omega arith))
+    (growth_lines m from) more (grows-at given m from n h v (omega arith))
     (follows-to (grown_to given m (from + 1)) (grown_to given m (from + 1 + count))
     (grown_to given m (from + suc count)) more (ap (grown_to given m) e)
-    (grows-from given m (from + 1) count n h (omega arith)))
+    (grows-from given m (from + 1) count n h v (omega arith)))

@@ -5,7 +5,7 @@ use Rattle.std.proofs.lemmas.Bool.{and_from, and_parts, and_right}
 use Rattle.std.proofs.lemmas.Bool.Decides.{nat_tests}
 use Rattle.std.proofs.lemmas.List.Elements.{All-from_recursion}
 use Rattle.std.proofs.lemmas.List.Splits.{slice_split_none, slice_split_at}
-use Rattle.font_metrics.specs.Lines.{Words, keyword_of}
+use Rattle.font_metrics.specs.Lines.{Words, keyword_of, known_in}
 use Rattle.font_metrics.specs.declared.given.Given.{Given}
 use Rattle.font_metrics.specs.Reading.{is_blank, is_empty, words_of, is_comment, is_plain, is_foreign, after_fields, after}
 
@@ -108,7 +108,7 @@ is_foreign-joined words h =
 -- what is given after a joined line is what its first word makes of the others
 pub after-joined : (given : Given) (word : List ℕ) (fields : Words) → list_all is_word (word ∷ fields) ≡ true
     → is_comment (join_with_byte 32 (word ∷ fields)) ≡ false
-    → after given (join_with_byte 32 (word ∷ fields)) ≡ after_fields given (keyword_of word) fields
+    → after given (join_with_byte 32 (word ∷ fields)) ≡ after_fields given (known_in given.version (keyword_of word)) fields
 unfolding after
 after-joined given word fields h other =
     rw (is_foreign-joined (word ∷ fields) h, other, words_of-joined word fields h) refl

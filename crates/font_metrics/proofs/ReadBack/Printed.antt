@@ -16,7 +16,9 @@ use Rattle.op_dictionary.specs.declared.operator.Form.{Form}
 use Rattle.op_dictionary.specs.declared.operator.Form.TheVariants.{Prefix, Infix, Postfix}
 use Rattle.op_dictionary.specs.declared.text.OpText.{OpText}
 use Rattle.op_dictionary.specs.declared.text.OpText.TheVariants.{Empty, One, Two, Other}
-use Rattle.font_metrics.specs.Print.{code_text, operator_text, extender_text, form_text, category_text, axis_text}
+use Rattle.font_metrics.specs.declared.corner.Corner.{Corner}
+use Rattle.font_metrics.specs.declared.corner.Corner.TheVariants.{TopRight, TopLeft, BottomRight, BottomLeft}
+use Rattle.font_metrics.specs.Print.{code_text, operator_text, extender_text, corner_text, form_text, category_text, axis_text}
 use Rattle.font_metrics.specs.Taken.{IsOperatorText}
 use Rattle.font_metrics.specs.Words.{plus, is_scalar}
 use Rattle.font_metrics.proofs.ReadBack.Codes.{code_text-digits, length-code_text, scalar-small, pair-small}
@@ -72,6 +74,12 @@ operator_text-word Other h = absurd h
 pub extender-word : (extender : Bool) → is_word (extender_text extender) ≡ true
 extender-word false = refl
 extender-word true = refl
+
+pub corner-word : (corner : Corner) → is_word (corner_text corner) ≡ true
+corner-word TopRight = refl
+corner-word TopLeft = refl
+corner-word BottomRight = refl
+corner-word BottomLeft = refl
 
 pub form-word : (form : Form) → is_word (form_text form) ≡ true
 form-word Prefix = refl

@@ -9,14 +9,13 @@ use Rattle.op_dictionary.specs.declared.extra.OperatorLine.{OperatorLine}
 use Rattle.op_dictionary.specs.Dictionary.{is_named}
 use Rattle.font_metrics.specs.declared.given.Given.{Given}
 use Rattle.font_metrics.specs.declared.keyword.Keyword.{Keyword}
-use Rattle.font_metrics.specs.declared.fault.LineFault.TheVariants.{TooMany}
 use Rattle.font_metrics.specs.declared.table.Table.{Table}
 use Rattle.font_metrics.specs.Faults.{◌>>=◌, step_map, fault_if}
-use Rattle.font_metrics.specs.Lines.{Words, Item, SaysUpem, SaysLine, SaysXHeight, SaysOverlap, SaysConstant, SaysGlyph, SaysCharacter, SaysEntry, SaysOperator, keyword_of, item_in}
+use Rattle.font_metrics.specs.Lines.{Words, Item, SaysUpem, SaysLine, SaysXHeight, SaysOverlap, SaysConstant, SaysGlyph, SaysCharacter, SaysEntry, SaysOperator, keyword_of, known_in, item_in}
 use Rattle.font_metrics.specs.Metrics.{NamedGlyph, name_in_list, items_of, place_of_name}
 use Rattle.font_metrics.specs.Print.{upem_words, line_words, x_height_words, constant_text, constant_words, accent_words, glyph_words, code_text, character_words, entry_words, operator_text, form_text, category_text, axis_text, operator_words}
 use Rattle.font_metrics.specs.Reading.{is_comment, allowed, put, after_fields, after}
-use Rattle.font_metrics.specs.Tables.{EntryOf, slot, entries, with_entry}
+use Rattle.font_metrics.specs.Tables.{EntryOf, slot, entries, with_entry, IsSound}
 use Rattle.font_metrics.specs.Taken.{IsGlyph, IsConstant, IsCharacter, IsReach, IsOperatorText, most_glyphs}
 use Rattle.font_metrics.proofs.ReadBack.Choices.{constant-word}
 use Rattle.font_metrics.proofs.ReadBack.Decimal.{natural_in-decimal}
@@ -41,10 +40,10 @@ after-item given keyword fields item said free =
 
 takes : (given : Given) (word : List ℕ) (fields : Words) (item : Item)
     → list_all is_word (word ∷ fields) ≡ true → is_comment (join_with_byte 32 (word ∷ fields)) ≡ false
-    → item_in given.glyphs (keyword_of word) fields ≡ Ok item → allowed given item ≡ Ok tt
+    → item_in given.glyphs (known_in given.version (keyword_of word)) fields ≡ Ok item → allowed given item ≡ Ok tt
     → Takes given (word ∷ fields) (put given item)
 takes given word fields item h other said free =
-    (h, after-joined given word fields h other ∙ after-item given (keyword_of word) fields item said free)
+    (h, after-joined given word fields h other ∙ after-item given (known_in given.version (keyword_of word)) fields item said free)
 
 pub takes-to : (given : Given) (words : Words) (next other : Given) → next ≡ other → Takes given words next
     → Takes given words other
@@ -149,20 +148,22 @@ character-taken given c n h new =
 -- ---- entries of tables
 
 pub entry-taken : (given : Given) (t : Table) (place : ℕ) (x : EntryOf t) → AreNamed given.glyphs
-    → place < length given.glyphs → (slot t).Is (length given.glyphs) x
+    → place < length given.glyphs → IsSound t (length given.glyphs) x → (slot t).since ≤ given.version
     → length (items_of (entries t given.tables) place) < (slot t).most
     → Takes given (entry_words t given.glyphs place x)
     (record given { tables = with_entry t given.tables place x })
-entry-taken given t place x n low h room =
+entry-taken given t place x n low h old room =
     let k = kind t in
     let key = k.keyword in
     let fields = name_in_list given.glyphs place ∷ (slot t).fields given.glyphs x in
     takes given (slot t).keyword fields (SaysEntry t (place, x))
-    (and_from _ _ key.word (and_from _ _ (place-word given.glyphs place n low) (k.words given.glyphs x n h)))
+    (and_from _ _ key.word (and_from _ _ (place-word given.glyphs place n low) (k.words given.glyphs x n h.0)))
     (key.other (name_in_list given.glyphs place) ((slot t).fields given.glyphs x))
-    (ap (λ (word : Keyword). item_in given.glyphs word fields) key.names
-    ∙ ap (step_map (SaysEntry t)) (k.printed given.glyphs place x n low h))
-    (ap (λ b. fault_if b TooMany) (lt-leb (slot t).most (length (items_of (entries t given.tables) place)) room))
+    (ap (λ (word : Keyword). item_in given.glyphs (known_in given.version word) fields) key.names
+    ∙ ap (λ (word : Keyword). item_in given.glyphs word fields) (key.known given.version old)
+    ∙ k.printed given.glyphs place x n low h.0)
+    (ap (λ b. fault_if b (slot t).full >>= λ free. (slot t).check x) (lt-leb (slot t).most (length (items_of (entries t given.tables) place)) room)
+    ∙ h.1)
 
 -- ---- operators
 

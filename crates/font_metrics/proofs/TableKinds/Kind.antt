@@ -1,22 +1,23 @@
 -- What is proved of each kind of table.
-use Rattle.std.proofs.Common.{◌≡◌, ℕ, ◌<◌, ◌≤◌, true, false, List, [], ◌∷◌, length, Ok, Err}
+use Rattle.std.proofs.Common.{◌≡◌, ℕ, ◌<◌, ◌≤◌, true, false, List, [], ◌∷◌, length, Ok}
 use Rattle.std.specs.List.{list_all, join_with_byte}
-use Rattle.font_metrics.specs.declared.fault.LineFault.TheVariants.{FieldCount}
-use Rattle.font_metrics.specs.declared.keyword.Keyword.TheVariants.{Table as TableOf}
+use Rattle.font_metrics.specs.declared.keyword.Keyword.{Keyword}
 use Rattle.font_metrics.specs.declared.table.Table.{Table}
 use Rattle.font_metrics.specs.declared.table.Tables.{Tables}
-use Rattle.font_metrics.specs.Lines.{Words, keyword_of}
+use Rattle.font_metrics.specs.Lines.{Words, SaysEntry, keyword_of, known_in, item_in}
 use Rattle.font_metrics.specs.Laws.{of_table}
 use Rattle.font_metrics.specs.Metrics.{NamedGlyph, ByGlyph, with_item, name_in_list}
 use Rattle.font_metrics.specs.Reading.{is_comment}
-use Rattle.font_metrics.specs.Tables.{EntryOf, slot, entries, with_entry, no_tables}
+use Rattle.font_metrics.specs.Tables.{EntryOf, slot, entries, with_entry, no_tables, IsSound}
 use Rattle.font_metrics.proofs.ReadBack.Fields.{AreNamed}
 use Rattle.font_metrics.proofs.ReadBack.Joined.{is_word}
 
--- a keyword is a word that names its table, and begins no comment
+-- a keyword is a word by which the lines of its table are read in files that have it, and begins no comment
 pub record IsKeyword (t : Table) : Type 0 where
+  pub of : Keyword
   pub word : is_word (slot t).keyword ≡ true
-  pub names : keyword_of (slot t).keyword ≡ TableOf t
+  pub names : keyword_of (slot t).keyword ≡ of
+  pub known : (version : ℕ) → (slot t).since ≤ version → known_in version of ≡ of
   pub other : (word : List ℕ) (words : Words) → is_comment (join_with_byte 32 ((slot t).keyword ∷ word ∷ words)) ≡ false
 
 -- the table among all: what is put into it is there, so that one more entry is put with it; what is there
@@ -29,17 +30,14 @@ pub record Stands (t : Table) : Type 0 where
   pub none : entries t no_tables ≡ []
   pub own : (xs : List (EntryOf t)) → of_table t t xs ≡ xs
 
--- what a line gives lies in its range, and does where there are more glyphs; no line has more than 36
--- fields; and what is printed of an entry are words, which give it
+-- what lies in its range does where there are more glyphs; and what is printed of an entry are words, which
+-- give it
 pub record IsKind (t : Table) : Type 0 where
   pub stands : Stands t
   pub keyword : IsKeyword t
-  pub range : (glyphs : List NamedGlyph) (fields : Words) (x : ℕ × EntryOf t) → (slot t).read glyphs fields ≡ Ok x
-      → (x.0 < length glyphs) × (slot t).Is (length glyphs) x.1
   pub wider : (old new : ℕ) → old ≤ new → (x : EntryOf t) → (slot t).Is old x → (slot t).Is new x
-  pub many : (glyphs : List NamedGlyph) (fields : Words) → 36 < length fields → (slot t).read glyphs fields ≡ Err FieldCount
   pub words : (glyphs : List NamedGlyph) (x : EntryOf t) → AreNamed glyphs → (slot t).Is (length glyphs) x
       → list_all is_word ((slot t).fields glyphs x) ≡ true
   pub printed : (glyphs : List NamedGlyph) (place : ℕ) (x : EntryOf t) → AreNamed glyphs → place < length glyphs
       → (slot t).Is (length glyphs) x
-      → (slot t).read glyphs (name_in_list glyphs place ∷ (slot t).fields glyphs x) ≡ Ok (place, x)
+      → item_in glyphs keyword.of (name_in_list glyphs place ∷ (slot t).fields glyphs x) ≡ Ok (SaysEntry t (place, x))

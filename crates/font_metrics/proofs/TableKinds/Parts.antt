@@ -1,13 +1,16 @@
 -- The parts of assemblies along an axis.
-use Rattle.std.proofs.Common.{◌≡◌, refl, subst, ℕ, ◌<◌, ◌≤◌, List, [], ◌∷◌, length, Ok, Err, arith, true}
+use Rattle.std.proofs.Common.{◌≡◌, refl, ap, subst, ℕ, ◌<◌, ◌≤◌, List, [], ◌∷◌, length, Ok, arith, true}
 use Rattle.std.specs.Fmt.{signed_decimal}
 use Rattle.std.specs.List.{list_all}
 use Rattle.op_dictionary.specs.declared.operator.Axis.{Axis}
 use Rattle.op_dictionary.specs.declared.operator.Axis.TheVariants.{Block, Inline}
 use Rattle.font_metrics.specs.declared.fault.LineFault.TheVariants.{FieldCount}
 use Rattle.font_metrics.specs.declared.growth.Part.{Part}
+use Rattle.font_metrics.specs.declared.keyword.Keyword.TheVariants.{Parts as PartsOf}
 use Rattle.font_metrics.specs.declared.table.Table.TheVariants.{Parts}
-use Rattle.font_metrics.specs.Lines.{Words, keyword_of, length_in, named_in, part_with, part_in}
+use Rattle.font_metrics.specs.Faults.{step_map}
+use Rattle.font_metrics.specs.Tables.{slot}
+use Rattle.font_metrics.specs.Lines.{Words, SaysEntry, item_in, keyword_of, length_in, named_in, part_with, part_in}
 use Rattle.font_metrics.specs.Metrics.{NamedGlyph, name_in_list}
 use Rattle.font_metrics.specs.Print.{extender_text}
 use Rattle.font_metrics.specs.Words.{extender_in}
@@ -36,7 +39,7 @@ part_is glyphs a b c d e p h =
       full = is_length full.0 (length_range e full.0 full.1);
     })
 
-part_range : (glyphs : List NamedGlyph) (fields : Words) (p : ℕ × Part) → part_in glyphs fields ≡ Ok p
+pub part_range : (glyphs : List NamedGlyph) (fields : Words) (p : ℕ × Part) → part_in glyphs fields ≡ Ok p
     → (p.0 < length glyphs) × IsPart (length glyphs) p.1
 part_range glyphs [] p h = no_value FieldCount p h
 part_range glyphs (a ∷ []) p h = no_value FieldCount p h
@@ -58,16 +61,6 @@ wider old new more p is = record {
   end = is.end;
   full = is.full;
 }
-
-part-many : (glyphs : List NamedGlyph) (fields : Words) → 36 < length fields → part_in glyphs fields ≡ Err FieldCount
-part-many glyphs [] more = absurd (omega arith)
-part-many glyphs (a ∷ []) more = absurd (omega arith)
-part-many glyphs (a ∷ b ∷ []) more = absurd (omega arith)
-part-many glyphs (a ∷ b ∷ c ∷ []) more = absurd (omega arith)
-part-many glyphs (a ∷ b ∷ c ∷ d ∷ []) more = absurd (omega arith)
-part-many glyphs (a ∷ b ∷ c ∷ d ∷ e ∷ []) more = absurd (omega arith)
-part-many glyphs (a ∷ b ∷ c ∷ d ∷ e ∷ f ∷ []) more = absurd (omega arith)
-part-many glyphs (a ∷ b ∷ c ∷ d ∷ e ∷ f ∷ g ∷ fields) more = refl
 
 part_in-printed : (glyphs : List NamedGlyph) (place : ℕ) (p : Part) → AreNamed glyphs
     → place < length glyphs → IsPart (length glyphs) p
@@ -100,22 +93,28 @@ part-words glyphs p n h =
       length-word p.full h.full,
     ) refl
 
-keyword : (axis : Axis) → IsKeyword (Parts axis)
+unfoldable keyword : (axis : Axis) → IsKeyword (Parts axis)
 unfolding keyword_of
-keyword Block = record { word = refl; names = refl; other = λ word words. refl }
-keyword Inline = record { word = refl; names = refl; other = λ word words. refl }
+keyword Block = record { of = PartsOf Block; word = refl; names = refl; known = λ version more. refl; other = λ word words. refl }
+keyword Inline = record { of = PartsOf Inline; word = refl; names = refl; known = λ version more. refl; other = λ word words. refl }
 
 stands : (axis : Axis) → Stands (Parts axis)
 stands Block = record { at-put = λ tables table. refl; put-at = λ tables. refl; entry-at-put = λ tables table place x. refl; none = refl; own = λ xs. refl }
 stands Inline = record { at-put = λ tables table. refl; put-at = λ tables. refl; entry-at-put = λ tables table place x. refl; none = refl; own = λ xs. refl }
 
+-- what is printed of an entry says it
+printed : (axis : Axis) (glyphs : List NamedGlyph) (place : ℕ) (x : Part) → AreNamed glyphs → place < length glyphs
+    → IsPart (length glyphs) x
+    → item_in glyphs (keyword axis).of (name_in_list glyphs place ∷ (slot (Parts axis)).fields glyphs x) ≡ Ok (SaysEntry (Parts axis) (place, x))
+unfolding keyword
+printed Block glyphs place x n low h = ap (step_map (SaysEntry (Parts Block))) (part_in-printed glyphs place x n low h)
+printed Inline glyphs place x n low h = ap (step_map (SaysEntry (Parts Inline))) (part_in-printed glyphs place x n low h)
+
 pub parts_kind : (axis : Axis) → IsKind (Parts axis)
 parts_kind axis = record {
   stands = stands axis;
   keyword = keyword axis;
-  range = part_range;
   wider = wider;
-  many = part-many;
   words = part-words;
-  printed = part_in-printed;
+  printed = printed axis;
 }

@@ -12,7 +12,7 @@ returns-in-Err c =
     record {
       reads =
           subst (λ r. Reads (metrics_of c.args.bytes.now) (Err r)) (sym c.at.ensures)
-          (stopped _ 1 (after_first first) nothing _ (FaultyLine c.in-Err.fault)
+          (stopped _ 1 (after_first first) (nothing 1) _ (FaultyLine c.in-Err.fault)
           (from_first c.args.bytes.now first (lines c.first_line.result.1.now) c.first_line.ensures.line)
           (sym c.in-Err.ensures));
     }

@@ -1,6 +1,7 @@
 use Rattle.std.proofs.Common.{rules, ◌≡◌, ℕ, ◌∙◌, refl, sym, ap, subst, ◌<◌, arith, Bool, true, false, List, [], length, map, set, slice_get, take, All, Option, Some, None, IfNone, IfSome, Err, Ok, OnOk, OnErr, Result, is_some}
 use Rattle.std.specs.List.{AllByRecursion}
 use Rattle.std.proofs.lemmas.List.{length-map}
+use Rattle.std.proofs.lemmas.List.Elements.{All-append}
 use Rattle.std.proofs.lemmas.Result.{IfOk-weaker}
 use Rattle.font_metrics.specs.Metrics.{MetricsValue}
 use Rattle.math_tree.specs.declared.node.Node.{Node}
@@ -8,7 +9,7 @@ use Rattle.math_tree.specs.declared.node.Node.TheViews.{out-Node, size-Node}
 use Rattle.embellished.specs.Seen.{Child, seen_of}
 use Rattle.kept_results.specs.declared.memo.Former.{Former}
 use Rattle.layout_model.specs.Answers.{answers_in, questions_in}
-use Rattle.layout_model.specs.Fits.{AreAnswers}
+use Rattle.layout_model.specs.Fits.{AreAnswers, HasFont}
 use Rattle.layout_model.specs.Laws.{answer_of}
 use Rattle.layout_model.specs.Layout.{equation, lay}
 use Rattle.layout_model.specs.Range.{outcome_fits}
@@ -19,9 +20,9 @@ use Rattle.layout_model.specs.declared.outcome.Outcome.{Outcome}
 use Rattle.layout_model.specs.declared.reply.Reply.{Reply}
 use Rattle.layout_model.proofs.Replies.{answered_there, asked_there, past_all, question_of}
 use Rattle.layout_model.proofs.Children.{among_all, child_of, few_below, few_children, in_flow, item_of, near, smaller}
-use Rattle.layout_model.proofs.Fits.{answers_are, range_is}
+use Rattle.layout_model.proofs.Fits.{answers_are, fonts_are, range_is}
 use Rattle.layout_model.proofs.Waves.{all_fit, broken, fit_more}
-use Rattle.layout_model.proofs.Whole.{ones_false, range_waves, size_false, twos_false}
+use Rattle.layout_model.proofs.Whole.{ones_below, ones_false, range_waves, size_false, twos_below, twos_false}
 use Rattle.kept_results.specs.Contexts.{IsProper}
 use Rattle.kept_results.specs.Kept.{IsKept, IsMissing, NamesKept, is_fresh_from, is_marked}
 use Rattle.kept_results.specs.Looking.{HasAnswer, one_at, own_facts}
@@ -30,7 +31,7 @@ use Rattle.kept_results.specs.Regular.{IsRegular, restyled, restyled_at}
 use Rattle.kept_results.specs.Tidy.{IsTidy, is_new}
 use Rattle.kept_results.specs.declared.memo.Memo.{Memo}
 use Rattle.kept_results.specs.declared.memo.Memo.TheViews.{out-Memo}
-use Rattle.kept_results.proofs.Again.{asked_now, child_unfit, fit, first_again, goes, kept_again, laid, near_below, near_child, near_entry, now, one_now, passed_all, passed_child, proper, read_entry, shown_by, stays, step_only, still_regular, still_sized, stored, tidied_again, told_now, unfit, was_here, was_near}
+use Rattle.kept_results.proofs.Again.{asked_now, child_unfit, fit, first_again, goes, kept_again, laid, near_below, near_child, near_entry, now, one_now, passed_all, passed_child, proper, read_entry, shown_by, sized, stays, step_only, still_regular, still_sized, stored, tidied_again, told_now, unfit, was_here, was_near}
 use Rattle.kept_results.proofs.Agreement.{agrees_child, has_added}
 use Rattle.kept_results.proofs.Lists.{all_then}
 use Rattle.kept_results.proofs.Passing.{fresh_live, pair_at, passes_added, passes_both, passes_none, passes_partly, passes_step, passes_under, under}
@@ -379,11 +380,19 @@ relay_anew-finish_replies-requires-clause-replies g t c =
     let one = (c.in_ok-relay_all.ensures {u = tt}) in
     let w = (c.in_ok-two.ensures {u = tt}).value in
     let two = (c.in_ok-relay_all-2.ensures {u = tt}) in
+    let ones = questions_in c.in_ok-one.one in
+    let twos = questions_in c.in_ok-two.two in
+    let below = ones_below m node _ context shown ones o.ok in
+    let above = twos_below m node _ context shown ones o.ok (answers_in c.relay_all.new.replies) one.ok twos w in
     record {
       one_asked = one.asked ∙ o.ok;
       two_asked = two.asked ∙ w;
       one_fits = subst AreAnswers (sym one.ok) (answers_are m node c.requires.few (questions_in c.in_ok-one.one) one.fit);
       two_fits = subst AreAnswers (sym two.ok) (answers_are m node c.requires.few (questions_in c.in_ok-two.two) two.fit);
+      fonts =
+          All-append (HasFont m) (questions_in c.relay_all.new.replies) (questions_in c.relay_all-2.new.replies)
+          (subst (All (HasFont m)) (sym one.asked) (fonts_are m node c.requires.few ones below one.fit))
+          (subst (All (HasFont m)) (sym two.asked) (fonts_are m node c.requires.few twos above two.fit));
     }
 
 pub relay_anew-returns-in_err-outcome-clause-passes : goal.relay_anew-returns-in_err-outcome-clause-passes
@@ -811,6 +820,32 @@ relay_again-make_again-requires-clause-stored g t c =
     let done = (c.in_ok-answer.ensures {u = tt}) in
     let answer = c.in_ok-answer.answer in
     subst AreAnswers (sym (told_now m node memo context before h b new asked answer)) (stored m node memo context before h b c.requires.few c.requires.context was asked was_at is style child there old new at c.args.steps.now c.relay_element.new.steps done.passed answer done.ok done.kept)
+
+pub relay_again-make_again-requires-clause-fonts : goal.relay_again-make_again-requires-clause-fonts
+relay_again-make_again-requires-clause-fonts g t c =
+    let m = c.args.metrics.now in
+    let node = c.args.node.now in
+    let memo = c.args.memo.now in
+    let context = c.args.context.now in
+    let before = c.args.before in
+    let h = c.requires.agrees in
+    let b = c.requires.before in
+    let entry_is = read_entry m node memo context before h b c.as_slice.result.now c.index-as_slice-before.result c.as_slice.ensures c.index-as_slice-before.is in
+    let was = c.index-as_slice-place.result.question in
+    let was_at = was_here m node memo context before h b c.as_slice-2.result.now c.index-as_slice-before.result c.index-as_slice-place.result c.as_slice-2.ensures entry_is c.index-as_slice-place.is in
+    let near = near_child m node memo context before h b (map (restyled_at m (seen_of node) context before.child) (questions_in b.entry.one)) refl in
+    let asked = c.in_ok-asked.asked in
+    let is = (c.in_ok-asked.ensures {u = tt}).ok ∙ ap (λ (n : Node). restyled m (seen_of n) context was) c.of-view.ensures in
+    let style = (c.in_ok-asked.ensures {u = tt}).style in
+    let child = c.index-as_slice-place-2.result in
+    let there = read_at c.as_slice-3.result.now (out-Node node).children before.child child c.as_slice-3.ensures near c.index-as_slice-place-2.is in
+    let old = c.at_mut-below.result.now in
+    let at = c.at_mut-below.ensures.value in
+    let new = c.relay_element.new.memo in
+    let done = (c.in_ok-answer.ensures {u = tt}) in
+    let answer = c.in_ok-answer.answer in
+    subst (All (HasFont m)) (sym (asked_now m node memo context before h b new asked answer))
+    (sized m node memo context before h b c.requires.few c.requires.context was asked was_at is style child there old new at c.args.steps.now c.relay_element.new.steps done.passed answer done.ok done.kept)
 
 pub relay_again-returns-clause-passes : goal.relay_again-returns-clause-passes
 relay_again-returns-clause-passes g t c =

@@ -1,10 +1,10 @@
-use Rattle.std.proofs.Common.{◌∙◌, sym, ap, subst, arith, List, [], Err}
+use Rattle.std.proofs.Common.{◌∙◌, sym, ap, subst, arith, All, List, [], Err}
 use Rattle.std.proofs.lemmas.Option.{same_Some}
 use Rattle.std.specs.Result.{result_err}
 use Rattle.fixed_units.specs.declared.refusal.LayRefusal.TheVariants.{Range}
 use Rattle.embellished.specs.Seen.{seen_of}
 use Rattle.layout_model.specs.Answers.{answers_in, questions_in}
-use Rattle.layout_model.specs.Fits.{AreAnswers}
+use Rattle.layout_model.specs.Fits.{AreAnswers, HasFont}
 use Rattle.layout_model.specs.Layout.{equation}
 use Rattle.layout_model.specs.Range.{outcome_fits}
 use Rattle.layout_model.specs.declared.outcome.Answer.{Answer}
@@ -24,6 +24,12 @@ lay_again-made-requires-clause-stored g c =
     subst AreAnswers
     (sym (ap answers_in (one_turned c.args.memo.now c.args.before.entry c.args.before.child c.args.reply c.at_mut.result.now c.turn-had.new.entry c.at_mut.ensures.value c.turn-had.ensures.turned)))
     c.requires.stored
+
+pub lay_again-made-requires-clause-fonts : goal.lay_again-made-requires-clause-fonts
+lay_again-made-requires-clause-fonts g c =
+    subst (All (HasFont c.args.metrics.now))
+    (sym (ap questions_in (one_turned c.args.memo.now c.args.before.entry c.args.before.child c.args.reply c.at_mut.result.now c.turn-had.new.entry c.at_mut.ensures.value c.turn-had.ensures.turned)))
+    c.requires.fonts
 
 pub turn-requires : goal.turn-requires
 turn-requires g c =

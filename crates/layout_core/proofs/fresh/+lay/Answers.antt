@@ -16,7 +16,7 @@ use Rattle.layout_core.specs.Slots.{with_laid}
 use Rattle.style_scope.specs.Sizes.{size_of}
 use Rattle.layout_model.proofs.Asked.{IsQuestionStored}
 use Rattle.layout_model.proofs.Children.{child_of, few_below, few_children, in_flow, item_of, known_at, known_below, near, smaller}
-use Rattle.layout_model.proofs.Fits.{answers_are, range_is}
+use Rattle.layout_model.proofs.Fits.{answers_are, fonts_are, range_is}
 use Rattle.layout_core.proofs.Placed.{as_many_places, kept_more, kept_none, told_more}
 use Rattle.layout_model.proofs.Waves.{all_fit, broken, count_more, fit_more}
 use Rattle.layout_core.proofs.LaidWaves.{laid_waves}
@@ -204,9 +204,15 @@ lay_element-finish-requires-clause-answers g t c =
     let shown = c.in_ok-view.ensures {u = tt} in
     let one = (c.in_ok-one.ensures {u = tt}) in
     let two = (c.in_ok-two.ensures {u = tt}) in
-    answers_all m node _ c.args.context.now shown c.in_ok-ones.ones (c.in_ok-ones.ensures {u = tt}).ok c.in_ok-one.one one.ok c.in_ok-twos.twos (c.in_ok-twos.ensures {u = tt}).value c.in_ok-two.two two.ok
+    let o = (c.in_ok-ones.ensures {u = tt}).ok in
+    let t = (c.in_ok-twos.ensures {u = tt}).value in
+    let below = ones_below m node _ c.args.context.now shown c.in_ok-ones.ones o in
+    let above = twos_below m node _ c.args.context.now shown c.in_ok-ones.ones o c.in_ok-one.one one.ok c.in_ok-twos.twos t in
+    answers_all m node _ c.args.context.now shown c.in_ok-ones.ones o c.in_ok-one.one one.ok c.in_ok-twos.twos t c.in_ok-two.two two.ok
     (subst AreAnswers (sym one.ok) (answers_are m node c.requires.few c.in_ok-ones.ones one.fit))
     (subst AreAnswers (sym two.ok) (answers_are m node c.requires.few c.in_ok-twos.twos two.fit))
+    (fonts_are m node c.requires.few c.in_ok-ones.ones below one.fit)
+    (fonts_are m node c.requires.few c.in_ok-twos.twos above two.fit)
 
 pub lay_element-returns-in_err-outcome-clause-range : goal.lay_element-returns-in_err-outcome-clause-range
 lay_element-returns-in_err-outcome-clause-range g t c = λ e.

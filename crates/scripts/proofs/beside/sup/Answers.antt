@@ -8,7 +8,7 @@ pub returns : goal.returns
 unfolding sup_of
 returns c =
     let up = c.sup_shift-up.ensures.within in
-    let x = c.sup_x-x.ensures.within in
+    let x = c.sup_start-x.ensures.within in
     let f = fits_i64 up (lit< tt) in
     let g = fits_i64 x (lit< tt) in
     let h = fits_i64 (difference_in (natural_in 0) up) (lit< tt) in

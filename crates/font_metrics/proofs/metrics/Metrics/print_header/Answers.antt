@@ -9,8 +9,9 @@ behind l a b c d x y z w v all ha hb hc hd h = rw (h, hd, hc, hb, ha) (simp appe
 
 pub returns : goal.returns
 returns c =
+    let version = rw c.from-version.ensures at c.in_ok-add_line.ensures in
     rw (← c.self.view_is)
     (on_ok_weaker c.print_overlap.result
-    (λ last. behind c.args.lines.now c.add_line.new.self c.add_line-2.new.self c.add_line-3.new.self c.add_line-4.new.self _ _ _ _ _ c.print_overlap.new.lines c.in_ok-add_line.ensures c.in_ok-add_line-2.ensures c.in_ok-add_line-3.ensures
+    (λ last. behind c.args.lines.now c.add_line.new.self c.add_line-2.new.self c.add_line-3.new.self c.add_line-4.new.self _ _ _ _ _ c.print_overlap.new.lines version c.in_ok-add_line-2.ensures c.in_ok-add_line-3.ensures
     c.in_ok-add_line-4.ensures last)
     c.print_overlap.ensures)

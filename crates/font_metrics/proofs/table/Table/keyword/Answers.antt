@@ -1,3 +1,4 @@
+use Rattle.std.proofs.Common.{refl}
 use Rattle.font_metrics.proofs.table.Table.keyword.Goals as goal
 
 pub returns-in-Variants : goal.returns-in-Variants
@@ -5,3 +6,6 @@ returns-in-Variants c = rw c.in-Variants.is c.variant_keyword.ensures
 
 pub returns-in-Parts : goal.returns-in-Parts
 returns-in-Parts c = rw c.in-Parts.is c.part_keyword.ensures
+
+pub returns-in-Kerns : goal.returns-in-Kerns
+returns-in-Kerns c = rw c.in-Kerns.is refl
