@@ -1,5 +1,5 @@
 #!/usr/bin/env python3
-"""Draws a formula: lays a tree out with the built program, and draws its marks with the outlines of the font.
+"""Draws a formula: has the built program paint it, and puts the outlines of the font in.
 
     picture.py FILE.metrics FONT FORMULA [--fallback FONT].. [--number K | --all] [--boxes] [--zoom N] [--lines FILE]
                [--format svg|png|pdf] [--program COMMAND] [-o FILE]
@@ -18,12 +18,10 @@ A character that the metrics lack is a box, and is told with its element.
 
 The program is crates/mathlay/out/mathlay of this repository, which `rt run` in crates/mathlay has proved and built, or else
 the installed `mathlay`. With --program, COMMAND is run in its place: words as a shell parts them, behind which
-`layout FILE.metrics TREE.json` is put.
+`layout FILE.metrics TREE.json` is put, and then `paint FILE.metrics TREE.json`.
 
-Glyphs stand on their baselines. A built mark is drawn as the parts of its assembly in the metrics' order, an extender as often as
-the mark says. Piece by piece, each begins where the last one ended, less the overlap: up from the mark's baseline, where the
-piece's ink begins, or to the right from the mark's start, where the piece's own start stands. A part's length is scaled to the
-mark's font size as the program scales it, to the nearest unit, ties upward.
+Glyphs and rules stand where the program's own SVG has them, which `mathlay paint` writes. The boxes and marks of `mathlay layout`
+say besides which of them are whose, for colours and for --boxes.
 """
 
 import sys

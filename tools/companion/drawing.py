@@ -14,6 +14,7 @@ from companion.looks import looks_of
 from companion.marks import read_marks
 from companion.mathml import read_formulas
 from companion.metrics import read_drawn
+from companion.painted import read_painted
 from companion.program import Inputs
 from companion.sources import Sources
 from companion.trees import Tree, made_tree
@@ -42,21 +43,21 @@ class Studio:
     program: list
 
     def picture(self, formula, prefix="g"):
-        """The picture of a formula, and the lines of its boxes and marks; raises a Fault."""
-        lines = self.lay_out(formula)
+        """The picture of a formula as the program paints it, and the lines of its boxes and marks; raises a Fault."""
+        lines, painted = self.ask("layout", formula), self.ask("paint", formula)
         self.tell_of_lacks(formula)
-        return svg.picture_of(read_marks(lines), self.outlines, prefix, looks_of(formula.root)), lines
+        return svg.picture_of(read_marks(lines), self.outlines, prefix, looks_of(formula.root), read_painted(painted)), lines
 
-    def lay_out(self, formula):
+    def ask(self, verb, formula):
         """What the program writes for a formula; raises a Fault."""
         if formula.file:
-            return program.run(self.program, "layout", Inputs(self.metrics, formula.file))
+            return program.run(self.program, verb, Inputs(self.metrics, formula.file))
         try:
             with tempfile.NamedTemporaryFile(suffix=".json") as tree:
                 tree.write(formula.tree.text().encode())
                 tree.flush()
                 inputs = Inputs(self.metrics, tree.name, None, str(formula.tree.places[0]), formula.tree.place)
-                return program.run(self.program, "layout", inputs)
+                return program.run(self.program, verb, inputs)
         except OSError as fault:
             raise Fault(f"{formula.name}: its tree can't be written: {command.reason(fault)}") from None
 

@@ -5,6 +5,7 @@ from html import escape
 
 from companion.enclosures import enclosure_lines, enclosure_span
 from companion.marks import Box, Built, Glyph, Rule, pieces_of
+from companion.painted import shared_out
 
 MARGIN = 2048
 PX = 1024
@@ -186,18 +187,25 @@ def rule_span(rule):
     return rule.x, rule.y, rule.x + rule.width, rule.y + rule.height
 
 
-def picture_of(marks, outlines, prefix="g", looks=None):
-    """The picture of what the program wrote for one formula. A mark is its element's, whose box stands before it."""
+def picture_of(marks, outlines, prefix="g", looks=None, painted=None):
+    """The picture of what the program wrote for one formula: of what it painted, where that is given, else of its marks as they
+    are read here. A mark is its element's, whose box stands before it."""
     boxes, drawn, colour, looks = [], [], "", looks or {}
+    if painted is None:
+        pieces = iter([pieces_of(mark, outlines.drawn) if isinstance(mark, Built) else [mark] for mark in inked(marks)])
+    else:
+        pieces = iter([pieces for _, pieces in shared_out(inked(marks), painted, outlines.drawn)])
     for mark in marks:
         if isinstance(mark, Box):
             boxes.append(mark)
             colour = looks[mark.id].colour if mark.id in looks else ""
-        elif isinstance(mark, Built):
-            drawn += [(piece, colour) for piece in pieces_of(mark, outlines.drawn)]
         else:
-            drawn.append((mark, colour))
+            drawn += [(piece, colour) for piece in next(pieces)]
     return Picture(boxes, drawn, looks, outlines, prefix)
+
+
+def inked(marks):
+    return [mark for mark in marks if not isinstance(mark, Box)]
 
 
 def renumbered(marks, first):

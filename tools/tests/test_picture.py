@@ -103,9 +103,23 @@ class Pictures(InFolder):
         self.tree = self.file("tree.json", '{"name":"math"}')
 
     def program(self, text, status=0):
-        """A command that writes this text and ends with this status."""
-        script = self.file("program.py", f"import sys\nsys.stdout.write({text!r})\nsys.exit({status})\n")
+        """A command that writes this text, or paints what it says, and ends with this status."""
+        written = f"{self.painted(text)!r} if sys.argv[1] == 'paint' else {text!r}"
+        script = self.file("program.py", f"import sys\nsys.stdout.write({written})\nsys.exit({status})\n")
         return f"{shlex.quote(sys.executable)} {shlex.quote(script)}"
+
+    def painted(self, text):
+        """The picture of boxes and marks, or the text itself where it isn't of these."""
+        from companion.metrics import read_drawn
+        try:
+            marks = read_marks(text)
+            pieces = [piece for mark in marks for piece in (pieces_of(mark, read_drawn(self.metrics)) if isinstance(mark, Built) else [mark])]
+        except Fault:
+            return text
+        lines = [f'<use href="#{it.name}" transform="translate({it.x} {it.y}) scale({it.size})"/>' if isinstance(it, Glyph) else
+                 f'<rect x="{it.x}" y="{it.y}" width="{it.width}" height="{it.height}"/>' for it in pieces
+                 if isinstance(it, Glyph) or not isinstance(it, Box) and it.width > 0 and it.height > 0]
+        return "\n".join(['<svg xmlns="http://www.w3.org/2000/svg" viewBox="0 0 1 1">', *lines, "</svg>", ""])
 
     def draw(self, text, *words):
         """The picture of what a program wrote, as an element."""
@@ -147,7 +161,9 @@ class Pictures(InFolder):
     def test_a_formula_in_mathml_or_in_a_page_is_laid_out_by_its_tree(self):
         told = self.file("told", "")
         echo = self.file("echo.py", f"import sys\nopen({told!r}, 'wb').write(open(sys.argv[3], 'rb').read())\n"
-                         "print('glyph 0 0 1024 one')\n")
+                         "mark = '<use href=\"#one\" transform=\"translate(0 0) scale(1024)\"/>'\n"
+                         "head = '<svg xmlns=\"http://www.w3.org/2000/svg\" viewBox=\"0 0 1 1\">'\n"
+                         "print('\\n'.join([head, mark, '</svg>']) if sys.argv[1] == 'paint' else 'glyph 0 0 1024 one')\n")
         program = f"{shlex.quote(sys.executable)} {shlex.quote(echo)}"
         tree = b'{"children":[{"name":"mi","text":"\xce\xb1"}],"name":"math"}\n'
         formula = b"<math><mi>&alpha;</mi></math>"
