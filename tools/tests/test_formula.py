@@ -48,7 +48,10 @@ class Formulas(InFolder):
         font = str(self.folder / "font.ttf")
         make_font(font, GLYPHS, {0x31: "one"})
         metrics = self.file("f.metrics", METRICS + "char 0031 one\n")
-        script = self.file("program.py", "print('box 1 math 0 0 100 0 0 0 0\\nglyph 0 0 16384 one')\n")
+        painted = '<svg xmlns="http://www.w3.org/2000/svg" viewBox="0 0 100 0">\n' \
+            '<use href="#one" transform="translate(0 0) scale(16384)"/>\n</svg>'
+        laid = "box 1 math 0 0 100 0 0 0 0\nglyph 0 0 16384 one"
+        script = self.file("program.py", f"import sys\nprint({painted!r} if sys.argv[1] == 'paint' else {laid!r})\n")
         words = ("1", "--font", font, "--program", f"{sys.executable} {script}")
         status, written, errors = run(formula, *words, "--metrics", metrics)
         self.assertEqual((status, written.count(b"<use"), errors), (0, 1, ""))

@@ -9,9 +9,10 @@ from xml.etree import ElementTree
 
 import picture
 from companion.command import Fault
-from companion.marks import Box, Built, Glyph, pieces_of, read_marks
+from companion.marks import Box, Built, Glyph, Rule, pieces_of, read_marks
 from companion.metrics import Drawn, Part
 from companion.metrics import Glyph as Measured
+from companion.painted import read_painted, shared_out
 from tests.common import TOP, InFolder, make_font, needs_font_tools, run
 
 # Of each glyph its advance, and its ink as left, bottom, right and top; 1,024 units an em.
@@ -91,6 +92,32 @@ class Pieces(InFolder):
         drawn = self.drawn()
         self.assertEqual((drawn.upem, drawn.glyphs["fix"]), (1024, Measured("fix", 300, 290, 10)))
         self.assertEqual(drawn.parts["v", "fix"], [Part("fix", False, 80, 80, 300), Part("bracket.ext", True, 80, 80, 200)])
+
+
+class Painted(InFolder):
+    HEAD = '<svg xmlns="http://www.w3.org/2000/svg" viewBox="0 -3 2 4">\n'
+    USE = '<use href="#one" transform="translate(-1 2) scale(3)"/>\n'
+    RECT = '<rect x="1" y="-2" width="3" height="4"/>\n'
+
+    def test_glyphs_and_rules(self):
+        self.assertEqual(read_painted(self.HEAD + self.USE + self.RECT + "</svg>\n"), [Glyph(-1, 2, 3, "one"), Rule(1, -2, 3, 4)])
+
+    def test_what_is_no_picture(self):
+        for text in ("", "range\n", self.HEAD, self.HEAD + self.USE, self.USE + "</svg>\n"):
+            with self.assertRaisesRegex(Fault, "painted no picture"):
+                read_painted(text)
+        with self.assertRaisesRegex(Fault, "neither a glyph nor a rule: <g/>"):
+            read_painted(self.HEAD + "<g/>\n</svg>\n")
+
+    def test_marks_get_what_was_painted_of_them(self):
+        from companion.metrics import read_drawn
+        drawn = read_drawn(self.file("f.metrics", METRICS))
+        marks = read_marks("glyph 0 0 16384 fix\nrule 0 0 5 0\nbuilt 0 8193 16384 block one 0 800\n")
+        painted = [Glyph(0, 0, 16384, "fix"), Glyph(0, 8193, 16384, "paren.bot"), Glyph(0, -607, 16384, "paren.top")]
+        self.assertEqual([pieces for _, pieces in shared_out(marks, painted, drawn)], [painted[:1], [], painted[1:]])
+        for other in (painted[:-1], [*painted, painted[0]]):
+            with self.assertRaisesRegex(Fault, "painted other marks than it laid out"):
+                shared_out(marks, other, drawn)
 
 
 @needs_font_tools
