@@ -37,9 +37,9 @@ use Rattle.commands.specs.declared.reply.Reply.{Reply}
 use Rattle.commands.specs.declared.reply.Reply.TheVariants.{Nothing, Accepted, Refused, Shown}
 
 -- where memory is refused nothing is said
-unmade : {E : Type 0} (wanted : Reply) (kept : Kept) (old new : RingState) (result : Result Reply E) → IsErr result → Makes wanted kept old new result
-unmade wanted kept old new (Ok reply) none = absurd (let e = none in cc)
-unmade wanted kept old new (Err e) none = record { reply = tt; glyphs = tt; after = tt }
+unmade : {E : Type 0} (wanted : Reply) (kept : Kept) (old new : RingState) (result : Result Reply E) → IsErr result → new ≡ old → Makes wanted kept old new result
+unmade wanted kept old new (Ok reply) none same = absurd (let e = none in cc)
+unmade wanted kept old new (Err e) none same = record { reply = tt; glyphs = tt; after = tt; unchanged = same }
 
 -- ---- moves
 
@@ -53,11 +53,11 @@ kept_of before moved after m d is =
     let same : moved ≡ after = same_Some moved after is in
     record { metrics = ap (λ (s : RingState). s.told.metrics) (sym same) ∙ m; depth = ap (λ (s : RingState). s.depth) (sym same) ∙ d }
 
-back_keeps : (before after : RingState) (es : List Edit) → back_over es before ≡ Some after → Keeps before after
+pub back_keeps : (before after : RingState) (es : List Edit) → back_over es before ≡ Some after → Keeps before after
 back_keeps before after [] h = absurd cc
 back_keeps before after (e ∷ es) h = kept_of before _ after refl refl h
 
-forth_keeps : (before after : RingState) (es : List Edit) → forth_over es before ≡ Some after → Keeps before after
+pub forth_keeps : (before after : RingState) (es : List Edit) → forth_over es before ≡ Some after → Keeps before after
 forth_keeps before after [] h = absurd cc
 forth_keeps before after (e ∷ es) h = kept_of before _ after refl refl h
 
@@ -87,6 +87,7 @@ module _ (way : RingState → Option RingState) (next : History → Option Histo
               ∙ sym (ap (λ o. moved_to o (kept_by before).history) m.history)) i;
           ring = sym (ap (λ o. unwrap_or o before) m.state) i;
         };
+        unchanged = tt;
       })
   moved_makes (Err HoldsNone) result m tells =
       let away : next (history_of before) ≡ None = m.nothing.0 refl in
@@ -97,8 +98,9 @@ module _ (way : RingState → Option RingState) (next : History → Option Histo
           history = sym (ap (λ o. moved_to o (kept_by before).history) away) i;
           ring = sym (ap (λ o. unwrap_or o before) (none away)) i;
         });
+        unchanged = tt;
       })
-  moved_makes (Err HasNoMemory) result m tells = unmade (reply_to_move (next (history_of before))) Then before after result tells
+  moved_makes (Err HasNoMemory) result m tells = unmade (reply_to_move (next (history_of before))) Then before after result tells m.unchanged
 
 pub undo_makes : {E : Type 0} (before after : RingState) (s t : ℕ) (moved : Result (Unit {0}) RingRefusal) (result : Result Reply E)
     → RingMoves TakesNeeded undone after_undo before after before.past s t moved → TellsMove moved result
@@ -143,16 +145,17 @@ module _ (session : SessionValue) (past future : List Edit) (depth : ℕ) (after
           history = record { history = e.history i; next_id = (e.told i).tree.next_id; metrics = (e.told i).metrics; depth = e.depth i };
           ring = record { told = e.told i; past = e.past i; future = e.future i; depth = e.depth i };
         }) ∙ sym (by_reply Accepted is);
+        unchanged = tt;
       })
   edit_makes (Err (Refuses reason)) result e tells =
       let is : wanted ≡ Refused (Unmade reason) = ap (λ refused. reply_by refused (before.told.is_good (edited session.tree edit).root)) e.refused.0 in
       subst (Makes wanted changed before after) (sym tells)
-      (record { reply = sym is; glyphs = tt; after = ap kept_by e.unchanged ∙ sym (by_reply (Refused (Unmade reason)) is) })
+      (record { reply = sym is; glyphs = tt; after = ap kept_by e.unchanged ∙ sym (by_reply (Refused (Unmade reason)) is); unchanged = tt })
   edit_makes (Err PassesRange) result e tells =
       let is : wanted ≡ Refused OutOfRange = λ i. reply_by (e.refused.0 i) (e.refused.1 i) in
       subst (Makes wanted changed before after) (sym tells)
-      (record { reply = sym is; glyphs = tt; after = ap kept_by e.unchanged ∙ sym (by_reply (Refused OutOfRange) is) })
-  edit_makes (Err LacksMemory) result e tells = unmade wanted changed before after result tells
+      (record { reply = sym is; glyphs = tt; after = ap kept_by e.unchanged ∙ sym (by_reply (Refused OutOfRange) is); unchanged = tt })
+  edit_makes (Err LacksMemory) result e tells = unmade wanted changed before after result tells e.unchanged
 
 -- ---- the boxes
 
@@ -165,6 +168,7 @@ show_makes session past future depth after items taken stands boxes unchanged = 
   reply = ap Shown boxes;
   glyphs = subst (All (IsOfFont session.metrics)) (sym boxes) (glyphs_known session.metrics session.tree taken stands.good);
   after = ap kept_by unchanged;
+  unchanged = tt;
 }
 
 -- ---- a line
@@ -179,6 +183,7 @@ nothing_made ring line white = record {
     history = sym (ap (λ (b : Bool). if b then (kept_by ring).history else after_move (move_in line) (kept_by ring).history (command_in line)) white) i;
     ring = sym (ap (λ (b : Bool). if b then ring else ring_after_move (move_in line) ring (command_in line)) white) i;
   };
+  unchanged = tt;
 }
 
 module _ {E : Type 0} (old new : RingState) (line : List ℕ) (result : Result Reply E) (black : is_white_space line ≡ false) where
@@ -237,7 +242,7 @@ module _ {E : Type 0} (old new : RingState) (line : List ℕ) (result : Result R
 
 pub nothing_asked : {E : Type 0} (old : RingState)
     → Makes {E = E} (reply_by_move Other (kept_by old).history None) (kept_after_move Other (kept_by old) None) old old (Ok (Refused NoCommand))
-nothing_asked old = record { reply = refl; glyphs = tt; after = refl }
+nothing_asked old = record { reply = refl; glyphs = tt; after = refl; unchanged = tt }
 
 pub asked_takes : (ring : RingState) (line : List ℕ) (asked : Option Command) (from to : ℕ) → command_in line ≡ asked
     → TakesForMove Other ring asked from to → TakesForMove Other ring (command_in line) from to

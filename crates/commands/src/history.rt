@@ -41,8 +41,9 @@ impl Respond for Ring<Undoable> {
     }
 }
 
-/// Does what a line of a script asks for, and says what is answered.
-fn reply_to<L: Ledger>(
+/// Does what a line of a script asks for, and says what is answered. Where memory is refused, the ring
+/// is as before.
+pub fn reply_to<L: Ledger>(
     alloc: Global,
     ring: &mut Ring<Undoable>,
     line: &[u8],
@@ -126,7 +127,7 @@ fn carry_out<L: Ledger>(
 }
 
 /// Shows the tree.
-fn show(alloc: Global, ring: &mut Ring<Undoable>) -> Result<Reply, Memory>
+pub fn show(alloc: Global, ring: &mut Ring<Undoable>) -> Result<Reply, Memory>
     ensures { Makes (reply_by_move Other (kept_by (ring_of ring.old)).history (Some Show))
         (kept_after_move Other (kept_by (ring_of ring.old)) (Some Show))
         (ring_of ring.old) (ring_of ring.new) result }
