@@ -22,6 +22,7 @@ use Rattle.edit_ring.specs.declared.ground.GroundRefusal.{GroundRefusal}
 use Rattle.edit_ring.specs.declared.ground.GroundRefusal.TheVariants.{Edit as Refuses, Range as PassesRange, Memory as LacksMemory}
 use Rattle.edit_ring.specs.declared.ring.RingRefusal.{RingRefusal}
 use Rattle.edit_ring.specs.declared.ring.RingRefusal.TheVariants.{Nothing as HoldsNone, Memory as HasNoMemory}
+use Rattle.session_ring.proofs.Commands.{no_move}
 use Rattle.session_ring.specs.Moves.{move_in}
 use Rattle.session_ring.specs.Undoable.{told}
 use Rattle.session_ring.specs.declared.moves.Move.{Move}
@@ -240,6 +241,32 @@ module _ {E : Type 0} (old new : RingState) (line : List ℕ) (result : Result R
   asked_makes asked is m =
       subst (λ (a : Option Command). Makes (reply_by_move Other (kept_by old).history a) (kept_after_move Other (kept_by old) a) old new result) (sym is) m
 
+-- the way that a line goes
+module _ {E : Type 0} (old new : RingState) (result : Result Reply E) where
+  pub way_makes : (move way : Move) → move ≡ way
+      → Makes (reply_by_move move (kept_by old).history None) (kept_after_move move (kept_by old) None) old new result
+      → Makes (reply_by_move way (kept_by old).history None) (kept_after_move way (kept_by old) None) old new result
+  way_makes move way is m =
+      subst (λ (w : Move). Makes (reply_by_move w (kept_by old).history None) (kept_after_move w (kept_by old) None) old new result) is m
+
+pub way_takes : (ring : RingState) (move way : Move) (from to : ℕ) → move ≡ way → TakesForMove move ring None from to → TakesForMove way ring None from to
+way_takes ring move way from to is steps = subst (λ (w : Move). TakesForMove w ring None from to) is steps
+
+-- a line that is a command goes no way through the history
+module _ {E : Type 0} (old new : RingState) (line : List ℕ) (result : Result Reply E) (black : is_white_space line ≡ false) where
+  pub command_makes : (command : Command) → command_in line ≡ Some command
+      → Makes (reply_by_move Other (kept_by old).history (Some command)) (kept_after_move Other (kept_by old) (Some command)) old new result
+      → Makes (reply_to (kept_by old).history line) (kept_after (kept_by old) line) old new result
+  command_makes command is m = line_makes old new line result black Other (sym (no_move line command is)) (asked_makes old new line result (Some command) is m)
+
+  -- and one that is none goes its way without one
+  pub step_makes : command_in line ≡ None
+      → Makes (reply_by_move (move_in line) (kept_by old).history None) (kept_after_move (move_in line) (kept_by old) None) old new result
+      → Makes (reply_to (kept_by old).history line) (kept_after (kept_by old) line) old new result
+  step_makes is m =
+      line_makes old new line result black (move_in line) refl
+      (subst (λ (a : Option Command). Makes (reply_by_move (move_in line) (kept_by old).history a) (kept_after_move (move_in line) (kept_by old) a) old new result) (sym is) m)
+
 pub nothing_asked : {E : Type 0} (old : RingState)
     → Makes {E = E} (reply_by_move Other (kept_by old).history None) (kept_after_move Other (kept_by old) None) old old (Ok (Refused NoCommand))
 nothing_asked old = record { reply = refl; glyphs = tt; after = refl; unchanged = tt }
@@ -247,6 +274,18 @@ nothing_asked old = record { reply = refl; glyphs = tt; after = refl; unchanged 
 pub asked_takes : (ring : RingState) (line : List ℕ) (asked : Option Command) (from to : ℕ) → command_in line ≡ asked
     → TakesForMove Other ring asked from to → TakesForMove Other ring (command_in line) from to
 asked_takes ring line asked from to is steps = subst (λ (a : Option Command). TakesForMove Other ring a from to) (sym is) steps
+
+-- the steps of a line that is a command, and of one that is none
+pub command_takes : (ring : RingState) (line : List ℕ) (command : Command) (from to : ℕ) → is_white_space line ≡ false → command_in line ≡ Some command
+    → TakesForMove Other ring (Some command) from to → TakesForLine ring line from to
+command_takes ring line command from to black is steps =
+    line_takes ring line Other from to black (sym (no_move line command is)) (asked_takes ring line (Some command) from to is steps)
+
+pub step_takes : (ring : RingState) (line : List ℕ) (from to : ℕ) → is_white_space line ≡ false → command_in line ≡ None
+    → TakesForMove (move_in line) ring None from to → TakesForLine ring line from to
+step_takes ring line from to black is steps =
+    line_takes ring line (move_in line) from to black refl
+    (subst (λ (a : Option Command). TakesForMove (move_in line) ring a from to) (sym is) steps)
 
 -- ---- no line changes the metrics
 
