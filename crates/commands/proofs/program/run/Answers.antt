@@ -6,7 +6,7 @@ use Rattle.commands.proofs.Limits.{asked_within}
 use Rattle.commands.proofs.program.run.Goals as goal
 
 pub answer-requires : goal.answer-requires
-answer-requires g c = asked_within _ _ c.in-Ok.ensures.ok
+answer-requires g c = record { limits = asked_within _ _ c.in-Ok.ensures.ok }
 
 pub returns-in-Err-clause-ends : goal.returns-in-Err-clause-ends
 returns-in-Err-clause-ends g c = usage_ends _ _ _ _ _ _ c.in-Err.ensures.err c.as_bytes.ensures.value c.deliver.ensures
