@@ -22,6 +22,7 @@ use Rattle.edit_ring.specs.declared.ground.GroundRefusal.{GroundRefusal}
 use Rattle.edit_ring.specs.declared.ground.GroundRefusal.TheVariants.{Edit as Refuses, Range as PassesRange, Memory as LacksMemory}
 use Rattle.edit_ring.specs.declared.ring.RingRefusal.{RingRefusal}
 use Rattle.edit_ring.specs.declared.ring.RingRefusal.TheVariants.{Nothing as HoldsNone, Memory as HasNoMemory}
+use Rattle.session_ring.proofs.Commands.{no_move}
 use Rattle.session_ring.specs.Moves.{move_in}
 use Rattle.session_ring.specs.Undoable.{told}
 use Rattle.session_ring.specs.declared.moves.Move.{Move}
@@ -37,9 +38,9 @@ use Rattle.commands.specs.declared.reply.Reply.{Reply}
 use Rattle.commands.specs.declared.reply.Reply.TheVariants.{Nothing, Accepted, Refused, Shown}
 
 -- where memory is refused nothing is said
-unmade : {E : Type 0} (wanted : Reply) (kept : Kept) (old new : RingState) (result : Result Reply E) → IsErr result → Makes wanted kept old new result
-unmade wanted kept old new (Ok reply) none = absurd (let e = none in cc)
-unmade wanted kept old new (Err e) none = record { reply = tt; glyphs = tt; after = tt }
+unmade : {E : Type 0} (wanted : Reply) (kept : Kept) (old new : RingState) (result : Result Reply E) → IsErr result → new ≡ old → Makes wanted kept old new result
+unmade wanted kept old new (Ok reply) none same = absurd (let e = none in cc)
+unmade wanted kept old new (Err e) none same = record { reply = tt; glyphs = tt; after = tt; unchanged = same }
 
 -- ---- moves
 
@@ -53,11 +54,11 @@ kept_of before moved after m d is =
     let same : moved ≡ after = same_Some moved after is in
     record { metrics = ap (λ (s : RingState). s.told.metrics) (sym same) ∙ m; depth = ap (λ (s : RingState). s.depth) (sym same) ∙ d }
 
-back_keeps : (before after : RingState) (es : List Edit) → back_over es before ≡ Some after → Keeps before after
+pub back_keeps : (before after : RingState) (es : List Edit) → back_over es before ≡ Some after → Keeps before after
 back_keeps before after [] h = absurd cc
 back_keeps before after (e ∷ es) h = kept_of before _ after refl refl h
 
-forth_keeps : (before after : RingState) (es : List Edit) → forth_over es before ≡ Some after → Keeps before after
+pub forth_keeps : (before after : RingState) (es : List Edit) → forth_over es before ≡ Some after → Keeps before after
 forth_keeps before after [] h = absurd cc
 forth_keeps before after (e ∷ es) h = kept_of before _ after refl refl h
 
@@ -87,6 +88,7 @@ module _ (way : RingState → Option RingState) (next : History → Option Histo
               ∙ sym (ap (λ o. moved_to o (kept_by before).history) m.history)) i;
           ring = sym (ap (λ o. unwrap_or o before) m.state) i;
         };
+        unchanged = tt;
       })
   moved_makes (Err HoldsNone) result m tells =
       let away : next (history_of before) ≡ None = m.nothing.0 refl in
@@ -97,8 +99,9 @@ module _ (way : RingState → Option RingState) (next : History → Option Histo
           history = sym (ap (λ o. moved_to o (kept_by before).history) away) i;
           ring = sym (ap (λ o. unwrap_or o before) (none away)) i;
         });
+        unchanged = tt;
       })
-  moved_makes (Err HasNoMemory) result m tells = unmade (reply_to_move (next (history_of before))) Then before after result tells
+  moved_makes (Err HasNoMemory) result m tells = unmade (reply_to_move (next (history_of before))) Then before after result tells m.unchanged
 
 pub undo_makes : {E : Type 0} (before after : RingState) (s t : ℕ) (moved : Result (Unit {0}) RingRefusal) (result : Result Reply E)
     → RingMoves TakesNeeded undone after_undo before after before.past s t moved → TellsMove moved result
@@ -143,16 +146,17 @@ module _ (session : SessionValue) (past future : List Edit) (depth : ℕ) (after
           history = record { history = e.history i; next_id = (e.told i).tree.next_id; metrics = (e.told i).metrics; depth = e.depth i };
           ring = record { told = e.told i; past = e.past i; future = e.future i; depth = e.depth i };
         }) ∙ sym (by_reply Accepted is);
+        unchanged = tt;
       })
   edit_makes (Err (Refuses reason)) result e tells =
       let is : wanted ≡ Refused (Unmade reason) = ap (λ refused. reply_by refused (before.told.is_good (edited session.tree edit).root)) e.refused.0 in
       subst (Makes wanted changed before after) (sym tells)
-      (record { reply = sym is; glyphs = tt; after = ap kept_by e.unchanged ∙ sym (by_reply (Refused (Unmade reason)) is) })
+      (record { reply = sym is; glyphs = tt; after = ap kept_by e.unchanged ∙ sym (by_reply (Refused (Unmade reason)) is); unchanged = tt })
   edit_makes (Err PassesRange) result e tells =
       let is : wanted ≡ Refused OutOfRange = λ i. reply_by (e.refused.0 i) (e.refused.1 i) in
       subst (Makes wanted changed before after) (sym tells)
-      (record { reply = sym is; glyphs = tt; after = ap kept_by e.unchanged ∙ sym (by_reply (Refused OutOfRange) is) })
-  edit_makes (Err LacksMemory) result e tells = unmade wanted changed before after result tells
+      (record { reply = sym is; glyphs = tt; after = ap kept_by e.unchanged ∙ sym (by_reply (Refused OutOfRange) is); unchanged = tt })
+  edit_makes (Err LacksMemory) result e tells = unmade wanted changed before after result tells e.unchanged
 
 -- ---- the boxes
 
@@ -165,6 +169,7 @@ show_makes session past future depth after items taken stands boxes unchanged = 
   reply = ap Shown boxes;
   glyphs = subst (All (IsOfFont session.metrics)) (sym boxes) (glyphs_known session.metrics session.tree taken stands.good);
   after = ap kept_by unchanged;
+  unchanged = tt;
 }
 
 -- ---- a line
@@ -179,6 +184,7 @@ nothing_made ring line white = record {
     history = sym (ap (λ (b : Bool). if b then (kept_by ring).history else after_move (move_in line) (kept_by ring).history (command_in line)) white) i;
     ring = sym (ap (λ (b : Bool). if b then ring else ring_after_move (move_in line) ring (command_in line)) white) i;
   };
+  unchanged = tt;
 }
 
 module _ {E : Type 0} (old new : RingState) (line : List ℕ) (result : Result Reply E) (black : is_white_space line ≡ false) where
@@ -235,13 +241,51 @@ module _ {E : Type 0} (old new : RingState) (line : List ℕ) (result : Result R
   asked_makes asked is m =
       subst (λ (a : Option Command). Makes (reply_by_move Other (kept_by old).history a) (kept_after_move Other (kept_by old) a) old new result) (sym is) m
 
+-- the way that a line goes
+module _ {E : Type 0} (old new : RingState) (result : Result Reply E) where
+  pub way_makes : (move way : Move) → move ≡ way
+      → Makes (reply_by_move move (kept_by old).history None) (kept_after_move move (kept_by old) None) old new result
+      → Makes (reply_by_move way (kept_by old).history None) (kept_after_move way (kept_by old) None) old new result
+  way_makes move way is m =
+      subst (λ (w : Move). Makes (reply_by_move w (kept_by old).history None) (kept_after_move w (kept_by old) None) old new result) is m
+
+pub way_takes : (ring : RingState) (move way : Move) (from to : ℕ) → move ≡ way → TakesForMove move ring None from to → TakesForMove way ring None from to
+way_takes ring move way from to is steps = subst (λ (w : Move). TakesForMove w ring None from to) is steps
+
+-- a line that is a command goes no way through the history
+module _ {E : Type 0} (old new : RingState) (line : List ℕ) (result : Result Reply E) (black : is_white_space line ≡ false) where
+  pub command_makes : (command : Command) → command_in line ≡ Some command
+      → Makes (reply_by_move Other (kept_by old).history (Some command)) (kept_after_move Other (kept_by old) (Some command)) old new result
+      → Makes (reply_to (kept_by old).history line) (kept_after (kept_by old) line) old new result
+  command_makes command is m = line_makes old new line result black Other (sym (no_move line command is)) (asked_makes old new line result (Some command) is m)
+
+  -- and one that is none goes its way without one
+  pub step_makes : command_in line ≡ None
+      → Makes (reply_by_move (move_in line) (kept_by old).history None) (kept_after_move (move_in line) (kept_by old) None) old new result
+      → Makes (reply_to (kept_by old).history line) (kept_after (kept_by old) line) old new result
+  step_makes is m =
+      line_makes old new line result black (move_in line) refl
+      (subst (λ (a : Option Command). Makes (reply_by_move (move_in line) (kept_by old).history a) (kept_after_move (move_in line) (kept_by old) a) old new result) (sym is) m)
+
 pub nothing_asked : {E : Type 0} (old : RingState)
     → Makes {E = E} (reply_by_move Other (kept_by old).history None) (kept_after_move Other (kept_by old) None) old old (Ok (Refused NoCommand))
-nothing_asked old = record { reply = refl; glyphs = tt; after = refl }
+nothing_asked old = record { reply = refl; glyphs = tt; after = refl; unchanged = tt }
 
 pub asked_takes : (ring : RingState) (line : List ℕ) (asked : Option Command) (from to : ℕ) → command_in line ≡ asked
     → TakesForMove Other ring asked from to → TakesForMove Other ring (command_in line) from to
 asked_takes ring line asked from to is steps = subst (λ (a : Option Command). TakesForMove Other ring a from to) (sym is) steps
+
+-- the steps of a line that is a command, and of one that is none
+pub command_takes : (ring : RingState) (line : List ℕ) (command : Command) (from to : ℕ) → is_white_space line ≡ false → command_in line ≡ Some command
+    → TakesForMove Other ring (Some command) from to → TakesForLine ring line from to
+command_takes ring line command from to black is steps =
+    line_takes ring line Other from to black (sym (no_move line command is)) (asked_takes ring line (Some command) from to is steps)
+
+pub step_takes : (ring : RingState) (line : List ℕ) (from to : ℕ) → is_white_space line ≡ false → command_in line ≡ None
+    → TakesForMove (move_in line) ring None from to → TakesForLine ring line from to
+step_takes ring line from to black is steps =
+    line_takes ring line (move_in line) from to black refl
+    (subst (λ (a : Option Command). TakesForMove (move_in line) ring a from to) (sym is) steps)
 
 -- ---- no line changes the metrics
 

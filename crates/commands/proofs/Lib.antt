@@ -11,5 +11,5 @@ mod RepliesLaws
 mod CoordinateWords
 mod DigitWords
 mod Limits
-mod Histories
+pub mod Histories
 mod Worked

@@ -23,7 +23,7 @@ use Rattle.queries.specs.declared.query.Query.{Query}
 use Rattle.queries.specs.declared.query.QueryRefusal.{QueryRefusal}
 use Rattle.commands.specs.Command.{Asked, Job, OverTree, Generates, Work, LaysOut, Edits, Checks, Asks, usage_line, Remembers}
 use Rattle.commands.specs.Script.{within, is_within}
-use Rattle.commands.specs.Replies.{each_reply, replies, by_session}
+use Rattle.commands.specs.Replies.{by_session}
 use Rattle.commands.specs.Refusals.{line_of, of_query, status_of}
 use Rattle.commands.specs.Responders.{Responder, all_replies, each_reply}
 use Rattle.commands.specs.HistorySteps.{by_history, kept_at_first}

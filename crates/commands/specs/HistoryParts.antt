@@ -1,5 +1,5 @@
 -- What becomes of a ring where a line of a script is answered, and what is answered.
-use Rattle.std.specs.Prelude.{◌≡◌, Option, Result, Ok, Err, IfOk, OnOk, IsErr}
+use Rattle.std.specs.Prelude.{◌≡◌, Option, Result, Ok, Err, IfOk, OnOk, OnErr, IsErr}
 use Rattle.tree_edits.specs.declared.command.Command.{Command}
 use Rattle.edit_ring.specs.Rings.{RingState}
 use Rattle.edit_ring.specs.declared.ground.GroundRefusal.{GroundRefusal}
@@ -21,12 +21,13 @@ kept_after_move move kept asked = record {
   ring = ring_after_move move kept.ring asked;
 }
 
--- the reply was made, and that is kept then; or memory was refused
+-- the reply was made, and that is kept then; or memory was refused, and nothing changed
 pub record Makes {E : Type 0} (wanted : Reply) (kept : Kept) (old new : RingState)
     (result : Result Reply E) : Type 0 where
   pub reply : IfOk result (λ reply. reply ≡ wanted)
   pub glyphs : IfOk result (IsReplyOfFont old.told.metrics)
   pub after : OnOk result (kept_by new ≡ kept)
+  pub unchanged : OnErr result (new ≡ old)
 
 -- how a move is told; want of memory ends the script
 abbrev pub TellsMove : {E : Type 0} → Result (Unit {0}) RingRefusal → Result Reply E → Type 0

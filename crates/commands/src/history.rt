@@ -1,8 +1,9 @@
 //! The lines of a script whose edits can be undone.
 ghost use Rattle.std.specs.Prelude.{Some, None};
 ghost use Rattle.tree_edits.specs.Applying.{IsProperEdit};
-ghost use Rattle.tree_edits.specs.Commands.{command_in};
+ghost use Rattle.tree_edits.specs.Commands.{IsProperCommand};
 ghost use Rattle.tree_edits.specs.declared.command.Command.TheVariants.{Show, Change};
+ghost use Rattle.session_ring.specs.Moves.{move_in};
 ghost use Rattle.session_ring.specs.declared.moves.Move.TheVariants.{Undo, Redo, Other};
 ghost use Rattle.commands.specs.History.{reply_by_move, reply_to};
 ghost use Rattle.commands.specs.HistoryParts.{Makes, TellsEdit, TellsMove, kept_after_move};
@@ -41,8 +42,9 @@ impl Respond for Ring<Undoable> {
     }
 }
 
-/// Does what a line of a script asks for, and says what is answered.
-fn reply_to<L: Ledger>(
+/// Does what a line of a script asks for, and says what is answered. Where memory is refused, the ring
+/// is as before.
+pub fn reply_to<L: Ledger>(
     alloc: Global,
     ring: &mut Ring<Undoable>,
     line: &[u8],
@@ -56,10 +58,32 @@ fn reply_to<L: Ledger>(
     if is_white_space(line) {
         return Ok(Reply::Nothing);
     }
+    match read_command(alloc, line) {
+        Ok(command) => carry_out(alloc, ring, command, steps),
+        Err(CommandRefusal::BadLine) => go(alloc, ring, line, steps),
+        Err(CommandRefusal::Memory) => Err(Memory),
+    }
+}
+
+/// Goes through the history as a line asks for that is no other command, or says that it asks for
+/// nothing.
+fn go<L: Ledger>(
+    alloc: Global,
+    ring: &mut Ring<Undoable>,
+    line: &[u8],
+    steps: &mut Steps<L>,
+) -> Result<Reply, Memory>
+    ensures made { Makes
+        (reply_by_move (move_in line.now) (kept_by (ring_of ring.old)).history None)
+        (kept_after_move (move_in line.now) (kept_by (ring_of ring.old)) None)
+        (ring_of ring.old) (ring_of ring.new) result }
+    ensures taken { TakesForMove (move_in line.now) (ring_of ring.old) None
+        steps.old steps.new }
+{
     match move_in(alloc, line) {
         Ok(Move::Undo) => undo(alloc, ring, steps),
         Ok(Move::Redo) => redo(alloc, ring, steps),
-        Ok(Move::Other) => carry_out(alloc, ring, line, steps),
+        Ok(Move::Other) => Ok(Reply::Refused(Cause::NoCommand)),
         Err(Memory) => Err(Memory),
     }
 }
@@ -103,30 +127,28 @@ fn told_move(moved: Result<(), RingRefusal>) -> Result<Reply, Memory>
     }
 }
 
-/// Does what the command of a line asks for, or says that it is none.
+/// Does what a command asks for.
 fn carry_out<L: Ledger>(
     alloc: Global,
     ring: &mut Ring<Undoable>,
-    line: &[u8],
+    command: Command,
     steps: &mut Steps<L>,
 ) -> Result<Reply, Memory>
+    requires { IsProperCommand command }
     ensures made { Makes
-        (reply_by_move Other (kept_by (ring_of ring.old)).history (command_in line.now))
-        (kept_after_move Other (kept_by (ring_of ring.old)) (command_in line.now))
+        (reply_by_move Other (kept_by (ring_of ring.old)).history (Some command))
+        (kept_after_move Other (kept_by (ring_of ring.old)) (Some command))
         (ring_of ring.old) (ring_of ring.new) result }
-    ensures taken { TakesForMove Other (ring_of ring.old) (command_in line.now)
-        steps.old steps.new }
+    ensures taken { TakesForMove Other (ring_of ring.old) (Some command) steps.old steps.new }
 {
-    match read_command(alloc, line) {
-        Ok(Command::Show) => show(alloc, ring),
-        Ok(Command::Change(edit)) => change(alloc, ring, edit, steps),
-        Err(CommandRefusal::BadLine) => Ok(Reply::Refused(Cause::NoCommand)),
-        Err(CommandRefusal::Memory) => Err(Memory),
+    match command {
+        Command::Show => show(alloc, ring),
+        Command::Change(edit) => change(alloc, ring, edit, steps),
     }
 }
 
 /// Shows the tree.
-fn show(alloc: Global, ring: &mut Ring<Undoable>) -> Result<Reply, Memory>
+pub fn show(alloc: Global, ring: &mut Ring<Undoable>) -> Result<Reply, Memory>
     ensures { Makes (reply_by_move Other (kept_by (ring_of ring.old)).history (Some Show))
         (kept_after_move Other (kept_by (ring_of ring.old)) (Some Show))
         (ring_of ring.old) (ring_of ring.new) result }

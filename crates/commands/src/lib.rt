@@ -17,7 +17,7 @@
 
 mod command; // the words of the command line
 pub mod laws; // of all scripts
-mod history; // the lines of a script whose edits can be undone
+pub mod history; // the lines of a script whose edits can be undone
 mod load; // the files
 mod numerals; // numbers among the words
 mod opening; // a session of two files' bytes

@@ -141,6 +141,13 @@ impl<G: Ground> Ring<G> {
         self.base.show(alloc)
     }
 
+    /// The ground, as it stands.
+    pub fn base(&self) -> &G
+        ensures { result.now ≡ self.now.base }
+    {
+        &self.base
+    }
+
     /// The metrics of the ground. It takes no memory.
     pub fn metrics(&self) -> &Metrics
         ensures exact { result.now ≡ (G.told self.now.base).metrics }

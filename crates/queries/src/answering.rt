@@ -31,7 +31,7 @@ pub fn answer_query(
 }
 
 /// The same on a page that is there.
-fn answer_over(
+pub fn answer_over(
     alloc: Global,
     session: &Session,
     placed: &Placed,
