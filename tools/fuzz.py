@@ -7,7 +7,7 @@
 Each case is some words and files, sound or hostile. Program and engine have to write the same bytes and end with the same
 status. Of each case where they don't, the kind and its number are told and the first line that differs; with --out a folder of
 that name gets the files, made as small as they can be made while something differs, with what both wrote. Kinds, of which all
-are tried where none is named: KINDS.
+but `long_histories` are tried where none is named: KINDS.
 
 With --harm the program runs alone, over real files whose bytes are changed. It fails where it is stopped by a signal, where it
 takes more than 2 s of processor time, and where its status isn't one of docs/FORMATS.md.
@@ -63,7 +63,7 @@ def main(arguments=None):
     words = parser.parse_args(arguments)
     if not os.access(words.program, os.X_OK):
         parser.error(f"{words.program} is no program")
-    kinds = words.kinds.split(",") if words.kinds else list(KINDS)
+    kinds = words.kinds.split(",") if words.kinds else [kind for kind in KINDS if WEIGHTS[kind]]
     unknown = [kind for kind in kinds if kind not in KINDS]
     if unknown:
         parser.error(f"no kind {unknown[0]}: there are {', '.join(KINDS)}")
@@ -74,7 +74,7 @@ def main(arguments=None):
 
 def run(words, kinds):
     """Runs all cases, tells what failed, and counts."""
-    order = [kind for kind in kinds for _ in range(WEIGHTS.get(kind, 1))]
+    order = [kind for kind in kinds for _ in range(WEIGHTS.get(kind) or 1)]
     numbers = range(words.first, words.first + words.count)
     jobs = [(words.program, words.seed, order[number % len(order)], number) for number in numbers]
     failed = 0

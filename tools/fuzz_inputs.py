@@ -9,7 +9,12 @@ from dataclasses import dataclass, field
 from pathlib import Path
 
 from second.dictionary import CATEGORIES
+from second.edits import Refused, edited
+from second.json_text import NotJson, read_json
 from second.metrics import CONSTANTS, CORNERS
+from second.script import NoCommand, command_in
+from second.tree import Tree
+from second.tree_reading import TreeFault, tree_of
 
 TOP = Path(__file__).resolve().parent.parent
 FOLDER = None  # in place of a file's bytes: a folder of that name
@@ -416,6 +421,69 @@ def histories(random):
     return Case([random.choice(["history"] * 9 + ["edit"]), depth, "m", "t", "s"], {"m": metrics(random), "t": root, "s": b"\n".join([*mixed, b'{"op":"show"}'])})
 
 
+def long_histories(random):
+    """The command `history` with a script of 1,000 lines: edits, mostly of elements that are there, undos and redos. What is shown
+    is that of a tree laid out afresh."""
+    root, depth, lines = tree(random), random.choice(["1", "3", "20", "1000"]), []
+    ways = Ways(root, int(depth))
+    while len(lines) < 999:
+        part = random.random()
+        if part < 0.2:
+            back = random.random() < 0.6
+            for _ in range(random.choice([1, 1, 1, 2, 3, 8])):
+                lines.append(b'{"op":"undo"}' if back else b'{"op":"redo"}')
+                ways.step(back)
+        elif part < 0.3:
+            lines.append(b'{"op":"show"}')
+        else:
+            lines.append(aimed(random, edit_line(random, 3), ways.ids()))
+            ways.edit(lines[-1])
+    return Case(["history", depth, "m", "t", "s"], {"m": metrics(random), "t": root, "s": b"\n".join([*lines[:999], b'{"op":"show"}'])})
+
+
+def aimed(random, line, ids):
+    """An edit mostly of an element that is there."""
+    try:
+        value = json.loads(line)
+    except ValueError:
+        return line
+    if isinstance(value, dict) and "node" in value and random.random() < 0.9:
+        value["node"] = random.choice(ids)
+    return json_bytes(random, value).replace(b"\n", b" ")
+
+
+class Ways:
+    """The trees that a script stands at, the ones before and the ones that were undone: which ids there are by then."""
+
+    def __init__(self, root, depth):
+        self.past, self.tree, self.future, self.depth = [], None, [], depth
+        try:
+            self.tree = tree_of(read_json(root))
+        except (NotJson, TreeFault):
+            pass
+
+    def ids(self):
+        found, left = [], [self.tree.root] if self.tree else []
+        while left:
+            node = left.pop()
+            found.append(node.id)
+            left += node.children
+        return found or [1]
+
+    def edit(self, line):
+        try:
+            made = edited(self.tree, command_in(line))
+        except (NoCommand, Refused, AttributeError):
+            return
+        self.past, self.tree, self.future = [*self.past, self.tree][-self.depth:], made, []
+
+    def step(self, back):
+        source, other = (self.past, self.future) if back else (self.future, self.past)
+        if source:
+            other.append(self.tree)
+            self.tree = Tree(source.pop().root, self.tree.next_id)
+
+
 def nested(random):
     """Deep trees, round the limits of levels and of JSON."""
     name = random.choice(["mrow", "msqrt", "msup", "mfrac", "foo", "mstyle", "mtd", "mover", "mpadded"])
@@ -460,7 +528,7 @@ def generated(random):
 
 KINDS = {
     each.__name__: each
-    for each in (formulas, borders, samples, edits, histories, kerns, pictures, pointers, selections, metrics_bytes, tree_bytes, script_bytes, nested, wide, words, generated)
+    for each in (formulas, borders, samples, edits, histories, long_histories, kerns, pictures, pointers, selections, metrics_bytes, tree_bytes, script_bytes, nested, wide, words, generated)
 }
-# How often a kind comes among others.
-WEIGHTS = {"formulas": 8, "borders": 3, "samples": 2, "edits": 6, "histories": 4, "kerns": 3, "pictures": 2, "pointers": 2, "selections": 2, "metrics_bytes": 4, "tree_bytes": 4, "script_bytes": 3, "nested": 2, "wide": 1, "words": 2, "generated": 1}
+# How often a kind comes among others; one that takes long comes only where it is named.
+WEIGHTS = {"formulas": 8, "borders": 3, "samples": 2, "edits": 6, "histories": 4, "long_histories": 0, "kerns": 3, "pictures": 2, "pointers": 2, "selections": 2, "metrics_bytes": 4, "tree_bytes": 4, "script_bytes": 3, "nested": 2, "wide": 1, "words": 2, "generated": 1}

@@ -200,7 +200,7 @@ class Editor:
             tables.next_cell(self)
         elif key in DIGITS or key == "." and self.is_beside_number():
             self.digit(key)
-        elif unicodedata.category(key)[0] == "L" or unicodedata.category(key) == "Nd":
+        elif unicodedata.category(key)[0] == "L" or unicodedata.category(key) == "Nd" or key in symbols.IDENTIFIERS:
             self.put([token("mi" if not key.isdigit() else "mn", key)])
         elif unicodedata.category(key)[0] in "SP":
             self.sign(symbols.KEYS.get(key, key))
@@ -288,9 +288,9 @@ class Editor:
         return self.make(plan, Caret(plan.id_of(inside), 0))
 
     def enter(self):
-        """In a table another row; else out of the place."""
+        """In a table the next row; else out of the place."""
         if tables.cell_of(self) is not None:
-            tables.add_row(self)
+            tables.next_row(self)
         else:
             self.leave()
 

@@ -15,7 +15,10 @@ PLACES = {
     "mover": ("the base", "what stands above"), "munderover": ("the base", "what stands below", "what stands above"),
 }
 SIGNS = {"−": "minus", "+": "plus", "=": "equals", "±": "plus or minus", "⋅": "times", "×": "times", "(": "open parenthesis",
-         ")": "close parenthesis", "√": "root", "∑": "sum", "∫": "integral", "<": "less than", ">": "greater than"}
+         ")": "close parenthesis", "√": "root", "∑": "sum", "∫": "integral", "<": "less than", ">": "greater than",
+         "\u2061": "of", "\u2062": "times", "\u2063": "comma", "\u2064": "plus"}
+# Operators that are read and not seen.
+UNSEEN = {"\u2061": "(of)", "\u2062": "(times)", "\u2063": "(comma)", "\u2064": "(plus)"}
 
 
 def element(node):
@@ -23,7 +26,7 @@ def element(node):
     if is_gap(node):
         return "gap"
     if node.name in TOKENS:
-        return f"{node.name} {node.text}"
+        return f"{node.name} {UNSEEN.get(node.text, node.text)}"
     spans = " ".join(f"{name} {node.attributes[name]}" for name in ("columnspan", "rowspan") if name in node.attributes)
     return f"{node.name} {spans}".strip()
 

@@ -8,6 +8,8 @@ CAPITALS = {"Gamma": "Γ", "Delta": "Δ", "Theta": "Θ", "Lambda": "Λ", "Xi": "
             "Psi": "Ψ", "Omega": "Ω"}
 LETTERS = {**GREEK, **VARIANTS, **CAPITALS, "infty": "∞", "partial": "∂", "nabla": "∇", "ell": "ℓ", "hbar": "ℏ", "emptyset": "∅",
            "aleph": "ℵ", "Re": "ℜ", "Im": "ℑ"}
+# Signs that stand for a thing of their own, and are no operators.
+IDENTIFIERS = set(LETTERS.values())
 OPERATORS = {
     "pm": "±", "mp": "∓", "times": "×", "cdot": "⋅", "div": "÷", "ast": "∗", "circ": "∘", "le": "≤", "leq": "≤", "ge": "≥", "geq": "≥",
     "ne": "≠", "neq": "≠", "equiv": "≡", "approx": "≈", "sim": "∼", "simeq": "≃", "cong": "≅", "propto": "∝", "ll": "≪", "gg": "≫",

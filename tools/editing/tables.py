@@ -108,6 +108,15 @@ def next_cell(editor):
     return add_column(editor)
 
 
+def next_row(editor):
+    """Into the row below, where nothing fills it; else a row is added there."""
+    now = here(editor)
+    below = now.below(now.cell.row + now.cell.rows)
+    if below and all(is_empty(cell.node) for cell in below):
+        return editor.go(editor.map.settled(Caret(below[0].node.id, 0)))
+    return add_row(editor)
+
+
 def add_row(editor):
     """A row below the caret's. A cell that spans over its place spans one row more."""
     now = here(editor)

@@ -265,6 +265,8 @@ function climb(event) {
   } else if (event.key === 'Enter' || event.key === ' ') {
     put({choose: Number(line.dataset.id)});
   } else {
+    // A character that is typed here goes to the formula.
+    if (event.key.length === 1 && !event.ctrlKey && !event.metaKey && !event.altKey) at('keys').focus();
     return;
   }
   event.preventDefault();

@@ -55,7 +55,9 @@ ROWS = [
     ([" ab", "Undo", "Redo"], "a b |"),
     ([" ab", "Home", " c", "Undo"], "| a b"),
     ([" \\matrix 1", "Tab", " 2", "Tab", " 3", "Tab", " 4"], "mtable(mtr(1, 2), mtr(3, 4 |))"),
-    ([" \\matrix 1", "Enter", " 2"], "mtable(mtr(1, gap), mtr(2 |, gap), mtr(gap, gap))"),
+    ([" \\matrix 1&2", "Enter", " 3&4"], "mtable(mtr(1, 2), mtr(3, 4 |))"),
+    ([" \\matrix 1", "Enter", " 2", "Enter", " 3"], "mtable(mtr(1, gap), mtr(2, gap), mtr(3 |, gap))"),
+    ([" \\matrix ", "ArrowDown", " 3", "ArrowUp", "Enter", " 2"], "mtable(mtr(gap, gap), mtr(2 |, gap), mtr(3, gap))"),
     ([" \\matrix 1&2&3"], "mtable(mtr(1, 2, 3 |), mtr(gap, gap, gap))"),
     ([" \\matrix 1&2", "ArrowDown", " \\delrow "], "mtable(mtr(| 1, 2))"),
     ([" \\matrix 1&2\\delcolumn "], "mtable(mtr(| 1), mtr(gap))"),
@@ -119,6 +121,13 @@ class Editing(unittest.TestCase):
         self.assertEqual([line[2] for line in state["tree"] if line[3]], ["mi b", "mi c"])
         _, state = typed(" d", page=page)
         self.assertEqual(told(page), "a d |")
+
+    def test_signs_in_the_tree(self):
+        page, state = typed(" ∞∂+")
+        self.assertEqual([line[2] for line in state["tree"]], ["math", "mi ∞", "mi ∂", "mo +"])
+        state = page.do(page.number + 1, [{"paste": "<math><mi>f</mi><mo>&#x2061;</mo><mi>x</mi></math>"}])
+        self.assertEqual([line[2] for line in state["tree"]][4:], ["mi f", "mo (of)", "mi x"])
+        self.assertTrue(state["formula"].endswith("plus f of x"))
 
     def test_what_is_pasted(self):
         page, _ = typed(" a")

@@ -211,6 +211,14 @@ class InBrowser(unittest.TestCase):
         self.assertNotEqual(self.browser.run(FOCUS), "page-keys")
         self.assertEqual(self.browser.run("return mathlay.done"), 3)
 
+    def test_what_is_typed_in_the_tree_goes_to_the_formula(self):
+        self.press(" a")
+        self.browser.keys("Tab")
+        self.assertEqual(self.browser.run(FOCUS), "math")
+        self.press(" b+")
+        self.assertEqual(self.browser.run(FOCUS), "page-keys")
+        self.assertEqual(self.browser.run(WORDS), "a b plus")
+
     def test_from_the_keyboard_alone(self):
         self.browser.keys("Tab")
         self.assertEqual(self.browser.run(FOCUS), "math")
