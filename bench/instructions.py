@@ -2,11 +2,11 @@
 """Counts the instructions of the built program, which repeat from run to run: of `layout` of 53,249 elements in groups of 64
 rows, and of one edit of a tree of 833.
 
-    python3 bench/instructions.py [PROGRAM]
+    python3 bench/instructions.py [PROGRAM..]
 
 PROGRAM is the file that `rt run` leaves in crates/mathlay/out/mathlay. It is run by `valgrind --tool=callgrind`, which has to be
-installed; an edit is the difference of a script of 2,500 edits and one of 500. Figures with their dates stand in
-bench/instructions.txt.
+installed; an edit is the difference of a script of 2,500 edits and one of 500. Of several programs each further one is told as a
+share of the first, too. Figures with their dates stand in bench/instructions.txt.
 """
 import json
 import os
@@ -37,18 +37,30 @@ def file_in(folder, name, text):
     return path
 
 
+def of_layout(program, folder):
+    """The instructions of a layout."""
+    large = file_in(folder, "large", json.dumps(tree(4_096, 64)))
+    return instructions([program, "layout", METRICS, large])
+
+
+def of_an_edit(program, folder):
+    """The instructions of an edit."""
+    value = tree(64, None)
+    small = file_in(folder, "small", json.dumps(value))
+    ids, _ = rows_of(value)
+    few, many = (
+        instructions([program, "edit", METRICS, small, file_in(folder, str(count), lines(edits(ids, count)))])
+        for count in (FEW, MANY))
+    return (many - few) / (MANY - FEW)
+
+
 def main():
-    program = sys.argv[1] if len(sys.argv) > 1 else PROGRAM
+    programs = sys.argv[1:] or [PROGRAM]
     with tempfile.TemporaryDirectory() as folder:
-        large = file_in(folder, "large", json.dumps(tree(4_096, 64)))
-        print(f"layout of 53,249 elements in groups of 64: {instructions([program, 'layout', METRICS, large]):,}")
-        value = tree(64, None)
-        small = file_in(folder, "small", json.dumps(value))
-        ids, _ = rows_of(value)
-        few, many = (
-            instructions([program, "edit", METRICS, small, file_in(folder, str(count), lines(edits(ids, count)))])
-            for count in (FEW, MANY))
-        print(f"an edit of 833 elements: {(many - few) / (MANY - FEW):,.0f}")
+        for name, count in (("layout of 53,249 elements in groups of 64", of_layout), ("an edit of 833 elements", of_an_edit)):
+            first, *others = (count(program, folder) for program in programs)
+            shares = "".join(f"; {other:,.0f}, {other / first:.4f} of it" for other in others)
+            print(f"{name}: {first:,.0f}{shares}", flush=True)
 
 
 def lines(values):

@@ -62,13 +62,14 @@ VALUES = {
     "depth": LENGTHS, "voffset": LENGTHS, "linethickness": LENGTHS, "scriptlevel": LEVELS, "displaystyle": TRUTHS, "stretchy": TRUTHS,
     "symmetric": TRUTHS, "largeop": TRUTHS, "movablelimits": TRUTHS, "accent": TRUTHS, "accentunder": TRUTHS,
     "form": ["prefix", "infix", "postfix", "PREFIX", "none", ""], "mathvariant": ["normal", "NORMAL", "italic", "bold"], "display": ["block", "BLOCK", "inline"],
-    "dir": ["ltr", "rtl", "RtL", ""], "data-x:y.z_1": ["", "é", "x" * 50],
+    "dir": ["ltr", "rtl", "rtl", "RtL", "LTR", "", " rtl", "auto"], "data-x:y.z_1": ["", "é", "x" * 50],
 }
 # Which attributes are likely on which elements; all of them may stand on any.
 LIKELY = {
     "mo": ["form", "stretchy", "symmetric", "largeop", "movablelimits", "lspace", "rspace", "minsize", "maxsize"], "mi": ["mathvariant"], "mfrac": ["linethickness"],
     "mspace": ["width", "height", "depth"], "mpadded": ["width", "height", "depth", "lspace", "voffset"], "munder": ["accentunder"], "mover": ["accent"],
-    "munderover": ["accent", "accentunder"], "mstyle": ["displaystyle", "scriptlevel", "mathsize"], "math": ["display", "displaystyle", "mathsize"],
+    "munderover": ["accent", "accentunder"], "mrow": ["dir"], "msqrt": ["dir"], "msubsup": ["dir"], "mtr": ["dir"],
+    "mstyle": ["dir", "displaystyle", "scriptlevel", "mathsize"], "math": ["display", "displaystyle", "mathsize"],
 }
 CHILDREN = {"mfrac": 2, "mroot": 2, "msub": 2, "msup": 2, "munder": 2, "mover": 2, "msubsup": 3, "munderover": 3}
 TOKENS = ["mi", "mn", "mo", "mo", "mo", "mtext", "ms", "mspace"]
@@ -89,8 +90,6 @@ def attributes_for(random, name):
     names = [each for each in LIKELY.get(name, []) if random.random() < 0.22]
     names += [random.choice(list(VALUES)) for _ in range(random.choice([0] * 12 + [1, 2]))]
     found = {each: random.choice(VALUES[each]) for each in names}
-    if found.get("dir", "").lower() == "rtl" and random.random() < 0.9:
-        del found["dir"]
     return found
 
 
@@ -141,6 +140,8 @@ def scripts_for(random, depth):
 
 def tree(random):
     root = element(random, 2, "math")
+    if random.random() < 0.2:
+        root.setdefault("attributes", {})["dir"] = "rtl"
     root["children"] = [element(random, random.choice([2, 3, 4, 5])) for _ in range(random.choice([1, 1, 2, 3, 6]))]
     return json_bytes(random, root)
 
@@ -379,6 +380,27 @@ def kerns(random):
     return Case([random.choice(["layout", "layout", "check"]), "m", "t"], {"m": b"\n".join(lines), "t": json_bytes(random, {"name": "math", "children": parents})})
 
 
+def directions(random):
+    """Trees in which many elements say their direction, and scripts that turn some of them round."""
+    root = json.loads(tree(random))
+    elements = list(walk(root))
+    for each in random.sample(elements, k=(len(elements) + 2) // 3):
+        each.setdefault("attributes", {})["dir"] = random.choice(VALUES["dir"])
+    lines = [direction_line(random, len(elements)) for _ in range(random.choice([1, 4, 12]))]
+    files = {"m": metrics(random), "t": json_bytes(random, root), "s": b"\n".join(lines)}
+    return Case(random.choice([["layout", "m", "t"], ["paint", "m", "t"], ["edit", "m", "t", "s"], ["history", "9", "m", "t", "s"]]), files)
+
+
+def direction_line(random, count):
+    """A line that sets a direction or takes it away, shows, undoes, or edits."""
+    if random.random() < 0.3:
+        return random.choice([b'{"op":"show"}', b'{"op":"show"}', b'{"op":"undo"}', edit_line(random, count).replace(b"\n", b" ")])
+    line = {"op": "attr", "node": random.randrange(1, count + 1), "name": "dir"}
+    if random.random() < 0.8:
+        line["value"] = random.choice(VALUES["dir"])
+    return json_bytes(random, line)
+
+
 def tree_bytes(random):
     """Real trees with changed bytes."""
     base = random.choice(REAL["tree"]) if random.random() < 0.5 else tree(random)
@@ -528,7 +550,7 @@ def generated(random):
 
 KINDS = {
     each.__name__: each
-    for each in (formulas, borders, samples, edits, histories, long_histories, kerns, pictures, pointers, selections, metrics_bytes, tree_bytes, script_bytes, nested, wide, words, generated)
+    for each in (formulas, borders, samples, edits, histories, long_histories, kerns, directions, pictures, pointers, selections, metrics_bytes, tree_bytes, script_bytes, nested, wide, words, generated)
 }
 # How often a kind comes among others; one that takes long comes only where it is named.
-WEIGHTS = {"formulas": 8, "borders": 3, "samples": 2, "edits": 6, "histories": 4, "long_histories": 0, "kerns": 3, "pictures": 2, "pointers": 2, "selections": 2, "metrics_bytes": 4, "tree_bytes": 4, "script_bytes": 3, "nested": 2, "wide": 1, "words": 2, "generated": 1}
+WEIGHTS = {"formulas": 8, "borders": 3, "samples": 2, "edits": 6, "histories": 4, "long_histories": 0, "kerns": 3, "directions": 3, "pictures": 2, "pointers": 2, "selections": 2, "metrics_bytes": 4, "tree_bytes": 4, "script_bytes": 3, "nested": 2, "wide": 1, "words": 2, "generated": 1}

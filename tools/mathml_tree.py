@@ -16,7 +16,7 @@ annotations are kept too. White space between elements is dropped. The format gi
 `annotation` alone: other text is refused, but inside an `annotation-xml` (which is never shown) it becomes an `mtext`.
 
 What the format refuses is told with its line and column: text or elements where none may stand, names that aren't in its form,
-`dir="rtl"`, more than 60 levels, 65,536 elements, 65,536 bytes in a text, or 4,194,304 bytes in all.
+more than 60 levels, 65,536 elements, 65,536 bytes in a text, or 4,194,304 bytes in all.
 """
 
 import sys

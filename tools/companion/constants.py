@@ -19,12 +19,14 @@ RadicalDegreeBottomRaisePercent
 # Percents of at most 200; every other constant is from -32768 to 65535.
 SCALE_DOWNS = ("ScriptPercentScaleDown", "ScriptScriptPercentScaleDown")
 
-# The characters that formulas are made of: letters and signs of text, Greek, and the blocks of mathematics.
+# The characters that formulas are made of: letters and signs of text, Greek and others, and the blocks of mathematics.
 MATHEMATICAL = (
     (0x0020, 0x007E, "Basic Latin"),
     (0x00A0, 0x024F, "Latin-1 Supplement, Latin Extended-A and -B"),
     (0x02B0, 0x036F, "Spacing Modifier Letters, Combining Diacritical Marks"),
     (0x0370, 0x052F, "Greek, Cyrillic"),
+    (0x05D0, 0x05EA, "letters of Hebrew"),
+    (0x0600, 0x06FF, "Arabic"),
     (0x2000, 0x206F, "General Punctuation"),
     (0x2070, 0x20FF, "Superscripts and Subscripts, Currency, Combining Marks for Symbols"),
     (0x2100, 0x214F, "Letterlike Symbols"),

@@ -61,8 +61,6 @@ class Maker:
         for name, value in found.items():
             self.take(node.place, checked_name(node.place, "attribute", name))
             self.take(node.place, value)
-        if node.attributes.get("dir", "").lower() == "rtl":
-            raise Fault(f"{node.place}: <{node.name}> runs from right to left, which isn't laid out yet")
         return found
 
     def content(self, node, annotated):

@@ -4,7 +4,7 @@ from typing import NamedTuple
 
 from .kinds import TEXT_ELEMENTS
 from .tree import LONGEST_TEXT, MOST_BYTES, MOST_ELEMENTS, MOST_LEVELS, Node, Tree
-from .words import byte_length, is_name, is_word
+from .words import byte_length, is_name
 
 LARGEST_NEXT_ID = 2**32
 
@@ -43,7 +43,6 @@ class SetAttribute(NamedTuple):
 
     def check(self, path):
         refuse_if(not is_name(self.name), "name")
-        refuse_if(self.value is not None and self.name == "dir" and is_word(self.value, "rtl"), "rtl")
         refuse_if(self.value is not None and byte_length(self.value) > LONGEST_TEXT, "long")
 
     def made(self, path, next_id):

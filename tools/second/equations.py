@@ -13,7 +13,7 @@ from .operators import operator
 from .padding import BORDER, cell_box, cell_start, error_box, padded_box, padded_rise, padded_start
 from .questions import COLUMNS, base_properties, has_moved_limits, kid_axes, pull_of
 from .radicals import root_with_index, square_root
-from .rows import RowKid, row_of
+from .rows import RowKid, mirrored, mirrored_row, row_of
 from .scripts import Corner, Corners, with_sub, with_sub_and_sup, with_sup
 from .spaces import space
 from .styles import child_style, font_size
@@ -46,6 +46,7 @@ class Element:
         self.metrics, self.node, self.context, self.kids = metrics, node, context, kids
         self.facts, self.size = facts_of(node), font_size(metrics, context.style)
         self.boxes = [kid.box for kid in kids]
+        self.is_rtl = context.style.is_rtl
 
     def says(self, name):
         return self.node.attributes.get(name)
@@ -54,7 +55,8 @@ class Element:
         """The children in a row, which shows the spaces of its operators unless it is an operator itself; the root always does."""
         shows_spaces = self.node.id == ROOT_ID or self.facts.core is None
         kids = [RowKid(kid.box, kid.before, kid.after, facts_of(kid.node).core is not None) for kid in self.kids]
-        return row_of(kids, shows_spaces)
+        row = row_of(kids, shows_spaces)
+        return mirrored_row(row, kids) if self.is_rtl else row
 
     def has_large_base(self):
         base = base_properties(self.metrics, self.facts, self.context)
@@ -69,11 +71,27 @@ class Element:
 
     def sub_corners(self, place=1):
         """Where the subscript at a place meets the base."""
-        return {"base_sub": self.corner(0, BOTTOM_RIGHT), "sub": self.corner(place, TOP_LEFT)}
+        right, left = (BOTTOM_RIGHT, TOP_LEFT) if not self.is_rtl else (BOTTOM_LEFT, TOP_RIGHT)
+        return {"base_sub": self.corner(0, right), "sub": self.corner(place, left)}
 
     def sup_corners(self, place=1):
         """Where the superscript at a place meets the base."""
-        return {"base_sup": self.corner(0, TOP_RIGHT), "sup": self.corner(place, BOTTOM_LEFT)}
+        right, left = (TOP_RIGHT, BOTTOM_LEFT) if not self.is_rtl else (TOP_LEFT, BOTTOM_RIGHT)
+        return {"base_sup": self.corner(0, right), "sup": self.corner(place, left)}
+
+    def turned(self, x, width, box):
+        """Where a part of a width begins in a box: in an element from right to left as seen from the other end."""
+        return mirrored(x, width, box.width) if self.is_rtl else x
+
+    def turned_places(self, places, box):
+        """The same of the children, by their places."""
+        return [(self.turned(x, kid.width, box), y) for (x, y), kid in zip(places, self.boxes)]
+
+    def turned_marks(self, root):
+        """The same of the surd of a radical and of its rule, which begins where the surd ends."""
+        surd, rule = root.marks
+        surd_x, rule_x = self.turned(surd.x, rule.x - surd.x, root.box), self.turned(rule.x, rule.width, root.box)
+        return surd._replace(x=surd_x), rule._replace(x=rule_x)
 
     def outcome(self, box, offsets, marks=(), cells=()):
         """An element with this box. Round an embellished one stand the spaces of the child that leads to its core."""
@@ -136,7 +154,8 @@ def padded_outcome(element):
 def square_root_outcome(element):
     row = element.row()
     root = square_root(element.metrics, row.box, element.context.style.is_display, element.size)
-    return element.outcome(root.box, along(row, *root.base), root.marks)
+    start = element.turned(root.base[0], row.box.width, root.box)
+    return element.outcome(root.box, along(row, start, root.base[1]), element.turned_marks(root))
 
 
 def cell_outcome(element):
@@ -166,7 +185,7 @@ def fraction_outcome(element):
 def root_outcome(element):
     base, index = element.boxes
     root = root_with_index(element.metrics, base, index, element.context.style.is_display, element.size)
-    return element.outcome(root.box, (root.base, root.index), root.marks)
+    return element.outcome(root.box, element.turned_places((root.base, root.index), root.box), element.turned_marks(root))
 
 
 # ---- scripts and limits
@@ -176,7 +195,7 @@ def sub_outcome(element):
     base, sub = element.boxes
     corners = Corners(**element.sub_corners())
     made = with_sub(element.metrics, base, element.has_large_base(), sub, element.size, corners)
-    return element.outcome(made.box, ((0, 0), made.sub))
+    return element.outcome(made.box, element.turned_places(((0, 0), made.sub), made.box))
 
 
 def sup_outcome(element):
@@ -184,7 +203,7 @@ def sup_outcome(element):
     is_cramped = element.context.style.is_cramped
     corners = Corners(**element.sup_corners())
     made = with_sup(element.metrics, base, element.has_large_base(), is_cramped, sup, element.size, corners)
-    return element.outcome(made.box, ((0, 0), made.sup))
+    return element.outcome(made.box, element.turned_places(((0, 0), made.sup), made.box))
 
 
 def sub_sup_outcome(element):
@@ -192,7 +211,7 @@ def sub_sup_outcome(element):
     is_cramped = element.context.style.is_cramped
     corners = Corners(**element.sub_corners(), **element.sup_corners(place=2))
     made = with_sub_and_sup(element.metrics, base, element.has_large_base(), is_cramped, sub, sup, element.size, corners)
-    return element.outcome(made.box, ((0, 0), made.sub, made.sup))
+    return element.outcome(made.box, element.turned_places(((0, 0), made.sub, made.sup), made.box))
 
 
 def multi_outcome(element):
@@ -204,7 +223,7 @@ def multi_outcome(element):
     ]
     is_cramped = element.context.style.is_cramped
     made = multi(element.metrics, base, element.has_large_base(), is_cramped, pairs, element.size)
-    return element.outcome(made.box, (made.base, *made.scripts))
+    return element.outcome(made.box, element.turned_places((made.base, *made.scripts), made.box))
 
 
 def limits_of(element, under, over):
@@ -246,7 +265,7 @@ def table_row_outcome(element):
     own, stretch = [box.width for box in element.boxes], element.context.stretch
     total, widths = stretch[1:] if stretch and stretch[0] == COLUMNS else (sum(own), own)
     row = row_of_cells(element.boxes, widths, total)
-    return element.outcome(row.box, along(row), cells=own)
+    return element.outcome(row.box, element.turned_places(along(row), row.box), cells=own)
 
 
 def table_outcome(element):

@@ -57,6 +57,18 @@ class Row(NamedTuple):
     offsets: list  # how far to the right each child begins
 
 
+def mirrored(x, width, whole):
+    """Where a part of a width begins from the left that begins there from the right, in a whole of another width."""
+    return whole - x - width
+
+
+def mirrored_row(row, kids):
+    """A row from right to left: its children stand as they did, seen from its end; an only child's accent is where it stands then."""
+    offsets = [mirrored(x, kid.box.width, row.box.width) for x, kid in zip(row.offsets, kids)]
+    accent = offsets[0] + kids[0].box.accent if len(kids) == 1 else row.box.accent
+    return Row(row.box._replace(accent=accent), offsets)
+
+
 def row_of(kids, shows_spaces):
     """Each child behind all widths, spaces and italic corrections before it.
 

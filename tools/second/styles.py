@@ -21,9 +21,10 @@ class Style(NamedTuple):
     depth: int
     is_display: bool
     is_cramped: bool
+    is_rtl: bool  # from right to left
 
 
-INITIAL = Style(base=16384, base_depth=0, depth=0, is_display=False, is_cramped=False)
+INITIAL = Style(base=16384, base_depth=0, depth=0, is_display=False, is_cramped=False, is_rtl=False)
 
 
 def root_style(metrics, root):
@@ -95,14 +96,23 @@ def by_name(kind, style):
 
 
 def by_attributes(metrics, parent, attributes, style):
-    """What `displaystyle`, `scriptlevel` and `mathsize` make of a style, below a parent of this style."""
+    """What `displaystyle`, `scriptlevel`, `dir` and `mathsize` make of a style, below a parent of this style."""
     is_display = truth_of(attributes.get("displaystyle"))
+    is_rtl = direction_of(attributes.get("dir"))
     level = level_of(attributes.get("scriptlevel"), parent.depth)
     style = style._replace(
         is_display=style.is_display if is_display is None else is_display,
         depth=min(DEEPEST, style.depth if level is None else level),
+        is_rtl=style.is_rtl if is_rtl is None else is_rtl,
     )
     return by_size(metrics, font_size(metrics, parent), attributes.get("mathsize"), style)
+
+
+def direction_of(text):
+    """Whether a direction is from right to left, or None where an attribute writes none."""
+    if text is None:
+        return None
+    return True if is_word(text, "rtl") else False if is_word(text, "ltr") else None
 
 
 def level_of(text, parent_depth):

@@ -2,11 +2,12 @@
 
 from .kinds import TEXT_ELEMENTS, kind_of
 from .tree import LONGEST_TEXT, MOST_BYTES, MOST_ELEMENTS, MOST_LEVELS, Node, Tree, bytes_of
-from .words import byte_length, is_name, is_white_space, is_word
+from .words import byte_length, is_name, is_white_space
 
 KEYS = {"name", "attributes", "children", "text"}
 
-(NOT_AN_OBJECT, BAD_NAME, NOT_MATH, UNKNOWN_KEY, BAD_ATTRIBUTES, BAD_TEXT, BAD_CHILDREN, TOO_DEEP, TOO_MANY, RIGHT_TO_LEFT, TOO_LONG) = range(1, 12)
+NOT_AN_OBJECT, BAD_NAME, NOT_MATH, UNKNOWN_KEY, BAD_ATTRIBUTES, BAD_TEXT, BAD_CHILDREN, TOO_DEEP, TOO_MANY = range(1, 10)
+TOO_LONG = 11
 
 
 class TreeFault(Exception):
@@ -51,7 +52,6 @@ class Reader:
         self.fault_if(not isinstance(name, str) or not is_name(name), BAD_NAME)
         self.fault_if(self.is_whole and self.count == 1 and name != "math", NOT_MATH)
         self.fault_if(not are_attributes(attributes), BAD_ATTRIBUTES)
-        self.fault_if(is_word(attributes.get("dir", ""), "rtl"), RIGHT_TO_LEFT)
         is_text = kind_of(name) in TEXT_ELEMENTS
         self.fault_if(not is_text_of(is_text, text), BAD_TEXT)
         self.fault_if(not isinstance(children, list) or (is_text and bool(children)), BAD_CHILDREN)

@@ -140,15 +140,15 @@ class Pages(InFolder):
     def test_broken_ones_are_told_and_left_and_the_others_go_on(self):
         good = "<math><mn>1</mn></math>"
         bad = ["<math><mi>x</mo></math>", '<math><mtext>refuse</mtext></math>', "<math><mtext>stop</mtext></math>",
-               "<math><mrow>1</mrow></math>", '<math><mrow dir="rtl"></mrow></math>']
+               "<math><mrow>1</mrow></math>"]
         text = good + "\n" + "".join(f"{each}{good}\n" for each in bad)
         status, written, told = self.made(text)
         self.assertEqual(status, 1)
         for each in bad:
             self.assertIn(each.encode(), written)
-        self.assertEqual(written.count(b'role="img"'), 6)
+        self.assertEqual(written.count(b'role="img"'), 5)
         for line, words in ((2, "</mo> comes where"), (3, "refused range: a number of the edited tree's layout would be out of range"),
-                            (4, "memory was refused"), (5, "text inside <mrow>"), (6, "runs from right to left")):
+                            (4, "memory was refused"), (5, "text inside <mrow>")):
             [found] = [each for each in told if f"in.html:{line}:" in each and words in each]
             self.assertTrue(found.endswith("; it is left as it stood"), found)
 

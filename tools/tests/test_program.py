@@ -6,9 +6,11 @@ import ctypes
 import os
 import resource
 import select
+import shutil
 import subprocess
 import sys
 import unittest
+from pathlib import Path
 
 from tests.common import TOP, InFolder
 
@@ -65,6 +67,36 @@ TALK = [
     (b'{"op":"remove","node":1}\n', b"refused root\n"),
     (b"Hello?\n", b"refused line\n"),
 ]
+# Edits of every kind, of which some are undone and redone: at the end of what is kept, after refusals and after new edits too.
+KERNS = FILES["m"].replace("metrics 1", "metrics 2") + "glyph x 400 500 10\nchar 0078 x\nkern x TR -20 100 5\n"
+GROWN = """{"name":"math","children":[{"name":"mi","text":"x"},{"name":"mo","text":"+"},{"name":"msup","children":[
+{"name":"mi","text":"x"},{"name":"mn","text":"2"}]}]}"""
+EDITS = """{"op":"text","node":2,"text":"abc"}
+{"op":"attr","node":4,"name":"mathsize","value":"2em"}
+{"op":"undo"}
+{"op":"redo"}
+{"op":"insert","node":1,"index":0,"element":{"name":"mfrac","children":[{"name":"mn","text":"1"},{"name":"mi","text":"x"}]}}
+{"op":"remove","node":4}
+{"op":"undo"}
+{"op":"show"}
+{"op":"replace","node":4,"element":{"name":"msqrt","children":[{"name":"mn","text":"7"}]}}
+{"op":"attr","node":2,"name":"mathsize","value":"2000px"}
+{"op":"undo"}
+{"op":"undo"}
+{"op":"redo"}
+{"op":"remove","node":99}
+{"op":"undo"}
+{"op":"undo"}
+{"op":"undo"}
+{"op":"redo"}
+{"op":"redo"}
+{"op":"text","node":2,"text":"y"}
+{"op":"redo"}
+{"op":"show"}
+"""
+# Runs whose memory is refused.
+HUNGRY = (
+    ["layout", "m", "t"], ["paint", "m", "t"], ["select", "m", "t", "2", "5"], ["edit", "m", "t", "s"], ["history", "3", "m", "t", "s"])
 # How long the program may be silent before a conversation counts as broken off, in seconds.
 SILENCE = 120
 # Runs the words that it is given, and tells their status and the most memory that they had, in KiB. It is a process of its own,
@@ -161,3 +193,35 @@ class Program(InFolder):
         with open(self.folder / "many", "w", encoding="utf-8") as many:
             many.writelines([line] * 65_536)
         self.assertLess(self.peak("many"), self.peak("one") + SLACK)
+
+
+@unittest.skipUnless(PROGRAM.is_file(), f"{PROGRAM.relative_to(TOP)} isn't there: `rt ci` builds it")
+@unittest.skipUnless(shutil.which("cc"), "cc is missing, which compiles what refuses memory")
+class RefusedMemory(InFolder):
+    """Every piece of memory that a run asks for is refused in turn."""
+
+    def setUp(self):
+        super().setUp()
+        for name, text in (("m", KERNS), ("t", GROWN), ("s", EDITS)):
+            self.file(name, text)
+        self.preload = str(self.folder / "refuse.so")
+        source = Path(__file__).resolve().parent / "refuse.c"
+        subprocess.run(["cc", "-shared", "-fPIC", "-O1", source, "-o", self.preload], check=True)
+
+    def ended(self, words, number):
+        """The status and the bytes of a run whose request for memory of that number is refused, and what it tells."""
+        environment = {"LD_PRELOAD": self.preload, "REFUSE": str(number)}
+        ran = subprocess.run([PROGRAM, *words], cwd=self.folder, capture_output=True, timeout=60, env=environment)
+        return ran.returncode, ran.stdout, ran.stderr
+
+    def test_a_front_and_status_7(self):
+        for words in HUNGRY:
+            status, whole, told = self.ended(words, 0)
+            self.assertEqual(status, 0)
+            if not told:
+                self.skipTest(f"{PROGRAM.relative_to(TOP)} brings an allocator of its own, as what `rt try` compiles does")
+            for number in range(1, int(told) + 1):
+                status, front, errors = self.ended(words, number)
+                self.assertEqual((words, number, status, errors), (words, number, 7, b""))
+                self.assertTrue(whole.startswith(front), (words, number, front))
+            self.assertGreater(int(told), 100)

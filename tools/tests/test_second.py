@@ -94,6 +94,16 @@ class SecondEngine(unittest.TestCase):
         self.assertEqual(run("check", "m", "t", m=SMALL + b"kern one TR 0", t=ONE), (3, b"metrics 8 3\n"))
         self.assertEqual(run("check", "m", "t", m=SMALL.replace(b"metrics 1", b"metrics 3"), t=ONE), (3, b"metrics 1 2\n"))
 
+    def test_from_right_to_left(self):
+        sample = (TOP / "crates" / "run_cases" / "data" / "sample.metrics").read_bytes()
+        tree = b'{"name":"math","attributes":{"dir":"RTL"},"children":[{"name":"msqrt","children":[{"name":"mn","text":"1"}]}]}'
+        written = run("layout", "m", "t", m=sample, t=tree)[1]
+        self.assertIn(b"\nglyph 8192 320 16384 surd\nrule 0 -12480 8192 640\nbox 3 mn 0 0 8192 ", written)
+        tree = b'{"name":"math","children":[{"name":"mn","text":"1"},{"name":"mi","text":"x"}]}'
+        script = b'{"op":"attr","node":1,"name":"dir","value":"rtl"}\n{"op":"show"}\n'
+        written = run("edit", "m", "t", "s", m=sample, t=tree, s=script)[1]
+        self.assertTrue(written.startswith(b"ok\nshown\nbox 1 math 0 0 17472 14400 4800 10880 128\nbox 2 mn 9280 0 "))
+
     def test_every_sample_is_laid_out_with_its_own_font(self):
         font = read_metrics(FONT)
         for path in sorted(SAMPLES.glob("*.json")):
