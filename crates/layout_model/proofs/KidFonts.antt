@@ -50,7 +50,7 @@ module _ (m : MetricsValue) (seen : Seen) (context : Context) where
   second_in AsRow rows = asked_in _
   second_in AsLimits rows = asked_in _
 
-  both_in : (one : List Answer) → All (InPlace m seen context) (both_waves m seen context one)
+  pub both_in : (one : List Answer) → All (InPlace m seen context) (both_waves m seen context one)
   unfolding first second
   both_in one =
       All-append (InPlace m seen context) (first m seen context) (second m seen context one) (asked_in _)
