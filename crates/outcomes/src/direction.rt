@@ -12,7 +12,7 @@ use font_metrics::{Corner, Mark};
 use layout_model::Offset;
 
 /// Where a part of a width begins in a whole, seen from the other end of the whole, in units.
-#[tactic(auto, unfolding(layout_model::specs::Direction::mirrored))]
+#[tactic(auto, using(fixed_units::proofs::Signed::from_bits), unfolding(layout_model::specs::Direction::mirrored))]
 pub fn mirrored(whole: i64, part: i128, x: i64) -> i128
     requires { IsWithin (2 ^ 66) part }
     ensures { result ≡ mirrored whole part x }
@@ -25,7 +25,7 @@ const REACH: i128 = 1 << 60;
 
 /// Where a part begins in an element, where it is laid out from left to right at `x`. A place past what can be
 /// stored is told as one that can't be stored either.
-#[tactic(auto, unfolding(crate::specs::Reach::reached))]
+#[tactic(auto, using(fixed_units::proofs::Signed::from_bits), unfolding(crate::specs::Reach::reached))]
 pub fn turned(rtl: bool, whole: i64, part: i128, x: i64) -> i64
     requires { IsWithin (2 ^ 66) part }
     ensures { result ≡ reached (turned rtl whole part x) }

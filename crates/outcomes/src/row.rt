@@ -160,7 +160,7 @@ fn row_x<V: View>(e: &Element<V>, row: &Row, index: usize) -> i64
 }
 
 /// The box of a row: from right to left the accent of an only child is where that stands.
-#[tactic(auto, unfolding(layout_model::specs::Elements::row_frame))]
+#[tactic(auto, using(fixed_units::proofs::Signed::from_bits), unfolding(layout_model::specs::Elements::row_frame))]
 fn row_frame<V: View>(e: &Element<V>, row: &Row) -> MathBox
     requires { IsRowWithin row.now }
     ensures { result ≡ row_frame e.now row.now }
