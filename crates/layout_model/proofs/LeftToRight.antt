@@ -270,7 +270,7 @@ unfolding questions kid_style
 asked_left m node context question child asks other h =
     let one = map (answer_of m node) (first m (seen_of node) context) in
     let style : question.context.style ≡ kid_style m (seen_of node) context.style question.kid =
-    All-contains _ (both_waves m (seen_of node) context one) question (both_in m (seen_of node) context one) asks.asked in
+    All-contains (λ (q : Question). q.context.style ≡ kid_style m (seen_of node) context.style q.kid) (both_waves m (seen_of node) context one) question (both_in m (seen_of node) context one) asks.asked in
     let kid = shown node question.kid child asks.to in
     let place = place_of (seen_of node) question.kid in
     ap (λ (s : Style). s.rtl) style

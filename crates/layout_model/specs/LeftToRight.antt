@@ -90,19 +90,19 @@ forward_corner e corner index =
 
 abbrev pub forward_sub : Element → Outcome
 forward_sub e =
-    let from = record { base_sub = forward_corner e BottomRight 0; sub = forward_corner e TopLeft 1; base_sup = None; sup = None } in
+    let from : KernFrom = record { base_sub = forward_corner e BottomRight 0; sub = forward_corner e TopLeft 1; base_sup = None; sup = None } in
     let scripted = sub_of e.metrics (frame_at e 0) (has_large_base e) (frame_at e 1) from (font e) in
     outcome e scripted.frame (offset 0 (pos 0) (pos 0) ∷ offset 1 scripted.sub.x scripted.sub.y ∷ []) []
 
 abbrev pub forward_sup : Element → Outcome
 forward_sup e =
-    let from = record { base_sub = None; sub = None; base_sup = forward_corner e TopRight 0; sup = forward_corner e BottomLeft 1 } in
+    let from : KernFrom = record { base_sub = None; sub = None; base_sup = forward_corner e TopRight 0; sup = forward_corner e BottomLeft 1 } in
     let scripted = sup_of e.metrics (frame_at e 0) (has_large_base e) e.context.style.cramped (frame_at e 1) from (font e) in
     outcome e scripted.frame (offset 0 (pos 0) (pos 0) ∷ offset 1 scripted.sup.x scripted.sup.y ∷ []) []
 
 abbrev pub forward_sub_sup : Element → Outcome
 forward_sub_sup e =
-    let from = record {
+    let from : KernFrom = record {
       base_sub = forward_corner e BottomRight 0;
       sub = forward_corner e TopLeft 1;
       base_sup = forward_corner e TopRight 0;

@@ -6,5 +6,6 @@ mod Kids
 mod Lasts
 mod Leaves
 mod Lists
+mod Reach
 mod Roots
 mod RowBounds

@@ -90,26 +90,33 @@ all_same test f h (x ∷ xs) e =
 
 -- ---- outcomes
 
--- where offsets and marks are told as far as places reach
-pub told : (e : Element) (frame : MathBox) (cells : List ℤ) (offsets : List Offset) (marks : List Mark)
-    → IsOutcome (outcome_with e frame cells offsets marks) (outcome_with e frame cells (map offset_reached offsets) (map mark_reached marks))
-unfolding outcome_with outcome_fits
-told e frame cells offsets marks = by (outcome_fits exact) refl
-  where
-    exact : Outcome
-    exact = outcome_with e frame cells offsets marks
+-- which is the same where it can be stored, and else can't be stored either
+told_by : (exact made : Outcome) (fits : Bool) → outcome_fits exact ≡ fits → (outcome_fits exact ≡ true → made ≡ exact)
+    → outcome_fits made ≡ outcome_fits exact → IsOutcome exact made
+told_by exact made true e same alike = inl (same e)
+told_by exact made false e same alike = inr (e, alike ∙ e)
 
-    made : Outcome
-    made = outcome_with e frame cells (map offset_reached offsets) (map mark_reached marks)
+module _ (e : Element) (frame : MathBox) (cells : List ℤ) (offsets : List Offset) (marks : List Mark) where
+  abbrev exact : Outcome
+  exact = outcome_with e frame cells offsets marks
 
-    alike : outcome_fits made ≡ outcome_fits exact
-    unfolding exact made
-    alike = λ i. answer_fits exact.answer && all_alike offset_fits offset_reached offset_alike offsets i && all_alike mark_fits mark_reached mark_alike marks i
+  abbrev made : Outcome
+  made = outcome_with e frame cells (map offset_reached offsets) (map mark_reached marks)
 
-    by : (fits : Bool) → outcome_fits exact ≡ fits → IsOutcome exact made
-    unfolding exact made
-    by true fits =
-        let parts = and_parts (answer_fits exact.answer && list_all offset_fits offsets) (list_all mark_fits marks) fits in
-        let two = and_parts (answer_fits exact.answer) (list_all offset_fits offsets) parts.0 in
-        inl (λ i. outcome_with e frame cells (all_same offset_fits offset_reached offset_same offsets two.1 i) (all_same mark_fits mark_reached mark_same marks parts.1 i))
-    by false fits = inr (fits, alike ∙ fits)
+  made_alike : outcome_fits made ≡ outcome_fits exact
+  unfolding outcome_with outcome_fits
+  made_alike =
+      λ i. answer_fits exact.answer && all_alike offset_fits offset_reached offset_alike offsets i
+      && all_alike mark_fits mark_reached mark_alike marks i
+
+  made_same : outcome_fits exact ≡ true → made ≡ exact
+  unfolding outcome_with outcome_fits
+  made_same fits =
+      let parts = and_parts (answer_fits exact.answer && list_all offset_fits offsets) (list_all mark_fits marks) fits in
+      let two = and_parts (answer_fits exact.answer) (list_all offset_fits offsets) parts.0 in
+      λ i. outcome_with e frame cells (all_same offset_fits offset_reached offset_same offsets two.1 i)
+      (all_same mark_fits mark_reached mark_same marks parts.1 i)
+
+  -- where offsets and marks are told as far as places reach
+  pub told : IsOutcome exact made
+  told = told_by exact made (outcome_fits exact) refl made_same made_alike

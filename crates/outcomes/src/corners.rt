@@ -39,11 +39,12 @@ pub fn sub_corners<V: View>(alloc: Global, e: &Element<V>) -> Result<KernFrom, M
     if e.metrics().has_no_kerns() {
         return Ok(NO_CORNERS);
     }
+    let rtl = e.context().style.rtl;
     let base = alone_at(alloc, e, 0)?;
     let sub = alone_at(alloc, e, 1)?;
     Ok(KernFrom {
-        base_sub: corner_of(e.context().style.rtl, base, BASE_OF_SUB),
-        sub: corner_of(e.context().style.rtl, sub, SUB),
+        base_sub: corner_of(rtl, base, BASE_OF_SUB),
+        sub: corner_of(rtl, sub, SUB),
         base_sup: None,
         sup: None,
     })
@@ -57,13 +58,14 @@ pub fn sup_corners<V: View>(alloc: Global, e: &Element<V>) -> Result<KernFrom, M
     if e.metrics().has_no_kerns() {
         return Ok(NO_CORNERS);
     }
+    let rtl = e.context().style.rtl;
     let base = alone_at(alloc, e, 0)?;
     let sup = alone_at(alloc, e, 1)?;
     Ok(KernFrom {
         base_sub: None,
         sub: None,
-        base_sup: corner_of(e.context().style.rtl, base, BASE_OF_SUP),
-        sup: corner_of(e.context().style.rtl, sup, SUP),
+        base_sup: corner_of(rtl, base, BASE_OF_SUP),
+        sup: corner_of(rtl, sup, SUP),
     })
 }
 
@@ -75,14 +77,15 @@ pub fn sub_sup_corners<V: View>(alloc: Global, e: &Element<V>) -> Result<KernFro
     if e.metrics().has_no_kerns() {
         return Ok(NO_CORNERS);
     }
+    let rtl = e.context().style.rtl;
     let base = alone_at(alloc, e, 0)?;
     let sub = alone_at(alloc, e, 1)?;
     let sup = alone_at(alloc, e, 2)?;
     Ok(KernFrom {
-        base_sub: corner_of(e.context().style.rtl, base, BASE_OF_SUB),
-        sub: corner_of(e.context().style.rtl, sub, SUB),
-        base_sup: corner_of(e.context().style.rtl, base, BASE_OF_SUP),
-        sup: corner_of(e.context().style.rtl, sup, SUP),
+        base_sub: corner_of(rtl, base, BASE_OF_SUB),
+        sub: corner_of(rtl, sub, SUB),
+        base_sup: corner_of(rtl, base, BASE_OF_SUP),
+        sup: corner_of(rtl, sup, SUP),
     })
 }
 
