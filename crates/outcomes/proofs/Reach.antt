@@ -9,6 +9,7 @@ use Rattle.fixed_units.specs.declared.boxes.MathBox.{MathBox}
 use Rattle.fixed_units.proofs.Signed.{signed}
 use Rattle.font_metrics.specs.declared.mark.Mark.{Mark}
 use Rattle.font_metrics.specs.declared.mark.Mark.TheVariants.{Glyph, Rule, Built}
+use Rattle.layout_model.specs.Direction.{mirrored, turned}
 use Rattle.layout_model.specs.Elements.{Element, outcome_with}
 use Rattle.layout_model.specs.Range.{answer_fits, mark_fits, offset_fits, outcome_fits}
 use Rattle.layout_model.specs.declared.outcome.Offset.{Offset}
@@ -44,6 +45,17 @@ stored_alike x = by (is_stored (reached x)) (is_stored x) refl refl
     by true meant e f = ap is_stored (stored_back x e)
     by false true e f = ap is_stored (stored_same x f)
     by false false e f = e ∙ sym f
+
+pub reached_in : (x : ℤ) → IsWithin (2 ^ 60) (reached x)
+unfolding reached
+reached_in x = record { low = omega (arith, signed); high = omega (arith, signed) }
+
+-- where a part begins in an element that isn't too wide
+pub turned_in : (rtl : Bool) (whole part x : ℤ) → IsWithin (2 ^ 52) whole → IsWithin (2 ^ 52) part → IsWithin (2 ^ 52) x
+    → IsWithin (2 ^ 54) (turned rtl whole part x)
+unfolding mirrored
+turned_in true whole part x w p h = record { low = omega (arith, signed, w.low, w.high, p.low, p.high, h.low, h.high); high = omega (arith, signed, w.low, w.high, p.low, p.high, h.low, h.high) }
+turned_in false whole part x w p h = record { low = omega (arith, signed, h.low, h.high); high = omega (arith, signed, h.low, h.high) }
 
 -- ---- offsets and marks
 
@@ -120,3 +132,21 @@ module _ (e : Element) (frame : MathBox) (cells : List ℤ) (offsets : List Offs
   -- where offsets and marks are told as far as places reach
   pub told : IsOutcome exact made
   told = told_by exact made (outcome_fits exact) refl made_same made_alike
+
+  -- the same where offsets are exact
+  abbrev marked : Outcome
+  marked = outcome_with e frame cells offsets (map mark_reached marks)
+
+  marked_alike : outcome_fits marked ≡ outcome_fits exact
+  unfolding outcome_with outcome_fits
+  marked_alike =
+      λ i. answer_fits exact.answer && list_all offset_fits offsets && all_alike mark_fits mark_reached mark_alike marks i
+
+  marked_same : outcome_fits exact ≡ true → marked ≡ exact
+  unfolding outcome_with outcome_fits
+  marked_same fits =
+      let parts = and_parts (answer_fits exact.answer && list_all offset_fits offsets) (list_all mark_fits marks) fits in
+      λ i. outcome_with e frame cells offsets (all_same mark_fits mark_reached mark_same marks parts.1 i)
+
+  pub marks_told : IsOutcome exact marked
+  marks_told = told_by exact marked (outcome_fits exact) refl marked_same marked_alike
