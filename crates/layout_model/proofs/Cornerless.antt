@@ -1,6 +1,5 @@
 -- Where no glyph has a kern, no element has corners.
 use Rattle.std.proofs.Common.{◌≡◌, ◌∙◌, refl, ap, pos, [], ◌∷◌}
-use Rattle.font_metrics.specs.Metrics.{MetricsValue}
 use Rattle.math_tree.specs.declared.kind.Kind.{Kind}
 use Rattle.math_tree.specs.declared.kind.Kind.TheVariants.{Mover, Msub, Msubsup, Msup, Munder, Munderover}
 use Rattle.scripts.specs.Kerns.{HasNoKerns}
@@ -10,7 +9,6 @@ use Rattle.layout_model.specs.Cornerless.{CornerlessLaw, cornerless, cornerless_
 use Rattle.layout_model.specs.Elements.{Element, font, frame_at, outcome, placed_in}
 use Rattle.layout_model.specs.Equations.{has_large_base, outcome_by, over_outcome, sub_corners, sub_outcome, sub_sup_corners, sub_sup_outcome, sup_corners, sup_outcome, under_outcome, under_over_outcome, unless_moved}
 use Rattle.layout_model.specs.Layout.{equation, lay_by}
-use Rattle.layout_model.specs.declared.outcome.Outcome.{Outcome}
 use Rattle.layout_model.proofs.Trees.{layout_law}
 
 module _ (e : Element) (h : HasNoKerns e.metrics) where

@@ -1,5 +1,5 @@
 -- Mirroring twice is nothing.
-use Rattle.std.proofs.Common.{◌≡◌, ℤ, arith}
+use Rattle.std.proofs.Common.{arith}
 use Rattle.fixed_units.proofs.Signed.{signed}
 use Rattle.layout_model.specs.Direction.{TwiceLaw, mirrored}
 

@@ -1,5 +1,5 @@
 -- Layout without kerns at corners, as it was before files had them.
-use Rattle.std.specs.Prelude.{◌≡◌, pos, Bool, List, [], ◌∷◌, map}
+use Rattle.std.specs.Prelude.{◌≡◌, pos, [], ◌∷◌, map}
 use Rattle.font_metrics.specs.Metrics.{MetricsValue}
 use Rattle.math_tree.specs.declared.kind.Kind.{Kind}
 use Rattle.math_tree.specs.declared.kind.Kind.TheVariants.{Mover, Msub, Msubsup, Msup, Munder, Munderover}

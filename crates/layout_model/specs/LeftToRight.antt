@@ -1,5 +1,5 @@
 -- Layout from left to right alone, as it was before elements had a direction.
-use Rattle.std.specs.Prelude.{◌≡◌, ◌≢◌, ℕ, ℤ, pos, ◌+ℤ◌, ◌-ℤ◌, Bool, true, false, codes, List, [], ◌∷◌, length, map, All, Option, Some, None, option_map, slice_get, slice_index_or}
+use Rattle.std.specs.Prelude.{◌≡◌, ◌≢◌, ℕ, ℤ, pos, ◌+ℤ◌, ◌-ℤ◌, true, codes, List, [], ◌∷◌, length, map, All, Option, Some, None, option_map, slice_get, slice_index_or}
 use Rattle.std.specs.Option.{option_and_then}
 use Rattle.fixed_units.specs.Sums.{list_to}
 use Rattle.font_metrics.specs.Metrics.{MetricsValue}

@@ -1,25 +1,17 @@
 -- An element without a fault makes a proper one.
-use Rattle.std.proofs.Common.{◌≡◌, ◌∙◌, sym, ap, refl, ℕ, List, [], length, All, Bool, true, false, not, true≢false, ◌||◌, cond, Option, Some, None, codes, nat_cmp, Ordering, Less, Equal, Greater, is_eq}
+use Rattle.std.proofs.Common.{◌≡◌, ◌∙◌, sym, ap, refl, ℕ, List, [], length, All, Bool, true, false, not, true≢false, ◌||◌, cond, Option, Some, None, codes}
 use Rattle.std.proofs.lemmas.Bool.{and_parts}
-use Rattle.std.proofs.lemmas.Bool.Decides.{same_from_decides}
 use Rattle.std.proofs.lemmas.List.Elements.{All-nil, All-cons}
-use Rattle.std.proofs.lemmas.Map.Text.{is_eq-slice_cmp}
-use Rattle.std.proofs.lemmas.Slice.Eq.{bytes_eq-Decides}
-use Rattle.std.specs.Cmp.Lexicographic.{slice_cmp}
-use Rattle.std.specs.List.{find}
-use Rattle.std.specs.Option.{option_and_then, option_map, option_map_or, unwrap_or}
-use Rattle.std.specs.Ordering.{match_ordering}
-use Rattle.std.specs.Str.{bytes_eq}
+use Rattle.std.specs.Option.{option_and_then, option_map_or, unwrap_or}
 use Rattle.serde_json.specs.Data.{Data, null, boolean, number, string, array, object, Items, no_items, item, Members, no_members, member}
-use Rattle.serde_json.specs.Find.{get, get_member, as_str, as_object}
-use Rattle.math_tree.specs.Attributes.{IsInOrder, value_of}
+use Rattle.serde_json.specs.Find.{get, as_str, as_object}
+use Rattle.math_tree.specs.Attributes.{IsInOrder}
 use Rattle.math_tree.specs.Elements.{Element, name_in, kind_in, text_in, children_in, attributes_in, attributes_held, text_held, attribute_of, attributes_of, text_or_empty, is_attribute, are_attributes, is_map_of_attributes, has_attributes, has_text, has_children, may_be_text_of, may_stand_below, listed_items}
 use Rattle.math_tree.specs.Faults.{fault_of}
 use Rattle.math_tree.specs.Forms.{is_name, is_short_enough, is_white_space}
 use Rattle.math_tree.specs.Kinds.{is_text_kind}
 use Rattle.math_tree.specs.Laws.{entry}
 use Rattle.math_tree.specs.Trees.{IsProper, IsProperAttribute}
-use Rattle.math_tree.specs.declared.attributes.Attribute.{Attribute}
 use Rattle.math_tree.specs.declared.kind.Kind.{Kind}
 use Rattle.math_tree.proofs.FirstFault.{no_fault}
 use Rattle.math_tree.specs.declared.portion.Portion.{Portion}

@@ -1,8 +1,7 @@
 -- Trees, their elements in document order, and what holds of every tree.
 use Rattle.std.specs.Prelude.{◌≡◌, ℕ, ◌+◌, ◌^◌, ◌≤◌, ◌<◌, List, [], ◌∷◌, length, map, All, true, false, nat_eq, codes}
 use Rattle.std.specs.List.{flat_map, sum_by, IsDistinct}
-use Rattle.std.specs.Option.{option_map_or}
-use Rattle.math_tree.specs.Attributes.{IsInOrder, value_of, bytes_of_attributes}
+use Rattle.math_tree.specs.Attributes.{IsInOrder, bytes_of_attributes}
 use Rattle.math_tree.specs.Forms.{is_name, is_short_enough, most_levels, most_elements, most_bytes}
 use Rattle.math_tree.specs.Kinds.{kind_of, is_text_kind}
 use Rattle.math_tree.specs.declared.attributes.Attribute.{Attribute}

@@ -1,5 +1,5 @@
 -- Numbers of 64 bits that are reckoned with in 128 bits.
-use Rattle.std.proofs.Common.{◌≡◌, ◌∙◌, ap, subst, sym, lit<, ◌^◌, ℕ, ℤ, ◌-ℤ◌, arith, w64, to_z, of_z, FitsSigned}
+use Rattle.std.proofs.Common.{◌≡◌, ◌∙◌, ap, subst, sym, lit<, ◌^◌, ℤ, ◌-ℤ◌, arith, w64, to_z, of_z, FitsSigned}
 use Rattle.std.specs.Int.{w128}
 use Rattle.std.proofs.lemmas.Int.{to_z-of_z}
 use Rattle.fixed_units.specs.Numbers.{IsWithin}

@@ -1,5 +1,5 @@
 -- Scripts over corners that count as others stand where those would have them.
-use Rattle.std.proofs.Common.{◌≡◌, ◌∙◌, ◌⊎◌, inl, inr, ap, sym, ℕ, ◌≤◌, length, Bool, Option, Some, None, IfSome, slice_get, ℤ}
+use Rattle.std.proofs.Common.{◌≡◌, ◌∙◌, inl, inr, ap, sym, ℕ, ◌≤◌, length, Bool, Option, Some, None, IfSome, ℤ}
 use Rattle.std.proofs.lemmas.Option.{slice_get_past}
 use Rattle.std.specs.Option.{option_and_then, option_map}
 use Rattle.fixed_units.specs.declared.boxes.MathBox.{MathBox}

@@ -1,11 +1,11 @@
 -- Rows from right to left.
-use Rattle.std.proofs.Common.{◌≡◌, ◌∙◌, ap, subst, sym, lit<, lit≤, ◌^◌, ℕ, ℤ, pos, ◌+ℤ◌, arith, Bool, true, ◌&&◌, cond, nat_eq, length, slice_index_or, w64, to_z, of_z}
+use Rattle.std.proofs.Common.{◌≡◌, ◌∙◌, ap, subst, sym, lit<, ◌^◌, ℕ, ℤ, pos, ◌+ℤ◌, arith, Bool, true, ◌&&◌, cond, nat_eq, length, slice_index_or, w64, to_z, of_z}
 use Rattle.std.specs.Int.{w128}
 use Rattle.fixed_units.specs.Boxes.{IsBoxWithin, IsStored, farthest}
 use Rattle.fixed_units.specs.Numbers.{IsWithin}
 use Rattle.fixed_units.specs.declared.boxes.MathBox.{MathBox}
 use Rattle.fixed_units.proofs.Signed.{signed}
-use Rattle.fixed_units.proofs.Within.{fits_i64, widened}
+use Rattle.fixed_units.proofs.Within.{fits_i64}
 use Rattle.font_metrics.proofs.Scaling.{back64}
 use Rattle.layout_model.specs.Direction.{mirrored, turned}
 use Rattle.layout_model.specs.Elements.{Element, frame_at, row_frame, row_x}

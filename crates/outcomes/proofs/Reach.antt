@@ -1,7 +1,6 @@
 -- What is told as far as places reach can be stored where what it stands for can, and is then the same.
-use Rattle.std.proofs.Common.{◌≡◌, ◌∙◌, refl, sym, ap, inl, inr, arith, ◌^◌, ℤ, pos, Bool, true, false, true≢false, ◌&&◌, List, [], ◌∷◌, map}
+use Rattle.std.proofs.Common.{◌≡◌, ◌∙◌, refl, sym, ap, inl, inr, arith, ◌^◌, ℤ, Bool, true, false, ◌&&◌, List, [], ◌∷◌, map}
 use Rattle.std.proofs.lemmas.Bool.{and_parts}
-use Rattle.std.specs.Int.{int_max, int_min}
 use Rattle.std.specs.List.{list_all}
 use Rattle.fixed_units.specs.Boxes.{farthest, is_stored}
 use Rattle.fixed_units.specs.Numbers.{IsWithin}

@@ -47,4 +47,3 @@ start_told rtl whole part x w p h own wide start own_is wide_is start_is =
     start_is
     ∙ (λ i. reached (turned (own_is i) (back64 w (lit< tt) i) (told_wide part wide (fits_i64 p (lit< tt)) wide_is i) (back64 h (lit< tt) i)))
     ∙ reached_same (turned rtl whole part x) (widened (2 ^ 60) (turned_start_in rtl whole part x w p h) (lit≤ tt))
-

@@ -23,8 +23,8 @@ pub fn mirrored(whole: i64, part: i128, x: i64) -> i128
 /// How far a place is told: farther than anything that can be stored.
 const REACH: i128 = 1 << 60;
 
-/// Where a part begins in an element, where it is laid out from left to right at `x`. A place past what can be
-/// stored is told as one that can't be stored either.
+/// Where a part begins in an element, where it is laid out from left to right at `x`. A place past
+/// what can be stored is told as one that can't be stored either.
 #[tactic(auto, using(fixed_units::proofs::Signed::from_bits), unfolding(crate::specs::Reach::reached))]
 pub fn turned(rtl: bool, whole: i64, part: i128, x: i64) -> i64
     requires { IsWithin (2 ^ 66) part }

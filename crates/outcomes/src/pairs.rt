@@ -68,11 +68,7 @@ fn pair_at<V: View>(e: &Element<V>, index: usize) -> Pair
 }
 
 /// The base and its scripts, where they stand.
-fn offsets_in<V: View>(
-    alloc: Global,
-    e: &Element<V>,
-    multi: &Multi,
-) -> Result<List<Offset>, Memory>
+fn offsets_in<V: View>(alloc: Global, e: &Element<V>, multi: &Multi) -> Result<List<Offset>, Memory>
     ensures { IfOk result (λ offsets.
         offsets ≡ list_to (length e.now.seen.kids) (λ kid. offset_reached (offset_in e.now multi.now kid))) }
 {

@@ -1,4 +1,4 @@
-use Rattle.std.proofs.Common.{◌≡◌, ◌∙◌, inl, inr, ap, subst, sym, length, Option, None, IfSome}
+use Rattle.std.proofs.Common.{◌∙◌, inl, inr, ap, subst, sym, length, Option, None, IfSome}
 use Rattle.font_metrics.specs.Metrics.{MetricsValue}
 use Rattle.font_metrics.specs.declared.corner.Corner.TheVariants.{BottomLeft, TopRight}
 use Rattle.scripts.specs.Kerns.{IsInked}

@@ -1,9 +1,8 @@
-use Rattle.std.proofs.Common.{◌≡◌, ◌∙◌, sym, subst, ap, ℕ, List, [], length, map, pos}
+use Rattle.std.proofs.Common.{◌∙◌, sym, subst, List, [], length}
 use Rattle.fixed_units.specs.Sums.{list_to}
-use Rattle.multiscripts.specs.Placing.{multi_of}
 use Rattle.multiscripts.specs.declared.parts.Multi.{Multi}
-use Rattle.layout_model.specs.Elements.{font, frame_at, outcome}
-use Rattle.layout_model.specs.Equations.{has_large_base, multi_outcome, offset_in, pairs_of, with_pairs}
+use Rattle.layout_model.specs.Elements.{outcome}
+use Rattle.layout_model.specs.Equations.{multi_outcome, offset_in, with_pairs}
 use Rattle.layout_model.specs.declared.outcome.Offset.{Offset}
 use Rattle.outcomes.specs.Outcomes.{IsOutcome}
 use Rattle.outcomes.specs.Reach.{offset_reached}

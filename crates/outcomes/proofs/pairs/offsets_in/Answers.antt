@@ -1,4 +1,4 @@
-use Rattle.std.proofs.Common.{rules, ◌≡◌, ◌∙◌, sym, ap, ℕ, w64, FitsSigned}
+use Rattle.std.proofs.Common.{rules, ◌∙◌, sym, ap, ℕ, w64, FitsSigned}
 use Rattle.std.proofs.lemmas.Int.{to_z-of_z}
 use Rattle.fixed_units.proofs.Sums.{list_to-zero}
 use Rattle.scripts.specs.declared.parts.Spot.{Spot}

@@ -1,9 +1,8 @@
-use Rattle.std.proofs.Common.{rules, ◌≡◌, ◌∙◌, subst, ap, List, [], ◌∷◌, map, ℤ, ◌-ℤ◌, arith, w64, to_z, of_z, FitsSigned}
+use Rattle.std.proofs.Common.{rules, ◌≡◌, ◌∙◌, subst, ap, List, [], ◌∷◌, ℤ, ◌-ℤ◌, w64, FitsSigned}
 use Rattle.std.specs.Result.{IfOk}
 use Rattle.std.proofs.lemmas.Int.{to_z-of_z}
 use Rattle.font_metrics.specs.declared.mark.Mark.{Mark}
-use Rattle.layout_model.specs.Direction.{turned_mark, x_of}
-use Rattle.layout_model.specs.Equations.{root_marks}
+use Rattle.layout_model.specs.Direction.{turned_mark}
 use Rattle.layout_model.specs.declared.context.Context.{Context}
 use Rattle.outcomes.specs.Reach.{mark_reached}
 use Rattle.outcomes.proofs.Casts.{difference_told, told_wide}

@@ -1,6 +1,5 @@
-use Rattle.std.proofs.Common.{rules, ◌≡◌, ◌∙◌, sym, subst, lit<, List, [], ◌∷◌, map, w64, FitsSigned}
+use Rattle.std.proofs.Common.{rules, ◌∙◌, sym, subst, lit<, List, [], ◌∷◌, map, w64, FitsSigned}
 use Rattle.std.proofs.lemmas.Int.{to_z-of_z}
-use Rattle.fixed_units.specs.declared.boxes.MathBox.{MathBox}
 use Rattle.font_metrics.proofs.Scaling.{back64}
 use Rattle.layout_model.specs.Elements.{frame_at, outcome, placed_in}
 use Rattle.layout_model.specs.Equations.{root_marks, with_index}

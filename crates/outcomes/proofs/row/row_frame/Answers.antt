@@ -1,4 +1,4 @@
-use Rattle.std.proofs.Common.{◌≡◌, ◌∙◌, ap, sym, lit<, ℤ, ◌+ℤ◌, w64, to_z, of_z}
+use Rattle.std.proofs.Common.{◌∙◌, ap, sym, lit<, ◌+ℤ◌}
 use Rattle.fixed_units.proofs.Within.{sum_in}
 use Rattle.fixed_units.specs.declared.boxes.MathBox.{MathBox}
 use Rattle.font_metrics.proofs.Scaling.{back64, within64}

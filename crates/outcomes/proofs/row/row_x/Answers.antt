@@ -1,4 +1,4 @@
-use Rattle.std.proofs.Common.{◌∙◌, subst, sym, IfSome, ◌^◌}
+use Rattle.std.proofs.Common.{◌∙◌, subst, sym, ◌^◌}
 use Rattle.fixed_units.specs.Numbers.{IsWithin}
 use Rattle.outcomes.proofs.Casts.{comes_back, fits_back}
 use Rattle.outcomes.proofs.MirroredRows.{row_x_is, within_row}

@@ -1,11 +1,10 @@
-use Rattle.std.proofs.Common.{◌≡◌, ◌∙◌, subst, ap, lit<, to_z, of_z, w64}
+use Rattle.std.proofs.Common.{◌≡◌, ◌∙◌, subst, lit<, to_z, of_z, w64}
 use Rattle.std.specs.Result.{IfOk}
 use Rattle.font_metrics.proofs.Scaling.{back64, size_in}
 use Rattle.layout_model.specs.Elements.{font, row_in}
 use Rattle.layout_model.specs.Equations.{root_sign_over}
 use Rattle.radicals.specs.Placing.{square_root_of}
 use Rattle.radicals.specs.declared.parts.Radical.{Radical}
-use Rattle.row_stretch.specs.declared.parts.Row.{Row}
 use Rattle.outcomes.specs.Outcomes.{IsOutcome}
 use Rattle.outcomes.proofs.row.square_root_outcome.Goals as goal
 

@@ -1,6 +1,6 @@
-use Rattle.std.proofs.Common.{◌≡◌, ◌∙◌, ap, subst, sym, lit<, lit≤, ◌^◌, ℤ, List, [], map, w64, to_z, of_z}
+use Rattle.std.proofs.Common.{◌≡◌, ◌∙◌, ap, subst, sym, lit<, lit≤, ◌^◌, ℤ, [], map, w64, to_z, of_z}
 use Rattle.fixed_units.specs.Numbers.{IsWithin}
-use Rattle.fixed_units.proofs.Within.{fits_i64, widened}
+use Rattle.fixed_units.proofs.Within.{widened}
 use Rattle.font_metrics.proofs.Scaling.{back64, within64}
 use Rattle.layout_model.specs.Direction.{turned}
 use Rattle.layout_model.specs.Elements.{along, font, outcome}
@@ -8,7 +8,7 @@ use Rattle.layout_model.specs.Equations.{root_marks}
 use Rattle.layout_model.specs.declared.context.Context.{Context}
 use Rattle.row_stretch.specs.declared.parts.Row.{Row}
 use Rattle.outcomes.specs.Outcomes.{IsOutcome}
-use Rattle.outcomes.specs.Reach.{mark_reached, reached}
+use Rattle.outcomes.specs.Reach.{mark_reached}
 use Rattle.outcomes.proofs.Reach.{marks_told}
 use Rattle.outcomes.proofs.Roots.{on_the_baseline, root_start_in, start_told, turned_start_in}
 use Rattle.outcomes.proofs.row.with_root_sign.Goals as goal

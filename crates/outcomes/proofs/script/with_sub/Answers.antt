@@ -1,4 +1,4 @@
-use Rattle.std.proofs.Common.{rules, ◌≡◌, ◌∙◌, sym, subst, pos, List, [], ◌∷◌, w64, FitsSigned}
+use Rattle.std.proofs.Common.{rules, ◌∙◌, sym, subst, pos, List, [], ◌∷◌, w64, FitsSigned}
 use Rattle.std.proofs.lemmas.Int.{to_z-of_z}
 use Rattle.layout_model.specs.Elements.{outcome, placed_in}
 use Rattle.layout_model.specs.declared.outcome.Offset.{Offset}

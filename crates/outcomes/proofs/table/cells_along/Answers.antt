@@ -1,4 +1,4 @@
-use Rattle.std.proofs.Common.{rules, ◌≡◌, ◌∙◌, subst, sym, lit≤, ◌^◌, w64, FitsSigned}
+use Rattle.std.proofs.Common.{rules, ◌∙◌, subst, sym, lit≤, ◌^◌, w64, FitsSigned}
 use Rattle.std.proofs.lemmas.Int.{to_z-of_z}
 use Rattle.fixed_units.specs.Boxes.{farthest}
 use Rattle.fixed_units.specs.Numbers.{IsWithin}
