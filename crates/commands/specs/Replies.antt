@@ -9,7 +9,7 @@ use Rattle.tree_edits.specs.declared.command.Command.{Command}
 use Rattle.tree_edits.specs.declared.command.Command.TheVariants.{Show, Change}
 use Rattle.tree_edits.specs.declared.edit.Edit.{Edit}
 use Rattle.tree_edits.specs.declared.edit.EditRefusal.{EditRefusal}
-use Rattle.tree_edits.specs.declared.edit.EditRefusal.TheVariants.{UnknownNode, NotText, IsText, IndexPast, RootFixed, BadName, RightToLeft, TextLong, TooDeep, TooMany, IdsSpent, IdTaken, Memory}
+use Rattle.tree_edits.specs.declared.edit.EditRefusal.TheVariants.{UnknownNode, NotText, IsText, IndexPast, RootFixed, BadName, TextLong, TooDeep, TooMany, IdsSpent, IdTaken, Memory}
 use Rattle.layout_model.specs.Layout.{is_tree_in_range}
 use Rattle.box_writer.specs.Items.{IsOfFont}
 use Rattle.box_writer.specs.Lines.{text_of}
@@ -72,7 +72,6 @@ word_of_edit IsText = codes "text"
 word_of_edit IndexPast = codes "index"
 word_of_edit RootFixed = codes "root"
 word_of_edit BadName = codes "name"
-word_of_edit RightToLeft = codes "rtl"
 word_of_edit TextLong = codes "long"
 word_of_edit TooDeep = codes "depth"
 word_of_edit TooMany = codes "many"

@@ -2,7 +2,7 @@ ghost use Rattle.std.specs.Prelude.{◌≡◌, [], ◌∷◌, Some, None, IfOk, 
 ghost use Rattle.std.specs.Option.{option_map};
 ghost use Rattle.commands.specs.Command.{asked_by, asked_of, generation_of, job_named, job_of, remembering, work_named, work_of};
 
-use crate::numerals::{count_of, seed_of, depth_of};
+use crate::numerals::{count_of, depth_of, seed_of};
 use crate::query::query_of;
 use queries::Query;
 use thiserror::Error;

@@ -200,7 +200,6 @@ fn word_of_edit(reason: EditRefusal) -> &'static str
         EditRefusal::IndexPast => "index",
         EditRefusal::RootFixed => "root",
         EditRefusal::BadName => "name",
-        EditRefusal::RightToLeft => "rtl",
         EditRefusal::TextLong => "long",
         EditRefusal::TooDeep => "depth",
         EditRefusal::TooMany => "many",

@@ -19,6 +19,7 @@ use Rattle.font_metrics.specs.Taken.{IsCharacter, IsTaken, IsVariant}
 use Rattle.font_metrics.specs.declared.glyph.GlyphId.{GlyphId}
 use Rattle.font_metrics.specs.declared.growth.Variant.{Variant as LargerGlyph}
 use Rattle.font_metrics.specs.declared.mark.Mark.{Mark}
+use Rattle.font_metrics.specs.declared.mark.Mark.TheVariants.{Glyph, Rule, Built as Assembly}
 use Rattle.fractions.specs.Equation.{rule_shifts_of, stack_shifts_of}
 use Rattle.fractions.specs.Lengths.{rule_lengths_of, stack_lengths_of}
 use Rattle.fractions.specs.Placing.{placed_of, with_rule_of}
@@ -46,6 +47,7 @@ use Rattle.token_boxes.specs.Operator.{large, lone_operator, lowered_glyph, oper
 use Rattle.token_boxes.specs.Token.{glyph_of, inks_of, leaf_of, lone_letter, mark_at, marks_of, token_of, word_leaf}
 use Rattle.token_boxes.specs.declared.leaf.Drawn.{Drawn}
 use Rattle.token_boxes.specs.declared.leaf.Leaf.{Leaf}
+use Rattle.layout_model.specs.Direction.{turned_mark}
 use Rattle.layout_model.specs.Elements.{Element, font, frame_at, outcome_with, row_in}
 use Rattle.layout_model.specs.Equations.{fraction_outcome, marks_if, multi_outcome, operator_outcome, operator_with, outcome_by, over_outcome, root_outcome, space_outcome, square_root_outcome, sub_outcome, sub_sup_outcome, sup_outcome, thickness_of, token_outcome, under_outcome, under_over_outcome}
 use Rattle.layout_model.specs.Questions.{has_moved_limits}
@@ -236,6 +238,17 @@ module _ (m : MetricsValue) (taken : IsTaken m) where
   root_known row start display size =
       both_true _ _ (drawn_as _ _ Upward _ _ size (letter_within 0x221A) (shaped_known (place_of_letter m 0x221A) Upward _ size)) refl
 
+  -- where marks are mirrored, their glyphs stay
+  turned_known : (rtl : Bool) (whole part : ℤ) (mark : Mark) → is_of_font m (turned_mark rtl whole part mark) ≡ is_of_font m mark
+  turned_known rtl whole part (Glyph x y size glyph) = refl
+  turned_known rtl whole part (Rule x y width height) = refl
+  turned_known rtl whole part (Assembly x y size axis glyph count overlap) = refl
+
+  pub marks_known : (rtl : Bool) (whole first second : ℤ) (surd rule : Mark) → IsOfFont (surd ∷ rule ∷ [])
+      → IsOfFont (turned_mark rtl whole first surd ∷ turned_mark rtl whole second rule ∷ [])
+  marks_known rtl whole first second surd rule h =
+      (λ i. turned_known rtl whole first surd i && (turned_known rtl whole second rule i && true)) ∙ h
+
 -- ---- fractions
 
 rule_known : (m : MetricsValue) (b : Bool) (top bottom : MathBox) (ruled stacked : Shifts) (axis thickness : ℤ)
@@ -281,11 +294,15 @@ module _ (e : Element) (taken : IsTaken e.metrics) where
 
   square_root_drawn : IsOutcome e (square_root_outcome e)
   unfolding outcome_with draws_of_font
-  square_root_drawn = root_known e.metrics taken (row_in e).frame (pos 0) e.context.style.display (font e)
+  square_root_drawn =
+      marks_known e.metrics taken e.context.style.rtl _ _ _ _ _
+      (root_known e.metrics taken (row_in e).frame (pos 0) e.context.style.display (font e))
 
   root_drawn : IsOutcome e (root_outcome e)
   unfolding outcome_with draws_of_font root_with_index_of with_index_of
-  root_drawn = root_known e.metrics taken (frame_at e 0) (root_start_of (index_lengths_of e.metrics (font e)) (frame_at e 1)) e.context.style.display (font e)
+  root_drawn =
+      marks_known e.metrics taken e.context.style.rtl _ _ _ _ _
+      (root_known e.metrics taken (frame_at e 0) (root_start_of (index_lengths_of e.metrics (font e)) (frame_at e 1)) e.context.style.display (font e))
 
   scripts_drawn : IsOutcome e (multi_outcome e)
   unfolding multi_outcome outcome_with draws_of_font

@@ -1,5 +1,5 @@
 -- The font sizes of children: they are in range where those of all questions are.
-use Rattle.std.proofs.Common.{◌≡◌, ◌∙◌, refl, ap, sym, subst, ℕ, zero, suc, ◌+◌, ◌<◌, ◌≤◌, ◌==◌, arith, Bool, true, false, cond, ◌&&◌, List, [], ◌∷◌, ◌++◌, length, All}
+use Rattle.std.proofs.Common.{◌≡◌, ◌∙◌, refl, ap, sym, ℕ, zero, suc, ◌+◌, ◌<◌, ◌≤◌, ◌==◌, arith, Bool, true, false, cond, List, [], ◌∷◌, length, All}
 use Rattle.std.proofs.lemmas.Bool.Decides.{nat_tests}
 use Rattle.std.proofs.lemmas.List.Elements.{All-append, All-cons, All-head, All-nil, All-tail}
 use Rattle.fixed_units.specs.Sums.{list_to}
@@ -10,7 +10,7 @@ use Rattle.row_stretch.specs.declared.parts.Ask.{Ask}
 use Rattle.style_scope.specs.Sizes.{size_of}
 use Rattle.layout_model.specs.Contexts.{kid_context, kid_style}
 use Rattle.layout_model.specs.Fits.{HasFont}
-use Rattle.layout_model.specs.Questions.{asked, asked_all, asking, first, row_asked, rows_asked, second, second_as}
+use Rattle.layout_model.specs.Questions.{asked, asked_all, asking, first, row_asked, second, second_as}
 use Rattle.layout_model.specs.Range.{is_font_size}
 use Rattle.layout_model.specs.Waves.{both_waves, times_asked}
 use Rattle.layout_model.specs.declared.asking.Asking.{Asking}
@@ -50,7 +50,7 @@ module _ (m : MetricsValue) (seen : Seen) (context : Context) where
   second_in AsRow rows = asked_in _
   second_in AsLimits rows = asked_in _
 
-  both_in : (one : List Answer) → All (InPlace m seen context) (both_waves m seen context one)
+  pub both_in : (one : List Answer) → All (InPlace m seen context) (both_waves m seen context one)
   unfolding first second
   both_in one =
       All-append (InPlace m seen context) (first m seen context) (second m seen context one) (asked_in _)

@@ -51,7 +51,7 @@ levels_out l = fold_out-Laid ℕ one_level_more l
 
 -- ---- the nodes in flow are among all children
 
-at_place : {A : Type 0} (P : A → Type 0) (xs : List A) (i : ℕ) (x : A) → AllByRecursion P xs → slice_get xs i ≡ Some x → P x
+pub at_place : {A : Type 0} (P : A → Type 0) (xs : List A) (i : ℕ) (x : A) → AllByRecursion P xs → slice_get xs i ≡ Some x → P x
 at_place P [] i x all e = absurd cc
 at_place P (y ∷ xs) zero x all e = subst P (same_Some y x e) all.0
 at_place P (y ∷ xs) (suc i) x all e = at_place P xs i x all.1 e
@@ -199,7 +199,7 @@ unfolding list_to
 listed_hold P zero f h = tt
 listed_hold P (suc n) f h = joined_hold P (list_to n f) (f n ∷ []) (listed_hold P n f h) (h n, tt)
 
-by_recursion : {A : Type 0} (P : A → Type 0) (xs : List A) → All P xs → AllByRecursion P xs
+pub by_recursion : {A : Type 0} (P : A → Type 0) (xs : List A) → All P xs → AllByRecursion P xs
 by_recursion P [] all = tt
 by_recursion P (x ∷ xs) all = (All-head P x xs all, by_recursion P xs (All-tail P x xs all))
 

@@ -6,11 +6,13 @@ pub mod Cells
 pub mod Children
 pub mod Cornerless
 pub mod Counted
+pub mod Direction
 pub mod Drawn
 pub mod Fits
 pub mod FontSizes
 pub mod KidFonts
 pub mod LaidTrees
+pub mod LeftToRight
 pub mod Made
 pub mod Offsets
 pub mod Places

@@ -45,7 +45,7 @@ use Rattle.scripts.specs.Limits.{attached_of, lean_of, limits_of, middle_of, spo
 use Rattle.scripts.specs.Shifts.{lack_of, moved_apart_of, pair_shifts_of, rise_of, sub_shift_of, sup_shift_of}
 use Rattle.math_tables.specs.Columns.{columns_of}
 use Rattle.math_tables.specs.Placing.{baseline_of, start_of, table_ascent_of, top_of as top_of_row}
-use Rattle.style_scope.specs.Rules.{by_display, by_level, by_name, by_place, by_size, is_compact_in, is_cramped_in, levels_of}
+use Rattle.style_scope.specs.Rules.{by_direction, by_display, by_level, by_name, by_place, by_size, is_compact_in, is_cramped_in, levels_of}
 use Rattle.style_scope.specs.Sizes.{size_of}
 use Rattle.style_scope.specs.Styles.{by_attributes, child_style_of, initial}
 use Rattle.layout_model.specs.Answers.{last_answer}
@@ -53,7 +53,7 @@ use Rattle.token_boxes.specs.Lengths.{absolute_in}
 use Rattle.token_boxes.specs.Space.{side_of, space_of}
 use Rattle.token_boxes.specs.Token.{token_glyph_of}
 use Rattle.layout_model.specs.Contexts.{kid_axis, kid_style, pull_of}
-use Rattle.layout_model.specs.Elements.{offset, outcome_with, row_in}
+use Rattle.layout_model.specs.Elements.{offset, outcome_with, row_frame, row_in}
 use Rattle.layout_model.specs.Equations.{corner_at, limit_case, outcome_by, space_outcome, thickness_of}
 use Rattle.layout_model.specs.Layout.{Subtree, equation, last_answers, lay, lay_by, over, subtree}
 use Rattle.layout_model.specs.Questions.{asking, asking_of, base_properties, first, first_asks, kid_pulls, second, second_asks}
@@ -193,7 +193,7 @@ made frame around offsets marks = record { answer = answer frame around []; offs
 pub row-one_minus_x : equation sample (element (plain Math) (child Mn ∷ operator false ∷ child Mi ∷ [])) in_text (one ∷ minus ∷ letter ∷ []) []
     ≡ made (box (pos 37554) (pos 14400) (pos 4800) (pos 10880) (pos 128) (pos 18777)) (pos 0)
     (offset 0 (pos 0) (pos 0) ∷ offset 1 (pos 11833) (pos 0) ∷ offset 2 (pos 28274) (pos 0) ∷ []) []
-unfolding equation last_answers last_answer first second asking asking_of kid_pulls kid_axis stretch_axis properties_at pull_of first_asks second_asks asks_from planned outcome_by outcome_with row_in accent_of offset_of room_of ahead_of advance_of sum_to list_to joined halved
+unfolding equation last_answers last_answer first second asking asking_of kid_pulls kid_axis stretch_axis properties_at pull_of first_asks second_asks asks_from planned outcome_by outcome_with row_frame row_in accent_of offset_of room_of ahead_of advance_of sum_to list_to joined halved
 row-one_minus_x = refl
 
 -- 1 over 1 with a rule
@@ -268,7 +268,7 @@ tree_is =
     ∙ (λ i. over sample (head_of Math) (over sample (head_with Mfrac []) (layered top [] i ∷ layered bottom [] i ∷ []) ∷ []))
 
 spread_laid : spread.lay in_text ≡ made (box (pos 8192) (pos 14592) (pos 5600) (pos 14592) (pos 5600) (pos 4096)) (pos 0) (offset 0 (pos 0) (pos 0) ∷ []) []
-unfolding lay_by equation last_answers last_answer first second asking asking_of kid_pulls kid_axis kid_style stretch_axis pull_of first_asks second_asks asks_from planned outcome_by outcome_with space_outcome row_in accent_of offset_of room_of ahead_of advance_of sum_to list_to thickness_of size_of with_rule_of lower_of placed_of centred_of raised joined rule_shifts_of clear_shift_of rule_lengths_of constant_of percent_of scale_of rounded halved facts_over laid_as is_valid flow_by is_space_like core_below child_style_of by_attributes by_place by_name by_level by_display by_size levels_of is_compact_in is_cramped_in space_of side_of absolute_in length_of trimmed is_negative behind_sign number_of digits_in_front behind_digits fraction_of unit_at unit_of resolved unit_size
+unfolding lay_by equation last_answers last_answer first second asking asking_of kid_pulls kid_axis kid_style stretch_axis pull_of first_asks second_asks asks_from planned outcome_by outcome_with space_outcome row_frame row_in accent_of offset_of room_of ahead_of advance_of sum_to list_to thickness_of size_of with_rule_of lower_of placed_of centred_of raised joined rule_shifts_of clear_shift_of rule_lengths_of constant_of percent_of scale_of rounded halved facts_over laid_as is_valid flow_by is_space_like core_below child_style_of by_attributes by_place by_name by_level by_direction by_display by_size levels_of is_compact_in is_cramped_in space_of side_of absolute_in length_of trimmed is_negative behind_sign number_of digits_in_front behind_digits fraction_of unit_at unit_of resolved unit_size
 spread_laid = refl
 
 pub tree-fraction_of_spaces : lay sample tree in_text

@@ -1,5 +1,5 @@
 -- An element whose children are laid out, and what its equation makes an outcome of.
-use Rattle.std.specs.Prelude.{ℕ, ℤ, pos, ◌+ℤ◌, nat_eq, Bool, false, not, ◌||◌, if◌then◌else◌, List, [], length, map, is_some, slice_get, slice_index_or}
+use Rattle.std.specs.Prelude.{ℕ, ℤ, pos, ◌+ℤ◌, nat_eq, Bool, false, not, ◌&&◌, ◌||◌, if◌then◌else◌, List, [], length, map, is_some, slice_get, slice_index_or}
 use Rattle.std.specs.Option.{option_map_or}
 use Rattle.fixed_units.specs.Sums.{list_to}
 use Rattle.fixed_units.specs.declared.boxes.MathBox.{MathBox}
@@ -13,6 +13,7 @@ use Rattle.row_stretch.specs.declared.parts.Row.{Row}
 use Rattle.row_stretch.specs.declared.parts.RowKid.{RowKid}
 use Rattle.style_scope.specs.Sizes.{size_of}
 use Rattle.layout_model.specs.Answers.{no_answer}
+use Rattle.layout_model.specs.Direction.{turned}
 use Rattle.layout_model.specs.declared.context.Context.{Context}
 use Rattle.layout_model.specs.declared.outcome.Answer.{Answer}
 use Rattle.layout_model.specs.declared.outcome.Offset.{Offset}
@@ -65,6 +66,10 @@ outcome_with e frame cells offsets marks = record {
 abbrev pub outcome : Element → MathBox → List Offset → List Mark → Outcome
 outcome e frame offsets marks = outcome_with e frame [] offsets marks
 
+-- the child at a place in a box, in the direction of the element
+abbrev pub placed_in : Element → MathBox → ℕ → ℤ → ℤ → Offset
+placed_in e frame kid x y = offset kid (turned e.context.style.rtl frame.width (frame_at e kid).width x) y
+
 -- ---- the children in a row
 
 abbrev pub is_embellished_kid : Seen → ℕ → Bool
@@ -89,9 +94,20 @@ shows_spaces seen = is_root seen || not (is_some seen.facts.core)
 unfoldable pub row_in : Element → Row
 row_in e = row_of (shows_spaces e.seen) (row_kids e)
 
-abbrev pub along_row : Row → ℤ → ℤ → ℕ → Offset
-along_row row start y kid = offset kid (start +ℤ slice_index_or row.offsets kid (pos 0)) y
+-- where a child begins in a row, in the direction of the element
+abbrev pub row_x : Element → Row → ℕ → ℤ
+row_x e row kid = turned e.context.style.rtl row.frame.width (frame_at e kid).width (slice_index_or row.offsets kid (pos 0))
+
+abbrev pub along_row : Element → Row → ℤ → ℤ → ℕ → Offset
+along_row e row start y kid = offset kid (start +ℤ row_x e row kid) y
 
 -- the children of a row that begins at a start, with its baseline so far below that of the element
 abbrev pub along : Element → Row → ℤ → ℤ → List Offset
-along e row start y = list_to (length e.seen.kids) (along_row row start y)
+along e row start y = list_to (length e.seen.kids) (along_row e row start y)
+
+-- the box of a row: from right to left the accent of an only child is where that stands
+unfoldable pub row_frame : Element → Row → MathBox
+row_frame e row =
+    if e.context.style.rtl && nat_eq (length e.seen.kids) 1
+    then record row.frame { accent = row_x e row 0 +ℤ (frame_at e 0).accent }
+    else row.frame

@@ -41,7 +41,8 @@ use Rattle.style_scope.specs.Sizes.{size_of}
 use Rattle.token_boxes.specs.Token.{leaf, token_glyph_of, token_of}
 use Rattle.token_boxes.specs.declared.leaf.Leaf.{Leaf}
 use Rattle.layout_model.specs.Contexts.{is_true, kid_axis, kid_style, pull_of}
-use Rattle.layout_model.specs.Elements.{Element, along, font, frame_at, frames_of, offset, outcome, outcome_with, row_in}
+use Rattle.layout_model.specs.Direction.{turned, turned_corner, turned_mark, x_of}
+use Rattle.layout_model.specs.Elements.{Element, along, font, frame_at, frames_of, offset, outcome, outcome_with, placed_in, row_frame, row_in}
 use Rattle.layout_model.specs.Questions.{base_properties, columns_over, has_moved_limits}
 use Rattle.layout_model.specs.Rows.{error_of, border, padded_of, padded_start, padded_rise}
 use Rattle.layout_model.specs.declared.context.Stretch.{Stretch}
@@ -75,7 +76,7 @@ space_outcome e = leaf_outcome (leaf (space_of e.metrics e.seen.head (font e)) [
 -- ---- rows
 
 abbrev pub row_outcome : Element → Outcome
-row_outcome e = outcome e (row_in e).frame (along e (row_in e) (pos 0) (pos 0)) []
+row_outcome e = outcome e (row_frame e (row_in e)) (along e (row_in e) (pos 0) (pos 0)) []
 
 abbrev pub error_outcome : Element → Outcome
 error_outcome e = outcome e (error_of (row_in e).frame) (along e (row_in e) border (pos 0)) []
@@ -86,8 +87,18 @@ padded_outcome e =
     outcome e (padded_of e.metrics (font e) attributes (row_in e).frame)
     (along e (row_in e) (padded_start e.metrics (font e) attributes) (pos 0 -ℤ padded_rise e.metrics (font e) attributes)) []
 
+-- the surd, which ends where the base begins, and the rule over a base of this width, in the direction of the
+-- element
+abbrev pub root_marks : Element → ℤ → Radical → List Mark
+root_marks e base root =
+    turned_mark e.context.style.rtl root.frame.width (root.base.x -ℤ x_of root.surd) root.surd
+    ∷ turned_mark e.context.style.rtl root.frame.width base root.rule ∷ []
+
 abbrev pub root_sign_over : Element → Radical → Outcome
-root_sign_over e root = outcome e root.frame (along e (row_in e) root.base.x root.base.y) (root.surd ∷ root.rule ∷ [])
+root_sign_over e root =
+    let row = row_in e in
+    outcome e root.frame (along e row (turned e.context.style.rtl root.frame.width row.frame.width root.base.x) root.base.y)
+    (root_marks e row.frame.width root)
 
 abbrev pub square_root_outcome : Element → Outcome
 square_root_outcome e = root_sign_over e (square_root_of e.metrics (row_in e).frame e.context.style.display (font e))
@@ -118,7 +129,9 @@ fraction_outcome e = over_and_under e (fraction_of e.metrics (frame_at e 0) (fra
 
 abbrev pub with_index : Element → Radical → Outcome
 with_index e root =
-    outcome e root.frame (offset 0 root.base.x root.base.y ∷ offset 1 root.index.x root.index.y ∷ []) (root.surd ∷ root.rule ∷ [])
+    outcome e root.frame
+    (placed_in e root.frame 0 root.base.x root.base.y ∷ placed_in e root.frame 1 root.index.x root.index.y ∷ [])
+    (root_marks e (frame_at e 0).width root)
 
 abbrev pub root_outcome : Element → Outcome
 root_outcome e = with_index e (root_with_index_of e.metrics (frame_at e 0) (frame_at e 1) e.context.style.display (font e))
@@ -129,14 +142,14 @@ root_outcome e = with_index e (root_with_index_of e.metrics (frame_at e 0) (fram
 abbrev pub has_large_base : Element → Bool
 has_large_base e = option_map_or (λ base. base.largeop) (base_properties e.metrics e.seen e.context) false
 
--- the corner of a child in flow that shows one glyph alone, at its own font size
+-- the corner of a child in flow that shows one glyph alone, at its own font size, in the direction of the element
 unfoldable pub corner_at : Element → Corner → ℕ → Option Inked
 corner_at e corner index =
-    option_map (λ glyph. record { glyph = glyph; corner = corner; size = size_of e.metrics (kid_style e.metrics e.seen e.context.style index) })
+    option_map (λ glyph. record { glyph = glyph; corner = turned_corner e.context.style.rtl corner; size = size_of e.metrics (kid_style e.metrics e.seen e.context.style index) })
     (option_and_then (λ kid. token_glyph_of e.metrics kid.head) (slice_get e.seen.kids index))
 
--- a subscript stands at the bottom right of its base, which stands at the top left of it; a superscript at the
--- top right, and its base at the bottom left
+-- from left to right a subscript stands at the bottom right of its base, which stands at the top left of it; a
+-- superscript at the top right, and its base at the bottom left
 abbrev pub sub_corners : Element → KernFrom
 sub_corners e = record { base_sub = corner_at e BottomRight 0; sub = corner_at e TopLeft 1; base_sup = None; sup = None }
 
@@ -154,19 +167,23 @@ sub_sup_corners e = record {
 abbrev pub sub_outcome : Element → Outcome
 sub_outcome e =
     let scripted = sub_of e.metrics (frame_at e 0) (has_large_base e) (frame_at e 1) (sub_corners e) (font e) in
-    outcome e scripted.frame (offset 0 (pos 0) (pos 0) ∷ offset 1 scripted.sub.x scripted.sub.y ∷ []) []
+    outcome e scripted.frame
+    (placed_in e scripted.frame 0 (pos 0) (pos 0) ∷ placed_in e scripted.frame 1 scripted.sub.x scripted.sub.y ∷ []) []
 
 abbrev pub sup_outcome : Element → Outcome
 sup_outcome e =
     let scripted = sup_of e.metrics (frame_at e 0) (has_large_base e) e.context.style.cramped (frame_at e 1) (sup_corners e) (font e) in
-    outcome e scripted.frame (offset 0 (pos 0) (pos 0) ∷ offset 1 scripted.sup.x scripted.sup.y ∷ []) []
+    outcome e scripted.frame
+    (placed_in e scripted.frame 0 (pos 0) (pos 0) ∷ placed_in e scripted.frame 1 scripted.sup.x scripted.sup.y ∷ []) []
 
 abbrev pub sub_sup_outcome : Element → Outcome
 sub_sup_outcome e =
     let scripted = sub_sup_of e.metrics (frame_at e 0) (has_large_base e) e.context.style.cramped (frame_at e 1) (frame_at e 2)
     (sub_sup_corners e) (font e) in
     outcome e scripted.frame
-    (offset 0 (pos 0) (pos 0) ∷ offset 1 scripted.sub.x scripted.sub.y ∷ offset 2 scripted.sup.x scripted.sup.y ∷ []) []
+    (placed_in e scripted.frame 0 (pos 0) (pos 0)
+    ∷ placed_in e scripted.frame 1 scripted.sub.x scripted.sub.y
+    ∷ placed_in e scripted.frame 2 scripted.sup.x scripted.sup.y ∷ []) []
 
 -- ---- scripts in pairs
 
@@ -191,11 +208,11 @@ spot_of multi place =
     else if nat_eq (place % 2) 1 then spot_at multi.subs (place / 2)
     else spot_at multi.sups (place / 2 - 1)
 
-abbrev pub offset_in : Multi → ℕ → Offset
-offset_in multi kid = offset kid (spot_of multi kid).x (spot_of multi kid).y
+abbrev pub offset_in : Element → Multi → ℕ → Offset
+offset_in e multi kid = placed_in e multi.frame kid (spot_of multi kid).x (spot_of multi kid).y
 
 abbrev pub with_pairs : Element → Multi → Outcome
-with_pairs e multi = outcome e multi.frame (list_to (length e.seen.kids) (offset_in multi)) []
+with_pairs e multi = outcome e multi.frame (list_to (length e.seen.kids) (offset_in e multi)) []
 
 unfoldable pub multi_outcome : Element → Outcome
 multi_outcome e =

@@ -1,11 +1,13 @@
 pub mod Answers
 pub mod Contexts
 pub mod Cornerless
+pub mod Direction
 pub mod Elements
 pub mod Fits
 pub mod Equations
 pub mod Laid
 pub mod Laws
+pub mod LeftToRight
 pub mod Layout
 pub mod Made
 pub mod Questions

@@ -108,7 +108,9 @@ impl Context {
         ensures yes { result ≡ true → self.now ≡ other.now }
         ensures no { result ≡ false → self.now ≡ other.now → ⊥ }
     {
-        self.style == other.style && self.form == other.form && self.stretch.is_same(&other.stretch)
+        is_same_style(&self.style, &other.style)
+            && self.form == other.form
+            && self.stretch.is_same(&other.stretch)
     }
 
     /// The same again. Only columns take memory.
@@ -121,6 +123,14 @@ impl Context {
             stretch: self.stretch.copy(alloc)?,
         })
     }
+}
+
+/// Are both styles the same?
+fn is_same_style(style: &Style, other: &Style) -> bool
+    ensures yes { result ≡ true → style.now ≡ other.now }
+    ensures no { result ≡ false → style.now ≡ other.now → ⊥ }
+{
+    *style == *other
 }
 
 /// A question of an element to one of its children: its layout in a context.

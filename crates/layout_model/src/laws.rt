@@ -3,8 +3,10 @@
 //! A law is proved where it is a contract, so each function here has one and computes nothing.
 //! Proofs above cite `proofs/Trees` itself.
 ghost use Rattle.layout_model.specs.Cornerless.{CornerlessLaw};
+ghost use Rattle.layout_model.specs.Direction.{TwiceLaw};
 ghost use Rattle.layout_model.specs.Laid.{DrawnLaw, LaidKidsLaw, LevelsLaw, OffsetsLaw, StoredLaw};
 ghost use Rattle.layout_model.specs.Laws.{LaidLaw, LayoutLaw, VisitsLaw};
+ghost use Rattle.layout_model.specs.LeftToRight.{LeftToRightLaw};
 ghost use Rattle.layout_model.specs.Made.{MadeLaw, ReadsLaw, TwoContextsLaw};
 ghost use Rattle.layout_model.specs.Waves.{AlikeLaw, AskedLaw, EachWaveLaw, HandedLaw, OnceLaw, PlainLaw};
 
@@ -17,6 +19,17 @@ pub fn an_element_is_its_equation_over_its_children()
 /// before files had kerns.
 pub fn without_kerns_no_tree_has_corners()
     ensures { CornerlessLaw }
+{}
+
+/// A tree in which no element is from right to left has the boxes that it had before elements had a
+/// direction.
+pub fn without_a_direction_nothing_is_mirrored()
+    ensures { LeftToRightLaw }
+{}
+
+/// Mirroring twice is nothing.
+pub fn mirroring_twice_is_nothing()
+    ensures { TwiceLaw }
 {}
 
 /// The layouts that are made for an element are its own, and those made for what it asks.

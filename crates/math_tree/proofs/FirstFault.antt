@@ -48,7 +48,7 @@ within portion place bytes element e =
     record {
       level = not_above most_levels element.level tests.0;
       place = not_above most_elements place tests.1.0;
-      bytes = not_above most_bytes bytes tests.1.1.1.1.1.1.1.1.1.1.0;
+      bytes = not_above most_bytes bytes tests.1.1.1.1.1.1.1.1.1.0;
     }
 
 -- a sum that stands still far above the limit gives the same fault

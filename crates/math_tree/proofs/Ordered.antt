@@ -1,7 +1,7 @@
 -- The attributes in what is read stand in order.
-use Rattle.std.proofs.Common.{◌≡◌, sym, subst, ℕ, ◌+◌, List, [], ◌∷◌, ◌++◌, length}
+use Rattle.std.proofs.Common.{sym, subst, ℕ, ◌+◌, List, [], ◌∷◌, ◌++◌, length}
 use Rattle.std.proofs.lemmas.List.{append-nil}
-use Rattle.std.specs.List.{AllByRecursion, flat_map}
+use Rattle.std.specs.List.{flat_map}
 use Rattle.math_tree.proofs.Nodes.{all_parts, listed_element}
 use Rattle.math_tree.specs.Attributes.{IsInOrder}
 use Rattle.math_tree.specs.Parts.{AreOrdered, AreOrderedAt, IsOrderedAt}

@@ -1,25 +1,17 @@
 -- An element without a fault makes a proper one.
-use Rattle.std.proofs.Common.{◌≡◌, ◌∙◌, sym, ap, refl, ℕ, List, [], length, All, Bool, true, false, not, true≢false, ◌||◌, cond, Option, Some, None, codes, nat_cmp, Ordering, Less, Equal, Greater, is_eq}
+use Rattle.std.proofs.Common.{◌≡◌, ◌∙◌, sym, ap, refl, ℕ, List, [], length, All, Bool, true, false, not, true≢false, ◌||◌, cond, Option, Some, None, codes}
 use Rattle.std.proofs.lemmas.Bool.{and_parts}
-use Rattle.std.proofs.lemmas.Bool.Decides.{same_from_decides}
 use Rattle.std.proofs.lemmas.List.Elements.{All-nil, All-cons}
-use Rattle.std.proofs.lemmas.Map.Text.{is_eq-slice_cmp}
-use Rattle.std.proofs.lemmas.Slice.Eq.{bytes_eq-Decides}
-use Rattle.std.specs.Cmp.Lexicographic.{slice_cmp}
-use Rattle.std.specs.List.{find}
-use Rattle.std.specs.Option.{option_and_then, option_map, option_map_or, unwrap_or}
-use Rattle.std.specs.Ordering.{match_ordering}
-use Rattle.std.specs.Str.{bytes_eq}
+use Rattle.std.specs.Option.{option_and_then, option_map_or, unwrap_or}
 use Rattle.serde_json.specs.Data.{Data, null, boolean, number, string, array, object, Items, no_items, item, Members, no_members, member}
-use Rattle.serde_json.specs.Find.{get, get_member, as_str, as_object}
-use Rattle.math_tree.specs.Attributes.{IsInOrder, value_of}
-use Rattle.math_tree.specs.Elements.{Element, name_in, kind_in, text_in, children_in, attributes_in, attributes_held, text_held, attribute_of, attributes_of, text_or_empty, is_attribute, are_attributes, is_map_of_attributes, has_attributes, is_right_to_left, has_text, has_children, may_be_text_of, may_stand_below, listed_items}
+use Rattle.serde_json.specs.Find.{get, as_str, as_object}
+use Rattle.math_tree.specs.Attributes.{IsInOrder}
+use Rattle.math_tree.specs.Elements.{Element, name_in, kind_in, text_in, children_in, attributes_in, attributes_held, text_held, attribute_of, attributes_of, text_or_empty, is_attribute, are_attributes, is_map_of_attributes, has_attributes, has_text, has_children, may_be_text_of, may_stand_below, listed_items}
 use Rattle.math_tree.specs.Faults.{fault_of}
-use Rattle.math_tree.specs.Forms.{is_name, is_short_enough, is_white_space, is_rtl}
+use Rattle.math_tree.specs.Forms.{is_name, is_short_enough, is_white_space}
 use Rattle.math_tree.specs.Kinds.{is_text_kind}
 use Rattle.math_tree.specs.Laws.{entry}
 use Rattle.math_tree.specs.Trees.{IsProper, IsProperAttribute}
-use Rattle.math_tree.specs.declared.attributes.Attribute.{Attribute}
 use Rattle.math_tree.specs.declared.kind.Kind.{Kind}
 use Rattle.math_tree.proofs.FirstFault.{no_fault}
 use Rattle.math_tree.specs.declared.portion.Portion.{Portion}
@@ -58,56 +50,6 @@ held_proper (Some (object members)) e = members_proper members e
 
 -- ---- the direction
 
-chosen : (o : Ordering) (value : Data) (found : Option (List ℕ)) (rest : Option Data)
-    → found ≡ option_map text_or_empty rest
-    → cond (is_eq o) (Some (text_or_empty value)) found ≡ option_map text_or_empty (match_ordering o rest (Some value) rest)
-chosen Less value found rest e = e
-chosen Equal value found rest e = refl
-chosen Greater value found rest e = e
-
-same_found : (test : Bool) (a : Attribute) (found : Option Attribute)
-    → option_map (λ a. a.value) (cond test (Some a) found) ≡ cond test (Some a.value) (option_map (λ a. a.value) found)
-same_found true a found = refl
-same_found false a found = refl
-
-swapped : (a b : List ℕ) → bytes_eq a b ≡ is_eq (slice_cmp nat_cmp b a)
-swapped a b = same_from_decides (bytes_eq a b) (is_eq (slice_cmp nat_cmp b a)) (bytes_eq-Decides a b)
-    (λ h. sym ((bytes_eq-Decides b a).0 (sym (is_eq-slice_cmp b a) ∙ h)), λ e. is_eq-slice_cmp b a ∙ (bytes_eq-Decides b a).1 (sym e))
-
-value_at : (key : List ℕ) (members : Members)
-    → value_of key (attributes_of members) ≡ option_map text_or_empty (get_member key members)
-value_at key no_members = refl
-value_at key (member name value members) =
-    let own = attribute_of name value in
-    let rest = find (λ a. bytes_eq a.name key) (attributes_of members) in
-    same_found (bytes_eq name key) own rest
-    ∙ ap (λ b. cond b (Some own.value) (option_map (λ a. a.value) rest)) (swapped name key)
-    ∙ chosen (slice_cmp nat_cmp key name) value (option_map (λ a. a.value) rest) (get_member key members) (value_at key members)
-
-not_rtl : (value : Option Data) → option_map_or is_rtl (option_and_then as_str value) false ≡ false
-    → option_map_or is_rtl (option_map text_or_empty value) false ≡ false
-unfolding is_rtl
-not_rtl None e = refl
-not_rtl (Some null) e = refl
-not_rtl (Some (boolean b)) e = refl
-not_rtl (Some (number n)) e = refl
-not_rtl (Some (string s)) e = e
-not_rtl (Some (array items)) e = refl
-not_rtl (Some (object inside)) e = refl
-
-held_left : (held : Option Data)
-    → option_map_or is_rtl (option_and_then as_str (option_and_then (get (codes "dir")) held)) false ≡ false
-    → option_map_or is_rtl (value_of (codes "dir") (option_map_or attributes_of (option_and_then as_object held) [])) false ≡ false
-held_left None e = refl
-held_left (Some null) e = refl
-held_left (Some (boolean b)) e = refl
-held_left (Some (number n)) e = refl
-held_left (Some (string s)) e = refl
-held_left (Some (array items)) e = refl
-held_left (Some (object members)) e =
-    ap (λ found. option_map_or is_rtl found false) (value_at (codes "dir") members)
-    ∙ not_rtl (get_member (codes "dir") members) e
-
 -- ---- text and children
 
 short_or_none : (is_text : Bool) (text : List ℕ) → is_short_enough text ≡ true → is_short_enough (cond is_text text []) ≡ true
@@ -136,13 +78,13 @@ no_child kind (Some (item value items)) e text = absurd (true≢false (sym e ∙
 
 pub proper : (portion : Portion) (place bytes id : ℕ) (element : Element) → fault_of portion place bytes element ≡ None
     → IsInOrder (attributes_held element.value) → IsProper (entry id element)
-unfolding kind_in has_attributes attributes_held attributes_in is_right_to_left has_text text_held has_children
+unfolding kind_in has_attributes attributes_held attributes_in has_text text_held has_children
 proper portion place bytes id element e order =
     let value = element.value in
     let tests = no_fault portion place bytes element e in
     let name = tests.1.1.1.1 in
     let attributes = name.1.1 in
-    let text = attributes.1.1 in
+    let text = attributes.1 in
     record {
       kind = refl;
       name = is_not (is_name (name_in value)) name.0;
@@ -151,5 +93,4 @@ proper portion place bytes id element e order =
       text = text_right (kind_in value) (text_in value) (is_not _ text.0);
       childless = no_child (kind_in value) (children_in value) (is_not _ text.1.0);
       textless = no_text (is_text_kind (kind_in value)) _;
-      left_to_right = held_left (get (codes "attributes") value) attributes.1.0;
     }

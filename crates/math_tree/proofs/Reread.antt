@@ -10,8 +10,8 @@ use Rattle.std.specs.Str.{bytes_eq}
 use Rattle.serde_json.specs.Data.{Data, string, array, object, no_items}
 use Rattle.serde_json.specs.Find.{get, get_member, as_str, as_array, as_object}
 use Rattle.math_tree.specs.Attributes.{value_of as attribute_value}
-use Rattle.math_tree.specs.Elements.{name_in, kind_in, attributes_in, text_in, children_in, attributes_held, text_held, has_known_keys, has_attributes, is_right_to_left, has_text, has_children, text_or_empty, attributes_of, are_attributes, is_map_of_attributes, may_stand_below, listed_items}
-use Rattle.math_tree.specs.Forms.{is_short_enough, is_white_space, is_rtl}
+use Rattle.math_tree.specs.Elements.{name_in, kind_in, attributes_in, text_in, children_in, attributes_held, text_held, has_known_keys, has_attributes, has_text, has_children, text_or_empty, attributes_of, are_attributes, is_map_of_attributes, may_stand_below, listed_items}
+use Rattle.math_tree.specs.Forms.{is_short_enough, is_white_space}
 use Rattle.math_tree.specs.Kinds.{kind_of, is_text_kind}
 use Rattle.math_tree.specs.Print.{members_of, items_of, object_of}
 use Rattle.math_tree.specs.Trees.{IsProperAttribute}
@@ -127,16 +127,6 @@ module _ (xs : List Attribute) (vs : List Data) (name ts : List ℕ) where
   pub has_attributes_again : AllByRecursion IsProperAttribute xs → has_attributes value ≡ true
   unfolding has_attributes
   has_attributes_again h = ap (λ o. option_map_or is_map_of_attributes o true) (keyed xs vs name ts).at_attributes ∙ attributes_right xs h
-
-  direction_told : (l : List Attribute) → option_and_then as_str (option_and_then (get (codes "dir")) (told_if_any l (object (members_of l)))) ≡ attribute_value (codes "dir") l
-  direction_told [] = refl
-  direction_told (a ∷ l) = found_again (codes "dir") (a ∷ l)
-
-  pub left_again : option_map_or is_rtl (attribute_value (codes "dir") xs) false ≡ false → is_right_to_left value ≡ false
-  unfolding is_right_to_left
-  left_again h =
-      ap (λ o. option_map_or is_rtl (option_and_then as_str (option_and_then (get (codes "dir")) o)) false) (keyed xs vs name ts).at_attributes
-      ∙ ap (λ o. option_map_or is_rtl o false) (direction_told xs) ∙ h
 
   text_right : (b : Bool) → (b ≡ false → ts ≡ []) → (b || is_white_space ts) ≡ true
   unfolding is_white_space

@@ -15,7 +15,7 @@ use Rattle.math_tree.specs.Elements.{Element, over, over_items, elements, elemen
 use Rattle.math_tree.specs.Faults.{fault_of, fault_at, first_fault_after, is_misplaced}
 use Rattle.math_tree.specs.Kinds.{kind_of, is_text_kind}
 use Rattle.math_tree.specs.declared.fault.ElementFault.{ElementFault}
-use Rattle.math_tree.specs.declared.fault.ElementFault.TheVariants.{NotAnObject, BadName, NotMath, UnknownKey, BadAttributes, BadText, BadChildren, TooDeep, TooMany, RightToLeft, TooLong}
+use Rattle.math_tree.specs.declared.fault.ElementFault.TheVariants.{NotAnObject, BadName, NotMath, UnknownKey, BadAttributes, BadText, BadChildren, TooDeep, TooMany, TooLong}
 use Rattle.std.specs.Str.{bytes_eq}
 use Rattle.math_tree.specs.Forms.{most_levels, most_elements, most_bytes, is_name}
 use Rattle.math_tree.specs.Print.{items_of, value_of, with_id, renumbered_layer, renumbered, PrintReadsBack}
@@ -28,7 +28,7 @@ use Rattle.math_tree.specs.declared.node.Node.TheFolds.{fold-Node, fold_out-Node
 use Rattle.math_tree.specs.declared.node.Node.TheViews.{out-Node}
 use Rattle.math_tree.proofs.Nodes.{by_children, all_parts, listed_element}
 use Rattle.math_tree.proofs.Printing.{value_of_element}
-use Rattle.math_tree.proofs.Reread.{element_of, keyed, name_again, kind_again, attributes_are, text_again, has_attributes_again, left_again, has_text_again, has_children_again}
+use Rattle.math_tree.proofs.Reread.{element_of, keyed, name_again, kind_again, attributes_are, text_again, has_attributes_again, has_text_again, has_children_again}
 use Rattle.math_tree.specs.declared.portion.Portion.TheVariants.{Whole}
 
 -- ---- the elements of a printed value
@@ -112,7 +112,6 @@ module _ (head : Head) (values : List Data) (level children : ℕ) (counted : le
       let named : is_name (name_in (element_of xs values head.name head.text)) ≡ true = ap is_name name ∙ proper.name in
       let right_place : is_misplaced Whole place (name_in (element_of xs values head.name head.text)) ≡ false = ap (is_misplaced Whole place) name ∙ placed in
       let attributes = has_attributes_again xs values head.name head.text (recursion_from_All IsProperAttribute xs proper.attributes) in
-      let left = left_again xs values head.name head.text proper.left_to_right in
       let text = has_text_again xs values head.name head.text proper.text textless in
       let below = has_children_again xs values head.name head.text childless in
       λ i. option_map (λ (row : Bool × ElementFault). row.1) (find (λ (row : Bool × ElementFault). row.0)
@@ -123,7 +122,6 @@ module _ (head : Head) (values : List Data) (level children : ℕ) (counted : le
       ∷ (not (named i), BadName)
       ∷ (right_place i, NotMath)
       ∷ (not (attributes i), BadAttributes)
-      ∷ (left i, RightToLeft)
       ∷ (not (text i), BadText)
       ∷ (not (below i), BadChildren)
       ∷ (long i, TooLong)

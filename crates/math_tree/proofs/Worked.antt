@@ -12,7 +12,7 @@ use Rattle.math_tree.specs.Reading.{tree_of}
 use Rattle.math_tree.specs.Trees.{TreeValue, node}
 use Rattle.math_tree.specs.declared.attributes.Attribute.{Attribute}
 use Rattle.math_tree.specs.declared.fault.ElementFault.{ElementFault}
-use Rattle.math_tree.specs.declared.fault.ElementFault.TheVariants.{NotAnObject, BadName, NotMath, UnknownKey, BadAttributes, BadText, BadChildren, TooDeep, RightToLeft}
+use Rattle.math_tree.specs.declared.fault.ElementFault.TheVariants.{NotAnObject, BadName, NotMath, UnknownKey, BadAttributes, BadText, BadChildren, TooDeep}
 use Rattle.math_tree.specs.declared.fault.TreeFault.{TreeFault}
 use Rattle.math_tree.specs.declared.kind.Kind.{Kind}
 use Rattle.math_tree.specs.declared.kind.Kind.TheVariants.{Math, Mi, Mrow, Unknown}
@@ -87,10 +87,6 @@ root_is_a_row = refl
 value_is_a_number : Faulty (codes "{\"name\":\"math\",\"attributes\":{\"a\":1}}") 1 BadAttributes
 unfolding math_tree_on_literals
 value_is_a_number = refl
-
-direction_in_capitals : Faulty (codes "{\"name\":\"math\",\"attributes\":{\"dir\":\"RtL\"}}") 1 RightToLeft
-unfolding math_tree_on_literals
-direction_in_capitals = refl
 
 text_on_a_row : Faulty (codes "{\"name\":\"math\",\"children\":[{\"name\":\"mrow\",\"text\":\"x\"}]}") 2 BadText
 unfolding math_tree_on_literals

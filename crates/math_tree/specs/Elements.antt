@@ -6,7 +6,7 @@ use Rattle.std.specs.Str.{bytes_eq}
 use Rattle.serde_json.specs.Data.{Data, null, boolean, number, string, array, object, Items, no_items, item, Members, no_members, member}
 use Rattle.serde_json.specs.Find.{get, as_str, as_array, as_object}
 use Rattle.math_tree.specs.Attributes.{bytes_of_attributes}
-use Rattle.math_tree.specs.Forms.{is_name, is_white_space, is_short_enough, is_rtl}
+use Rattle.math_tree.specs.Forms.{is_name, is_white_space, is_short_enough}
 use Rattle.math_tree.specs.Kinds.{kind_of, is_text_kind}
 use Rattle.math_tree.specs.declared.attributes.Attribute.{Attribute}
 use Rattle.math_tree.specs.declared.kind.Kind.{Kind}
@@ -148,15 +148,6 @@ is_map_of_attributes value = option_map_or are_attributes (as_object value) fals
 -- its `attributes`, if there are any, are an object of such texts
 unfoldable pub has_attributes : Data → Bool
 has_attributes value = option_map_or is_map_of_attributes (get (codes "attributes") value) true
-
--- the text of its attribute `dir`
-abbrev pub direction_in : Data → Option (List ℕ)
-direction_in value =
-    option_and_then as_str (option_and_then (get (codes "dir")) (get (codes "attributes") value))
-
--- its attribute `dir` is `rtl`
-unfoldable pub is_right_to_left : Data → Bool
-is_right_to_left value = option_map_or is_rtl (direction_in value) false
 
 -- a text that isn't too long, and on an element that isn't a text element white space alone
 abbrev pub may_be_text_of : Kind → List ℕ → Bool

@@ -3,10 +3,10 @@ use Rattle.std.specs.Prelude.{ℕ, ◌+◌, List, [], ◌∷◌, Bool, true, fal
 use Rattle.std.specs.List.{find}
 use Rattle.std.specs.Option.{option_map, option_or}
 use Rattle.std.specs.Str.{bytes_eq}
-use Rattle.math_tree.specs.Elements.{Element, elements, name_in, bytes_held, is_object, has_known_keys, has_attributes, is_right_to_left, has_text, has_children}
+use Rattle.math_tree.specs.Elements.{Element, elements, name_in, bytes_held, is_object, has_known_keys, has_attributes, has_text, has_children}
 use Rattle.math_tree.specs.Forms.{is_name, most_levels, most_elements, most_bytes}
 use Rattle.math_tree.specs.declared.fault.ElementFault.{ElementFault}
-use Rattle.math_tree.specs.declared.fault.ElementFault.TheVariants.{NotAnObject, BadName, NotMath, UnknownKey, BadAttributes, BadText, BadChildren, TooDeep, TooMany, RightToLeft, TooLong}
+use Rattle.math_tree.specs.declared.fault.ElementFault.TheVariants.{NotAnObject, BadName, NotMath, UnknownKey, BadAttributes, BadText, BadChildren, TooDeep, TooMany, TooLong}
 use Rattle.math_tree.specs.declared.fault.TreeFault.{TreeFault}
 use Rattle.math_tree.specs.declared.portion.Portion.{Portion}
 use Rattle.math_tree.specs.declared.portion.Portion.TheVariants.{Part, Whole}
@@ -22,7 +22,6 @@ number_of BadText = 6
 number_of BadChildren = 7
 number_of TooDeep = 8
 number_of TooMany = 9
-number_of RightToLeft = 10
 number_of TooLong = 11
 
 -- whether the first element has to be `math`: that of a whole tree does
@@ -45,7 +44,6 @@ faults portion place bytes element = let value = element.value in
     ∷ (not (is_name (name_in value)), BadName)
     ∷ (is_misplaced portion place (name_in value), NotMath)
     ∷ (not (has_attributes value), BadAttributes)
-    ∷ (is_right_to_left value, RightToLeft)
     ∷ (not (has_text value), BadText)
     ∷ (not (has_children value), BadChildren)
     ∷ (nat_lt most_bytes bytes, TooLong)

@@ -1,8 +1,7 @@
 -- The forms of names and texts, and how much of them a tree may hold.
-use Rattle.std.specs.Prelude.{ℕ, List, [], ◌∷◌, length, codes, Bool, false, ◌&&◌, ◌||◌, nat_eq, nat_le}
+use Rattle.std.specs.Prelude.{ℕ, List, [], ◌∷◌, length, Bool, false, ◌&&◌, ◌||◌, nat_eq, nat_le}
 use Rattle.std.specs.Char.{is_ascii_alphabetic, is_ascii_alphanumeric, is_ascii_whitespace}
 use Rattle.std.specs.List.{list_all}
-use Rattle.fixed_units.specs.Words.{is_word}
 
 abbrev pub most_levels : ℕ
 most_levels = 60
@@ -36,7 +35,3 @@ is_white_space text = list_all is_ascii_whitespace text
 
 unfoldable pub is_short_enough : List ℕ → Bool
 is_short_enough text = nat_le (length text) longest_text
-
--- `rtl`, in any case of ASCII letters
-unfoldable pub is_rtl : List ℕ → Bool
-is_rtl text = is_word text (codes "rtl")

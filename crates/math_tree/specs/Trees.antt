@@ -1,9 +1,8 @@
 -- Trees, their elements in document order, and what holds of every tree.
 use Rattle.std.specs.Prelude.{◌≡◌, ℕ, ◌+◌, ◌^◌, ◌≤◌, ◌<◌, List, [], ◌∷◌, length, map, All, true, false, nat_eq, codes}
 use Rattle.std.specs.List.{flat_map, sum_by, IsDistinct}
-use Rattle.std.specs.Option.{option_map_or}
-use Rattle.math_tree.specs.Attributes.{IsInOrder, value_of, bytes_of_attributes}
-use Rattle.math_tree.specs.Forms.{is_name, is_short_enough, is_rtl, most_levels, most_elements, most_bytes}
+use Rattle.math_tree.specs.Attributes.{IsInOrder, bytes_of_attributes}
+use Rattle.math_tree.specs.Forms.{is_name, is_short_enough, most_levels, most_elements, most_bytes}
 use Rattle.math_tree.specs.Kinds.{kind_of, is_text_kind}
 use Rattle.math_tree.specs.declared.attributes.Attribute.{Attribute}
 use Rattle.math_tree.specs.declared.node.Head.{Head}
@@ -56,8 +55,8 @@ pub record IsProperAttribute (attribute : Attribute) : Type 0 where
   pub value : is_short_enough attribute.value ≡ true
 
 -- an element by itself: its kind is that of its name, names and texts are in their form and not
--- too long, its attributes stand in order, a text element has no children, only a text element has
--- a text, and `dir` isn't `rtl`
+-- too long, its attributes stand in order, a text element has no children, and only a text element
+-- has a text
 pub record IsProper (element : Listed) : Type 0 where
   pub kind : element.head.kind ≡ kind_of element.head.name
   pub name : is_name element.head.name ≡ true
@@ -66,7 +65,6 @@ pub record IsProper (element : Listed) : Type 0 where
   pub text : is_short_enough element.head.text ≡ true
   pub childless : is_text_kind element.head.kind ≡ true → element.children ≡ 0
   pub textless : is_text_kind element.head.kind ≡ false → element.head.text ≡ []
-  pub left_to_right : option_map_or is_rtl (value_of (codes "dir") element.head.attributes) false ≡ false
 
 -- an element with all below it, as it may be put into a tree: proper elements, of no more than 60
 -- levels by themselves; not too many of them, nor too many bytes in them

@@ -3,14 +3,14 @@ ghost use Rattle.std.specs.Prelude.{◌≡◌};
 ghost use Rattle.serde_json.specs.View.{view, members_view};
 ghost use Rattle.math_tree.specs.Elements.{is_element_key, has_known_keys, has_attributes};
 ghost use Rattle.math_tree.specs.Elements.{are_attributes, is_map_of_attributes, is_attribute};
-ghost use Rattle.math_tree.specs.Elements.{is_right_to_left, has_text, has_children};
+ghost use Rattle.math_tree.specs.Elements.{has_text, has_children};
 ghost use Rattle.math_tree.specs.Faults.{fault_of, is_misplaced};
 ghost use Rattle.math_tree.specs.Keys.{IsSaid};
 
 use crate::element::Keys;
 use crate::fault::ElementFault;
 use crate::forms::{
-    MOST_BYTES, MOST_ELEMENTS, MOST_LEVELS, is_name, is_rtl, is_short_enough, is_white_space,
+    MOST_BYTES, MOST_ELEMENTS, MOST_LEVELS, is_name, is_short_enough, is_white_space,
 };
 use crate::portion::Portion;
 use serde_json::{Map, Value};
@@ -43,8 +43,6 @@ pub fn fault_of(
         Some(ElementFault::NotMath)
     } else if !has_attributes(keys) {
         Some(ElementFault::BadAttributes)
-    } else if is_right_to_left(keys) {
-        Some(ElementFault::RightToLeft)
     } else if !has_text(keys) {
         Some(ElementFault::BadText)
     } else if !has_children(keys) {
@@ -106,16 +104,6 @@ fn is_attribute(name: &str, value: &Value) -> bool
     ensures { result ≡ is_attribute name.now (view value.now) }
 {
     is_name(name) && value.as_str().is_some_and(is_short_enough)
-}
-
-/// Whether the attribute `dir` is `rtl`.
-#[tactic(auto, unfolding(crate::specs::Elements::is_right_to_left))]
-fn is_right_to_left(keys: &Keys) -> bool
-    requires said { IsSaid keys.now }
-    ensures { result ≡ is_right_to_left (view keys.now.value.now) }
-{
-    let direction = keys.attributes.and_then(|attributes| attributes.get("dir"));
-    direction.and_then(Value::as_str).is_some_and(is_rtl)
 }
 
 /// Whether `text` is a text that isn't too long, and on an element that isn't a text element white

@@ -6,7 +6,7 @@ ghost use Rattle.math_tree.specs.Faults.{number_of};
 pub struct TreeFault {
     /// Its place in document order, from 1.
     pub element: u32,
-    /// The number of its first fault, from 1 to 11.
+    /// The number of its first fault.
     pub kind: u8,
 }
 
@@ -32,8 +32,6 @@ pub enum ElementFault {
     TooDeep,
     /// The element is one more than a tree may have.
     TooMany,
-    /// `dir` is `rtl`, which isn't laid out yet.
-    RightToLeft,
     /// The names, attribute names, values and texts up to this element have too many bytes.
     TooLong,
 }
@@ -53,7 +51,6 @@ impl ElementFault {
             ElementFault::BadChildren => 7,
             ElementFault::TooDeep => 8,
             ElementFault::TooMany => 9,
-            ElementFault::RightToLeft => 10,
             ElementFault::TooLong => 11,
         }
     }

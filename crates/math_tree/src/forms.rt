@@ -1,9 +1,7 @@
 //! The forms of names and texts, and how much of them a tree may hold.
 ghost use Rattle.std.specs.Prelude.{◌≡◌};
 ghost use Rattle.std.specs.List.{list_all};
-ghost use Rattle.math_tree.specs.Forms.{is_name, is_name_byte, is_white_space, is_short_enough, is_rtl};
-
-use fixed_units::is_word;
+ghost use Rattle.math_tree.specs.Forms.{is_name, is_name_byte, is_white_space, is_short_enough};
 
 /// The levels of a tree, of which the root's is the first.
 pub const MOST_LEVELS: u32 = 60;
@@ -59,12 +57,4 @@ pub fn is_short_enough(text: &str) -> bool
     ensures { result ≡ is_short_enough text.now }
 {
     text.len() <= LONGEST_TEXT
-}
-
-/// Whether a direction is `rtl`, in any case of ASCII letters.
-#[tactic(auto, unfolding(crate::specs::Forms::is_rtl))]
-pub fn is_rtl(text: &str) -> bool
-    ensures { result ≡ is_rtl text.now }
-{
-    is_word(text, "rtl")
 }

@@ -34,7 +34,7 @@ mod tree;
 
 pub use attributes::{Attribute, Attributes};
 pub use fault::TreeFault;
-pub use forms::{MOST_BYTES, MOST_ELEMENTS, MOST_LEVELS, is_name, is_rtl, is_short_enough};
+pub use forms::{MOST_BYTES, MOST_ELEMENTS, MOST_LEVELS, is_name, is_short_enough};
 pub use kind::Kind;
 pub use laws::{
     a_printed_tree_reads_back, elements_are_counted, the_first_fault_is_told,

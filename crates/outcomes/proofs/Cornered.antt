@@ -1,5 +1,5 @@
 -- Scripts over corners that count as others stand where those would have them.
-use Rattle.std.proofs.Common.{◌≡◌, ◌∙◌, ◌⊎◌, inl, inr, ap, sym, ℕ, ◌≤◌, length, Bool, Option, Some, None, IfSome, slice_get, ℤ}
+use Rattle.std.proofs.Common.{◌≡◌, ◌∙◌, inl, inr, ap, sym, ℕ, ◌≤◌, length, Bool, Option, Some, None, IfSome, ℤ}
 use Rattle.std.proofs.lemmas.Option.{slice_get_past}
 use Rattle.std.specs.Option.{option_and_then, option_map}
 use Rattle.fixed_units.specs.declared.boxes.MathBox.{MathBox}
@@ -16,8 +16,10 @@ use Rattle.scripts.proofs.KernLaws.{sub-same, sup-same, sub_sup-same}
 use Rattle.style_scope.specs.Sizes.{size_of}
 use Rattle.token_boxes.specs.Token.{token_glyph_of}
 use Rattle.layout_model.specs.Contexts.{kid_style}
+use Rattle.layout_model.specs.Direction.{turned_corner}
 use Rattle.layout_model.specs.Elements.{Element}
 use Rattle.layout_model.specs.Equations.{corner_at}
+use Rattle.layout_model.specs.declared.context.Context.{Context}
 use Rattle.outcomes.specs.Corners.{CountAs, IsAlone, cornered}
 use Rattle.outcomes.specs.declared.corners.Alone.{Alone}
 
@@ -49,7 +51,7 @@ inked count corner (Some a) h = record { glyph = h.glyph; low = h.low; high = h.
 module _ (e : Element) (corner : Corner) (index : ℕ) where
   abbrev at_own_size : GlyphId → Inked
   at_own_size glyph =
-      record { glyph = glyph; corner = corner; size = size_of e.metrics (kid_style e.metrics e.seen e.context.style index) }
+      record { glyph = glyph; corner = turned_corner e.context.style.rtl corner; size = size_of e.metrics (kid_style e.metrics e.seen e.context.style index) }
 
   -- past the last child there is no corner
   pub none_there : length e.seen.kids ≤ index → corner_at e corner index ≡ None
@@ -66,3 +68,8 @@ module _ (e : Element) (corner : Corner) (index : ℕ) where
       ap (λ (found : Option Kid). option_map at_own_size (option_and_then (λ (k : Kid). token_glyph_of e.metrics k.head) found)) kid.at
       ∙ ap (λ (h : Head). option_map at_own_size (token_glyph_of e.metrics h)) kid.holds
       ∙ ap (option_map at_own_size) (sym is)
+
+-- the corner of a direction that is read off a context
+pub turned_is : (context own : Context) (alone : Option Alone) (corner : Corner) → context ≡ own
+    → cornered (turned_corner context.style.rtl corner) alone ≡ cornered (turned_corner own.style.rtl corner) alone
+turned_is context own alone corner e = ap (λ (x : Context). cornered (turned_corner x.style.rtl corner) alone) e

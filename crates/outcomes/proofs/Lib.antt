@@ -1,3 +1,4 @@
+mod Casts
 mod CellBounds
 mod Cornered
 mod Exactly
@@ -6,5 +7,7 @@ mod Kids
 mod Lasts
 mod Leaves
 mod Lists
+mod MirroredRows
+mod Reach
 mod Roots
 mod RowBounds

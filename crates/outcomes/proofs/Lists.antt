@@ -1,5 +1,6 @@
 -- Numbers of a list that lie within a bound.
-use Rattle.std.proofs.Common.{◌≡◌, ◌∙◌, sym, ap, ℕ, zero, suc, ◌+◌, ◌<◌, arith, List, [], ◌∷◌, ◌++◌, get_or, take, All, ℤ, pos}
+use Rattle.std.proofs.Common.{◌≡◌, ◌∙◌, sym, ap, ℕ, zero, suc, ◌+◌, ◌<◌, arith, List, [], ◌∷◌, ◌++◌, get_or, map, refl, take, All, ℤ, pos}
+use Rattle.std.proofs.lemmas.List.{map-append}
 use Rattle.std.proofs.lemmas.List.Elements.{All-append, All-cons, All-head, All-nil, All-tail}
 use Rattle.fixed_units.specs.Numbers.{IsWithin}
 use Rattle.fixed_units.specs.Sums.{list_to}
@@ -33,3 +34,9 @@ pub All-taken : {A : Type 0} (P : A → Type 0) (n : ℕ) (xs : List A) → All 
 All-taken P zero xs all = All-nil P
 All-taken P (suc n) [] all = All-nil P
 All-taken P (suc n) (x ∷ xs) all = All-cons P x (take n xs) (All-head P x xs all) (All-taken P n xs (All-tail P x xs all))
+
+pub map_list_to : {A B : Type 0} (f : A → B) (n : ℕ) (g : ℕ → A) → map f (list_to n g) ≡ list_to n (λ i. f (g i))
+unfolding list_to
+map_list_to f zero g = refl
+map_list_to f (suc n) g =
+    map-append f (list_to n g) (g n ∷ []) ∙ ap (λ front. front ++ f (g n) ∷ []) (map_list_to f n g)

@@ -1,4 +1,5 @@
 pub mod Corners
 pub mod Elements
 pub mod Outcomes
+pub mod Reach
 pub mod Rows

@@ -1,10 +1,12 @@
 //! Which corners of glyphs move the scripts of a base.
 ghost use Rattle.std.specs.Prelude.{◌≡◌, ◌<◌, ◌^◌, pos, ◌≤ℤ◌, length, IfOk, IfSome};
 ghost use Rattle.font_metrics.specs.declared.corner.Corner.{Corner as CornerValue};
+ghost use Rattle.layout_model.specs.Direction.{turned_corner};
 ghost use Rattle.layout_model.specs.Equations.{corner_at, sub_corners, sub_sup_corners, sup_corners};
 ghost use Rattle.scripts.specs.Kerns.{AreInked};
 ghost use Rattle.outcomes.specs.Corners.{CountAs, IsAlone, cornered};
 
+use crate::direction::turned_corner;
 use crate::element::Element;
 use embellished::View;
 use fixed_units::Memory;
@@ -13,7 +15,7 @@ use scripts::{Inked, KernFrom, NO_CORNERS};
 use std::alloc::Global;
 use token_boxes::token_glyph;
 
-/// The corners at which a subscript meets its base, and a superscript its.
+/// The corners at which from left to right a subscript meets its base, and a superscript its.
 const BASE_OF_SUB: Corner = Corner::BottomRight;
 
 const SUB: Corner = Corner::TopLeft;
@@ -37,11 +39,12 @@ pub fn sub_corners<V: View>(alloc: Global, e: &Element<V>) -> Result<KernFrom, M
     if e.metrics().has_no_kerns() {
         return Ok(NO_CORNERS);
     }
+    let rtl = e.context().style.rtl;
     let base = alone_at(alloc, e, 0)?;
     let sub = alone_at(alloc, e, 1)?;
     Ok(KernFrom {
-        base_sub: corner_of(base, BASE_OF_SUB),
-        sub: corner_of(sub, SUB),
+        base_sub: corner_of(rtl, base, BASE_OF_SUB),
+        sub: corner_of(rtl, sub, SUB),
         base_sup: None,
         sup: None,
     })
@@ -55,13 +58,14 @@ pub fn sup_corners<V: View>(alloc: Global, e: &Element<V>) -> Result<KernFrom, M
     if e.metrics().has_no_kerns() {
         return Ok(NO_CORNERS);
     }
+    let rtl = e.context().style.rtl;
     let base = alone_at(alloc, e, 0)?;
     let sup = alone_at(alloc, e, 1)?;
     Ok(KernFrom {
         base_sub: None,
         sub: None,
-        base_sup: corner_of(base, BASE_OF_SUP),
-        sup: corner_of(sup, SUP),
+        base_sup: corner_of(rtl, base, BASE_OF_SUP),
+        sup: corner_of(rtl, sup, SUP),
     })
 }
 
@@ -73,21 +77,23 @@ pub fn sub_sup_corners<V: View>(alloc: Global, e: &Element<V>) -> Result<KernFro
     if e.metrics().has_no_kerns() {
         return Ok(NO_CORNERS);
     }
+    let rtl = e.context().style.rtl;
     let base = alone_at(alloc, e, 0)?;
     let sub = alone_at(alloc, e, 1)?;
     let sup = alone_at(alloc, e, 2)?;
     Ok(KernFrom {
-        base_sub: corner_of(base, BASE_OF_SUB),
-        sub: corner_of(sub, SUB),
-        base_sup: corner_of(base, BASE_OF_SUP),
-        sup: corner_of(sup, SUP),
+        base_sub: corner_of(rtl, base, BASE_OF_SUB),
+        sub: corner_of(rtl, sub, SUB),
+        base_sup: corner_of(rtl, base, BASE_OF_SUP),
+        sup: corner_of(rtl, sup, SUP),
     })
 }
 
 /// The only glyph that the child in flow at a place shows, where there is one.
 #[tactic(auto, using(fixed_units::proofs::Signed::from_bits), unfolding(layout_model::specs::Equations::corner_at))]
 fn alone_at<V: View>(alloc: Global, e: &Element<V>, index: usize) -> Result<Option<Alone>, Memory>
-    ensures value { IfOk result (λ alone. (corner : CornerValue) → cornered corner alone ≡ corner_at e.now corner index) }
+    ensures value { IfOk result (λ alone. (corner : CornerValue) →
+        cornered (turned_corner e.now.context.style.rtl corner) alone ≡ corner_at e.now corner index) }
     ensures alone { IfOk result (λ alone. IfSome alone (IsAlone (length e.now.metrics.glyphs))) }
 {
     if index >= e.count() {
@@ -102,15 +108,15 @@ fn alone_at<V: View>(alloc: Global, e: &Element<V>, index: usize) -> Result<Opti
     }
 }
 
-/// A corner of the only glyph that a child shows.
-fn corner_of(alone: Option<Alone>, corner: Corner) -> Option<Inked>
-    ensures { result ≡ cornered corner alone }
+/// A corner of the only glyph that a child shows, or from right to left the one on the other side.
+fn corner_of(rtl: bool, alone: Option<Alone>, corner: Corner) -> Option<Inked>
+    ensures { result ≡ cornered (turned_corner rtl corner) alone }
 {
     match alone {
         None => None,
         Some(alone) => Some(Inked {
             glyph: alone.glyph,
-            corner,
+            corner: turned_corner(rtl, corner),
             size: alone.size,
         }),
     }

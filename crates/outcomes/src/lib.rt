@@ -9,13 +9,15 @@
 //! - Proved: the outcome is `equation` of `layout_model`, exactly; it is refused exactly where one of
 //!   its numbers is out of range.
 //! - Knows nothing of: trees. It sees one element through a `View`.
-//! - Change how a kind is laid out: its arm in `specs/Equations.antt` of `layout_model`, then the
-//!   function of that kind, named in `src/kinds.rt`. Which answer counts: `specs/Answers.antt` of
-//!   `layout_model`, then `src/answers.rt`.
+//! - Change what is mirrored from right to left: `specs/Direction.antt` of `layout_model`, then
+//!   `src/direction.rt`. Change how a kind is laid out: its arm in `specs/Equations.antt` of
+//!   `layout_model`, then the function of that kind, named in `src/kinds.rt`. Which answer counts:
+//!   `specs/Answers.antt` of `layout_model`, then `src/answers.rt`.
 #![tactic(auto, using(fixed_units::proofs::Signed::from_bits))]
 
 mod answers; // the answer that counts of each child
 mod corners; // the corners of a base and its scripts
+mod direction; // what stands in an element from right to left
 mod element; // Element
 mod finishing; // finish, finish_replies
 mod fraction; // a fraction

@@ -4,21 +4,22 @@ ghost use Rattle.layout_model.specs.Contexts.{kid_axis};
 ghost use Rattle.layout_model.specs.Elements.{offset, outcome};
 ghost use Rattle.layout_model.specs.Equations.{is_inline, limit_case, limits_in, over_outcome, sub_outcome, sub_sup_outcome, sup_outcome, under_outcome, under_over_outcome, unless_moved};
 ghost use Rattle.layout_model.specs.Questions.{has_moved_limits};
+ghost use Rattle.outcomes.specs.Outcomes.{IsOutcome};
 
 use crate::element::Element;
 use crate::listing::list_of;
-use crate::script::{has_large_base, offset_at, sub_outcome, sub_sup_outcome, sup_outcome};
+use crate::script::{has_large_base, sub_outcome, sub_sup_outcome, sup_outcome};
 use child_questions::{has_moved_limits, is_true, kid_axis};
 use embellished::{View, fences_of};
 use fixed_units::{List, MathBox, Memory};
-use layout_model::Outcome;
+use layout_model::{Offset, Outcome};
 use op_dictionary::Axis;
-use scripts::{LimitCase, Limits, under_over};
+use scripts::{LimitCase, Limits, Spot, under_over};
 use std::alloc::Global;
 
 /// A base with a limit below it, or with a subscript where that is moved (MathML Core 3.4.2).
 pub fn under_or_sub<V: View>(alloc: Global, e: &Element<V>) -> Result<Outcome, Memory>
-    ensures { IfOk result (λ outcome. outcome ≡ unless_moved e.now (under_outcome e.now) (sub_outcome e.now)) }
+    ensures { IfOk result (IsOutcome (unless_moved e.now (under_outcome e.now) (sub_outcome e.now))) }
 {
     if are_moved(e) {
         sub_outcome(alloc, e)
@@ -38,7 +39,7 @@ fn with_under<V: View>(alloc: Global, e: &Element<V>, limits: &Limits) -> Result
 
 /// A base with a limit above it, or with a superscript where that is moved (MathML Core 3.4.2).
 pub fn over_or_sup<V: View>(alloc: Global, e: &Element<V>) -> Result<Outcome, Memory>
-    ensures { IfOk result (λ outcome. outcome ≡ unless_moved e.now (over_outcome e.now) (sup_outcome e.now)) }
+    ensures { IfOk result (IsOutcome (unless_moved e.now (over_outcome e.now) (sup_outcome e.now))) }
 {
     if are_moved(e) {
         sup_outcome(alloc, e)
@@ -59,7 +60,7 @@ fn with_over<V: View>(alloc: Global, e: &Element<V>, limits: &Limits) -> Result<
 /// A base with limits below and above it, or with two scripts where those are moved (MathML Core
 /// 3.4.2).
 pub fn limits_or_scripts<V: View>(alloc: Global, e: &Element<V>) -> Result<Outcome, Memory>
-    ensures { IfOk result (λ outcome. outcome ≡ unless_moved e.now (under_over_outcome e.now) (sub_sup_outcome e.now)) }
+    ensures { IfOk result (IsOutcome (unless_moved e.now (under_over_outcome e.now) (sub_sup_outcome e.now))) }
 {
     if are_moved(e) {
         sub_sup_outcome(alloc, e)
@@ -78,6 +79,17 @@ fn with_limits<V: View>(alloc: Global, e: &Element<V>, limits: &Limits) -> Resul
     let over = offset_at(2, &limits.over);
     let offsets = list_of(alloc, &[base, under, over])?;
     Ok(e.outcome(alloc, limits.frame, offsets, List::make(alloc)))
+}
+
+/// A child at a place.
+fn offset_at(kid: u32, spot: &Spot) -> Offset
+    ensures { result ≡ offset kid spot.now.x spot.now.y }
+{
+    Offset {
+        kid,
+        x: spot.x,
+        y: spot.y,
+    }
 }
 
 /// Whether limits stand beside their base as scripts.

@@ -5,9 +5,12 @@ ghost use Rattle.multiscripts.specs.Along.{IsPairStored};
 ghost use Rattle.multiscripts.specs.Placing.{multi_of};
 ghost use Rattle.layout_model.specs.Elements.{font, frame_at};
 ghost use Rattle.layout_model.specs.Equations.{has_large_base, multi_outcome, offset_in, pair_at, pairs_of, spot_at, spot_of};
+ghost use Rattle.outcomes.specs.Outcomes.{IsOutcome};
+ghost use Rattle.outcomes.specs.Reach.{offset_reached};
 
+use crate::direction::placed_in;
 use crate::element::Element;
-use crate::script::{has_large_base, offset_at};
+use crate::script::has_large_base;
 use embellished::View;
 use fixed_units::{List, Memory};
 use layout_model::{Offset, Outcome};
@@ -18,10 +21,10 @@ use std::alloc::Global;
 /// A base with scripts in pairs, behind it and before it (MathML Core 3.4.3).
 #[tactic(auto, using(fixed_units::proofs::Signed::from_bits), unfolding(layout_model::specs::Equations::multi_outcome))]
 pub fn multi_outcome<V: View>(alloc: Global, e: &Element<V>) -> Result<Outcome, Memory>
-    ensures { IfOk result (λ outcome. outcome ≡ multi_outcome e.now) }
+    ensures { IfOk result (IsOutcome (multi_outcome e.now)) }
 {
     let multi = multi_in(alloc, e)?;
-    let offsets = offsets_in(alloc, e.count(), &multi)?;
+    let offsets = offsets_in(alloc, e, &multi)?;
     Ok(e.outcome(alloc, multi.frame, offsets, List::make(alloc)))
 }
 
@@ -64,14 +67,15 @@ fn pair_at<V: View>(e: &Element<V>, index: usize) -> Pair
     }
 }
 
-/// So many children, the base and its scripts, where they stand.
-fn offsets_in(alloc: Global, count: usize, multi: &Multi) -> Result<List<Offset>, Memory>
-    requires { count ≤ 65_535 }
-    ensures { IfOk result (λ offsets. offsets ≡ list_to count (offset_in multi.now)) }
+/// The base and its scripts, where they stand.
+fn offsets_in<V: View>(alloc: Global, e: &Element<V>, multi: &Multi) -> Result<List<Offset>, Memory>
+    ensures { IfOk result (λ offsets.
+        offsets ≡ list_to (length e.now.seen.kids) (λ kid. offset_reached (offset_in e.now multi.now kid))) }
 {
     let mut offsets = List::make(alloc);
-    for kid in 0..count {
-        offsets.push(offset_at(kid as u32, &spot_of(multi, kid)))?;
+    for kid in 0..e.count() {
+        let spot = spot_of(multi, kid);
+        offsets.push(placed_in(e, &multi.frame, kid as u32, spot.x, spot.y))?;
     }
     Ok(offsets)
 }

@@ -73,8 +73,9 @@ fn mark_fits(mark: &Mark) -> bool
 /// The farthest that a stored number reaches, on both sides of 0.
 const FARTHEST: i64 = 1 << 30;
 
+/// Whether a number can be stored.
 #[tactic(auto, unfolding(fixed_units::specs::Boxes::is_stored))]
-fn is_stored(number: i64) -> bool
+pub fn is_stored(number: i64) -> bool
     ensures { result ≡ is_stored number }
 {
     (-FARTHEST <= number) & (number <= FARTHEST)

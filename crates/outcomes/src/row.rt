@@ -3,17 +3,22 @@ ghost use Rattle.std.specs.List.{All};
 ghost use Rattle.fixed_units.specs.Boxes.{IsBoxWithin};
 ghost use Rattle.fixed_units.specs.Numbers.{IsWithin};
 ghost use Rattle.embellished.specs.Seen.{seen_of};
-ghost use Rattle.layout_model.specs.Elements.{along, row_in, shows_spaces};
-ghost use Rattle.layout_model.specs.Equations.{cell_outcome, error_outcome, row_outcome, square_root_outcome};
+ghost use Rattle.layout_model.specs.Elements.{along, font, row_frame, row_in, row_x, shows_spaces};
+ghost use Rattle.layout_model.specs.Equations.{cell_outcome, error_outcome, root_sign_over, row_outcome, square_root_outcome};
 ghost use Rattle.layout_model.specs.Rows.{error_of};
+ghost use Rattle.radicals.specs.Equation.{IsRootBox};
+ghost use Rattle.radicals.specs.Placing.{square_root_of};
+ghost use Rattle.outcomes.specs.Outcomes.{IsOutcome};
 ghost use Rattle.outcomes.specs.Rows.{IsRowWithin};
 
+use crate::direction::{mirrored, turned};
 use crate::element::Element;
+use crate::root::root_marks;
 use embellished::View;
 use fixed_units::{List, MathBox, Memory, half};
 use layout_model::{Offset, Outcome};
 use math_tables::{cell, cell_start};
-use radicals::square_root;
+use radicals::{Radical, square_root};
 use row_stretch::{Row, row_finish};
 use std::alloc::Global;
 
@@ -22,8 +27,9 @@ pub fn row_outcome<V: View>(alloc: Global, e: &Element<V>) -> Result<Outcome, Me
     ensures { IfOk result (λ outcome. outcome ≡ row_outcome e.now) }
 {
     let row = row_in(alloc, e)?;
+    let frame = row_frame(e, &row);
     let offsets = along(alloc, e, &row, 0, 0)?;
-    Ok(e.outcome(alloc, row.frame, offsets, List::make(alloc)))
+    Ok(e.outcome(alloc, frame, offsets, List::make(alloc)))
 }
 
 /// An error: its row, with 1 px round it.
@@ -38,14 +44,31 @@ pub fn error_outcome<V: View>(alloc: Global, e: &Element<V>) -> Result<Outcome, 
 
 /// A square root over a row (MathML Core 3.3.3.2).
 pub fn square_root_outcome<V: View>(alloc: Global, e: &Element<V>) -> Result<Outcome, Memory>
-    ensures { IfOk result (λ outcome. outcome ≡ square_root_outcome e.now) }
+    ensures { IfOk result (IsOutcome (square_root_outcome e.now)) }
 {
     let row = row_in(alloc, e)?;
     let root = square_root(&row.frame, e.context().style.display, e.size(), e.metrics());
-    let offsets = along(alloc, e, &row, root.base.x, root.base.y)?;
-    let mut marks = List::make(alloc);
-    marks.push(root.surd)?;
-    marks.push(root.rule)?;
+    with_root_sign(alloc, e, &row, &root)
+}
+
+/// A radical over a row.
+fn with_root_sign<V: View>(
+    alloc: Global,
+    e: &Element<V>,
+    row: &Row,
+    root: &Radical,
+) -> Result<Outcome, Memory>
+    requires row { row.now ≡ row_in e.now }
+    requires within { IsRowWithin row.now }
+    requires root { root.now ≡ square_root_of e.now.metrics row.now.frame e.now.context.style.display (font e.now) }
+    requires frame { IsRootBox root.now.frame }
+    ensures { IfOk result (IsOutcome (root_sign_over e.now root.now)) }
+{
+    let width = row.frame.width;
+    let rtl = e.context().style.rtl;
+    let start = turned(rtl, root.frame.width, i128::from(width), root.base.x);
+    let offsets = along(alloc, e, row, start, root.base.y)?;
+    let marks = root_marks(alloc, e, width, root)?;
     Ok(e.outcome(alloc, root.frame, offsets, marks))
 }
 
@@ -105,6 +128,7 @@ pub fn along<V: View>(
     start: i64,
     y: i64,
 ) -> Result<List<Offset>, Memory>
+    requires width { IsWithin (2 ^ 50) row.now.frame.width }
     requires offsets { All (IsWithin (2 ^ 50)) row.now.offsets }
     requires start { IsWithin (2 ^ 62) start }
     ensures { IfOk result (λ offsets. offsets ≡ along e.now row.now start y) }
@@ -113,14 +137,45 @@ pub fn along<V: View>(
     for index in 0..e.count() {
         offsets.push(Offset {
             kid: index as u32,
-            x: start + offset_at(row, index),
+            x: start + row_x(e, row, index),
             y,
         })?;
     }
     Ok(offsets)
 }
 
-/// How far from the row's start a child stands.
+/// Where a child begins in a row, in the direction of the element.
+fn row_x<V: View>(e: &Element<V>, row: &Row, index: usize) -> i64
+    requires width { IsWithin (2 ^ 50) row.now.frame.width }
+    requires offsets { All (IsWithin (2 ^ 50)) row.now.offsets }
+    ensures value { result ≡ row_x e.now row.now index }
+    ensures within { IsWithin (2 ^ 52) result }
+{
+    let x = offset_at(row, index);
+    if !e.context().style.rtl {
+        return x;
+    }
+    let part = i128::from(e.frame(index).width);
+    mirrored(row.frame.width, part, x) as i64
+}
+
+/// The box of a row: from right to left the accent of an only child is where that stands.
+#[tactic(auto, using(fixed_units::proofs::Signed::from_bits), unfolding(layout_model::specs::Elements::row_frame))]
+fn row_frame<V: View>(e: &Element<V>, row: &Row) -> MathBox
+    requires { IsRowWithin row.now }
+    ensures { result ≡ row_frame e.now row.now }
+{
+    if e.context().style.rtl && e.count() == 1 {
+        MathBox {
+            accent: row_x(e, row, 0) + e.frame(0).accent,
+            ..row.frame
+        }
+    } else {
+        row.frame
+    }
+}
+
+/// How far from the row's start a child stands from left to right.
 fn offset_at(row: &Row, index: usize) -> i64
     requires { All (IsWithin (2 ^ 50)) row.now.offsets }
     ensures value { result ≡ slice_index_or row.now.offsets index (pos 0) }

@@ -1,16 +1,18 @@
 ghost use Rattle.std.specs.Prelude.{◌≡◌, IfOk, pos, [], ◌∷◌};
 ghost use Rattle.scripts.specs.Beside.{sub_of, sub_sup_of, sup_of};
-ghost use Rattle.layout_model.specs.Elements.{font, frame_at, offset, outcome};
+ghost use Rattle.layout_model.specs.Elements.{font, frame_at, outcome, placed_in};
 ghost use Rattle.layout_model.specs.Equations.{has_large_base, sub_corners, sub_outcome, sub_sup_corners, sub_sup_outcome, sup_corners, sup_outcome};
+ghost use Rattle.outcomes.specs.Outcomes.{IsOutcome};
 
 use crate::corners::{sub_corners, sub_sup_corners, sup_corners};
+use crate::direction::placed_in;
 use crate::element::Element;
 use crate::listing::list_of;
 use child_questions::base_properties;
 use embellished::{View, fences_of};
 use fixed_units::{List, Memory};
-use layout_model::{Offset, Outcome};
-use scripts::{Scripted, Spot, sub, sub_sup, sup};
+use layout_model::Outcome;
+use scripts::{Scripted, sub, sub_sup, sup};
 use std::alloc::Global;
 
 /// Whether the base is a large operator.
@@ -24,23 +26,9 @@ pub fn has_large_base<V: View>(e: &Element<V>) -> bool
     }
 }
 
-/// A child at a place.
-pub fn offset_at(kid: u32, spot: &Spot) -> Offset
-    ensures { result ≡ offset kid spot.now.x spot.now.y }
-{
-    Offset {
-        kid,
-        x: spot.x,
-        y: spot.y,
-    }
-}
-
-/// The place of the base, at the start.
-const BASE: Offset = Offset { kid: 0, x: 0, y: 0 };
-
 /// A base with a subscript (MathML Core 3.4.1).
 pub fn sub_outcome<V: View>(alloc: Global, e: &Element<V>) -> Result<Outcome, Memory>
-    ensures { IfOk result (λ outcome. outcome ≡ sub_outcome e.now) }
+    ensures { IfOk result (IsOutcome (sub_outcome e.now)) }
 {
     let scripted = sub_in(alloc, e)?;
     with_sub(alloc, e, &scripted)
@@ -57,16 +45,20 @@ fn sub_in<V: View>(alloc: Global, e: &Element<V>) -> Result<Scripted, Memory>
 }
 
 fn with_sub<V: View>(alloc: Global, e: &Element<V>, scripted: &Scripted) -> Result<Outcome, Memory>
-    ensures { IfOk result (λ made. made ≡ outcome e.now scripted.now.frame
-        (offset 0 (pos 0) (pos 0) ∷ offset 1 scripted.now.sub.x scripted.now.sub.y ∷ []) []) }
+    ensures { IfOk result (IsOutcome (outcome e.now scripted.now.frame
+        (placed_in e.now scripted.now.frame 0 (pos 0) (pos 0)
+        ∷ placed_in e.now scripted.now.frame 1 scripted.now.sub.x scripted.now.sub.y ∷ []) [])) }
 {
-    let offsets = list_of(alloc, &[BASE, offset_at(1, &scripted.sub)])?;
+    let frame = &scripted.frame;
+    let base = placed_in(e, frame, 0, 0, 0);
+    let script = placed_in(e, frame, 1, scripted.sub.x, scripted.sub.y);
+    let offsets = list_of(alloc, &[base, script])?;
     Ok(e.outcome(alloc, scripted.frame, offsets, List::make(alloc)))
 }
 
 /// A base with a superscript (MathML Core 3.4.1).
 pub fn sup_outcome<V: View>(alloc: Global, e: &Element<V>) -> Result<Outcome, Memory>
-    ensures { IfOk result (λ outcome. outcome ≡ sup_outcome e.now) }
+    ensures { IfOk result (IsOutcome (sup_outcome e.now)) }
 {
     let scripted = sup_in(alloc, e)?;
     with_sup(alloc, e, &scripted)
@@ -85,16 +77,20 @@ fn sup_in<V: View>(alloc: Global, e: &Element<V>) -> Result<Scripted, Memory>
 }
 
 fn with_sup<V: View>(alloc: Global, e: &Element<V>, scripted: &Scripted) -> Result<Outcome, Memory>
-    ensures { IfOk result (λ made. made ≡ outcome e.now scripted.now.frame
-        (offset 0 (pos 0) (pos 0) ∷ offset 1 scripted.now.sup.x scripted.now.sup.y ∷ []) []) }
+    ensures { IfOk result (IsOutcome (outcome e.now scripted.now.frame
+        (placed_in e.now scripted.now.frame 0 (pos 0) (pos 0)
+        ∷ placed_in e.now scripted.now.frame 1 scripted.now.sup.x scripted.now.sup.y ∷ []) [])) }
 {
-    let offsets = list_of(alloc, &[BASE, offset_at(1, &scripted.sup)])?;
+    let frame = &scripted.frame;
+    let base = placed_in(e, frame, 0, 0, 0);
+    let script = placed_in(e, frame, 1, scripted.sup.x, scripted.sup.y);
+    let offsets = list_of(alloc, &[base, script])?;
     Ok(e.outcome(alloc, scripted.frame, offsets, List::make(alloc)))
 }
 
 /// A base with a subscript and a superscript (MathML Core 3.4.1).
 pub fn sub_sup_outcome<V: View>(alloc: Global, e: &Element<V>) -> Result<Outcome, Memory>
-    ensures { IfOk result (λ outcome. outcome ≡ sub_sup_outcome e.now) }
+    ensures { IfOk result (IsOutcome (sub_sup_outcome e.now)) }
 {
     let scripted = sub_sup_in(alloc, e)?;
     with_both(alloc, e, &scripted)
@@ -122,12 +118,15 @@ fn sub_sup_in<V: View>(alloc: Global, e: &Element<V>) -> Result<Scripted, Memory
 }
 
 fn with_both<V: View>(alloc: Global, e: &Element<V>, scripted: &Scripted) -> Result<Outcome, Memory>
-    ensures { IfOk result (λ made. made ≡ outcome e.now scripted.now.frame
-        (offset 0 (pos 0) (pos 0) ∷ offset 1 scripted.now.sub.x scripted.now.sub.y
-        ∷ offset 2 scripted.now.sup.x scripted.now.sup.y ∷ []) []) }
+    ensures { IfOk result (IsOutcome (outcome e.now scripted.now.frame
+        (placed_in e.now scripted.now.frame 0 (pos 0) (pos 0)
+        ∷ placed_in e.now scripted.now.frame 1 scripted.now.sub.x scripted.now.sub.y
+        ∷ placed_in e.now scripted.now.frame 2 scripted.now.sup.x scripted.now.sup.y ∷ []) [])) }
 {
-    let below = offset_at(1, &scripted.sub);
-    let above = offset_at(2, &scripted.sup);
-    let offsets = list_of(alloc, &[BASE, below, above])?;
+    let frame = &scripted.frame;
+    let base = placed_in(e, frame, 0, 0, 0);
+    let below = placed_in(e, frame, 1, scripted.sub.x, scripted.sub.y);
+    let above = placed_in(e, frame, 2, scripted.sup.x, scripted.sup.y);
+    let offsets = list_of(alloc, &[base, below, above])?;
     Ok(e.outcome(alloc, scripted.frame, offsets, List::make(alloc)))
 }

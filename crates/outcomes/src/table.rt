@@ -1,12 +1,14 @@
-ghost use Rattle.std.specs.Prelude.{◌≡◌, ◌≤◌, ◌^◌, pos, length, map, IfOk};
+ghost use Rattle.std.specs.Prelude.{◌≡◌, ◌≤◌, ◌^◌, pos, length, map, true, IfOk};
 ghost use Rattle.std.specs.List.{All};
-ghost use Rattle.fixed_units.specs.Boxes.{IsStored, farthest};
+ghost use Rattle.fixed_units.specs.Boxes.{IsStored, farthest, is_stored};
 ghost use Rattle.fixed_units.specs.Numbers.{IsWithin};
 ghost use Rattle.fixed_units.specs.Sums.{list_to};
-ghost use Rattle.layout_model.specs.Elements.{frames_of, offset};
+ghost use Rattle.layout_model.specs.Elements.{along, frames_of, offset};
 ghost use Rattle.layout_model.specs.Equations.{cells_placed, row_at, table_outcome, table_row_outcome, widths_of};
+ghost use Rattle.outcomes.specs.Outcomes.{IsOutcome};
 
 use crate::element::Element;
+use crate::range::is_stored;
 use crate::row::along;
 use embellished::View;
 use fixed_units::{List, MathBox, Memory};
@@ -17,13 +19,25 @@ use std::alloc::Global;
 
 /// A row of a table: its cells in the middle of their columns (MathML Core 3.5.2).
 pub fn table_row_outcome<V: View>(alloc: Global, e: &Element<V>) -> Result<Outcome, Memory>
-    ensures { IfOk result (λ outcome. outcome ≡ table_row_outcome e.now) }
+    ensures { IfOk result (IsOutcome (table_row_outcome e.now)) }
 {
     let cells = frames(alloc, e)?;
     let widths = widths(alloc, cells.as_slice())?;
     let row = cells_placed(alloc, e, &cells, &widths)?;
-    let offsets = along(alloc, e, &row, 0, 0)?;
+    let offsets = cells_along(alloc, e, &row)?;
     Ok(e.outcome_with(row.frame, widths, offsets, List::make(alloc)))
+}
+
+/// Where the cells of a row stand; of one that is too wide to be stored none are told.
+fn cells_along<V: View>(alloc: Global, e: &Element<V>, row: &Row) -> Result<List<Offset>, Memory>
+    requires { All (IsWithin (2 ^ 50)) row.now.offsets }
+    ensures { IfOk result (λ offsets. is_stored row.now.frame.width ≡ true →
+        offsets ≡ along e.now row.now (pos 0) (pos 0)) }
+{
+    if !is_stored(row.frame.width) {
+        return Ok(List::make(alloc));
+    }
+    along(alloc, e, row, 0, 0)
 }
 
 /// The cells of a row in their columns; without columns, each in one as wide as itself.

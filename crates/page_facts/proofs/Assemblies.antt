@@ -53,6 +53,7 @@ use Rattle.token_boxes.specs.declared.leaf.Drawn.{Drawn}
 use Rattle.token_boxes.specs.declared.leaf.Leaf.{Leaf}
 use Rattle.layout_model.proofs.Drawn.{both_true, listed_pass}
 use Rattle.layout_model.proofs.Trees.{lay_is}
+use Rattle.layout_model.specs.Direction.{turned_mark}
 use Rattle.layout_model.specs.Elements.{Element, font, frame_at, outcome_with, row_in}
 use Rattle.layout_model.specs.Equations.{fraction_outcome, marks_if, multi_outcome, operator_outcome, operator_with, outcome_by, over_outcome, root_outcome, space_outcome, square_root_outcome, sub_outcome, sub_sup_outcome, sup_outcome, thickness_of, token_outcome, under_outcome, under_over_outcome}
 use Rattle.layout_model.specs.Laid.{all_outcomes}
@@ -256,6 +257,17 @@ module _ (m : MetricsValue) (taken : IsTaken m) (size : ℤ) (sized : is_font_si
   root_small row start display =
       both_true _ _ (drawn_as _ _ Upward _ _ (shaped_small (place_of_letter m 0x221A) Upward _)) refl
 
+-- where marks are mirrored, their assemblies stay
+turned_small : (rtl : Bool) (whole part : ℤ) (mark : Mark) → is_small (turned_mark rtl whole part mark) ≡ is_small mark
+turned_small rtl whole part (Glyph x y size glyph) = refl
+turned_small rtl whole part (Rule x y width height) = refl
+turned_small rtl whole part (Composed x y size axis glyph count overlap) = refl
+
+marks_small : (rtl : Bool) (whole first second : ℤ) (surd rule : Mark) → list_all is_small (surd ∷ rule ∷ []) ≡ true
+    → list_all is_small (turned_mark rtl whole first surd ∷ turned_mark rtl whole second rule ∷ []) ≡ true
+marks_small rtl whole first second surd rule h =
+    (λ i. turned_small rtl whole first surd i && (turned_small rtl whole second rule i && true)) ∙ h
+
 -- ---- fractions
 
 rule_small : (b : Bool) (top bottom : MathBox) (ruled stacked : Shifts) (axis thickness : ℤ)
@@ -301,11 +313,15 @@ module _ (e : Element) (taken : IsTaken e.metrics) (sized : is_font_size (font e
 
   square_root_drawn : IsOutcome (square_root_outcome e)
   unfolding outcome_with draws_small
-  square_root_drawn = root_small e.metrics taken (font e) sized (row_in e).frame (pos 0) e.context.style.display
+  square_root_drawn =
+      marks_small e.context.style.rtl _ _ _ _ _
+      (root_small e.metrics taken (font e) sized (row_in e).frame (pos 0) e.context.style.display)
 
   root_drawn : IsOutcome (root_outcome e)
   unfolding outcome_with draws_small root_with_index_of with_index_of
-  root_drawn = root_small e.metrics taken (font e) sized (frame_at e 0) (root_start_of (index_lengths_of e.metrics (font e)) (frame_at e 1)) e.context.style.display
+  root_drawn =
+      marks_small e.context.style.rtl _ _ _ _ _
+      (root_small e.metrics taken (font e) sized (frame_at e 0) (root_start_of (index_lengths_of e.metrics (font e)) (frame_at e 1)) e.context.style.display)
 
   scripts_drawn : IsOutcome (multi_outcome e)
   unfolding multi_outcome outcome_with draws_small

@@ -10,10 +10,10 @@ use Rattle.math_tree.specs.declared.kind.Kind.TheVariants.{Math, Mfrac, Mi, Mmul
 use Rattle.math_tree.specs.declared.node.Head.{Head}
 use Rattle.style_scope.specs.declared.style.Place.{Place}
 use Rattle.style_scope.specs.declared.style.Style.{Style}
-use Rattle.style_scope.specs.Rules.{by_name, by_place, by_size, by_level, by_display, levels_of, is_compact_in, is_cramped_in}
+use Rattle.style_scope.specs.Rules.{by_name, by_place, by_size, by_level, by_direction, by_display, levels_of, is_compact_in, is_cramped_in}
 use Rattle.style_scope.specs.Sizes.{in_range_of, size_of}
 use Rattle.style_scope.specs.Styles.{initial, by_attributes, root_style_of, child_style_of}
-use Rattle.style_scope.specs.Words.{level_of, number_of}
+use Rattle.style_scope.specs.Words.{direction_of_word, level_of, number_of}
 
 -- ---- places
 abbrev place : Kind → ℕ → Place
@@ -139,71 +139,97 @@ abbrev element : Kind → List Attribute → Head
 element kind attributes = record { id = record { 0 = 1 }; name = []; kind = kind; attributes = attributes; text = [] }
 
 pub root-inline : (m : MetricsValue) → root_style_of m (element Math []) ≡ initial
-unfolding root_style_of by_attributes by_size by_level by_display
+unfolding root_style_of by_attributes by_size by_level by_direction by_display
 root-inline m = refl
 
 pub root-block : (m : MetricsValue) → root_style_of m (element Math (given (codes "display") (codes "Block"))) ≡ block
-unfolding root_style_of by_attributes by_size by_level by_display
+unfolding root_style_of by_attributes by_size by_level by_direction by_display
 root-block m = refl
 
 -- 1 over 1, in a line: the fraction has the root's style, and its parts stand a level deeper
 pub fraction-itself : (m : MetricsValue) → child_style_of m initial (place Math 0) (element Mfrac []) ≡ initial
-unfolding child_style_of by_attributes by_place levels_of is_compact_in is_cramped_in by_name by_size by_level by_display
+unfolding child_style_of by_attributes by_place levels_of is_compact_in is_cramped_in by_name by_size by_level by_direction by_display
 fraction-itself m = refl
 
 pub fraction-numerator : (m : MetricsValue) → child_style_of m initial (place Mfrac 0) (element Mn []) ≡ record initial { depth = 1 }
-unfolding child_style_of by_attributes by_place levels_of is_compact_in is_cramped_in by_name by_size by_level by_display
+unfolding child_style_of by_attributes by_place levels_of is_compact_in is_cramped_in by_name by_size by_level by_direction by_display
 fraction-numerator m = refl
 
 pub fraction-denominator : (m : MetricsValue)
     → child_style_of m initial (place Mfrac 1) (element Mn []) ≡ record initial { depth = 1; cramped = true }
-unfolding child_style_of by_attributes by_place levels_of is_compact_in is_cramped_in by_name by_size by_level by_display
+unfolding child_style_of by_attributes by_place levels_of is_compact_in is_cramped_in by_name by_size by_level by_direction by_display
 fraction-denominator m = refl
 
 -- a sum over 1, in a formula of its own: the sum is in display style, and what is under it isn't
 pub limits-itself : (m : MetricsValue) → child_style_of m block (place Math 0) (element Munder []) ≡ block
-unfolding child_style_of by_attributes by_place levels_of is_compact_in is_cramped_in by_name by_size by_level by_display
+unfolding child_style_of by_attributes by_place levels_of is_compact_in is_cramped_in by_name by_size by_level by_direction by_display
 limits-itself m = refl
 
 pub limits-base : (m : MetricsValue) → child_style_of m block (place Munder 0) (element Mo []) ≡ block
-unfolding child_style_of by_attributes by_place levels_of is_compact_in is_cramped_in by_name by_size by_level by_display
+unfolding child_style_of by_attributes by_place levels_of is_compact_in is_cramped_in by_name by_size by_level by_direction by_display
 limits-base m = refl
 
 pub limits-under : (m : MetricsValue) → child_style_of m block (place Munder 1) (element Mn []) ≡ record initial { depth = 1 }
-unfolding child_style_of by_attributes by_place levels_of is_compact_in is_cramped_in by_name by_size by_level by_display
+unfolding child_style_of by_attributes by_place levels_of is_compact_in is_cramped_in by_name by_size by_level by_direction by_display
 limits-under m = refl
 
 -- x under a hat, which is an accent: x is cramped, and the hat keeps the depth
 pub accent-base : (m : MetricsValue)
     → child_style_of m initial (record (place Mover 0) { accent = true }) (element Mi []) ≡ record initial { cramped = true }
-unfolding child_style_of by_attributes by_place levels_of is_compact_in is_cramped_in by_name by_size by_level by_display
+unfolding child_style_of by_attributes by_place levels_of is_compact_in is_cramped_in by_name by_size by_level by_direction by_display
 accent-base m = refl
 
 pub accent-hat : (m : MetricsValue)
     → child_style_of m initial (record (place Mover 1) { accent = true }) (element Mo []) ≡ initial
-unfolding child_style_of by_attributes by_place levels_of is_compact_in is_cramped_in by_name by_size by_level by_display
+unfolding child_style_of by_attributes by_place levels_of is_compact_in is_cramped_in by_name by_size by_level by_direction by_display
 accent-hat m = refl
 
 -- what an `mstyle` sets holds of what is in it
 pub level-style : (m : MetricsValue)
     → child_style_of m initial (place Math 0) (element Mstyle (given (codes "scriptlevel") (codes "1"))) ≡ record initial { depth = 1 }
-unfolding child_style_of by_attributes by_place levels_of is_compact_in is_cramped_in by_name by_size by_level by_display level_of number_of
+unfolding child_style_of by_attributes by_place levels_of is_compact_in is_cramped_in by_name by_size by_level by_direction by_display level_of number_of
 level-style m = refl
 
 pub level-inside : (m : MetricsValue)
     → child_style_of m (record initial { depth = 1 }) (place Mstyle 0) (element Mn []) ≡ record initial { depth = 1 }
-unfolding child_style_of by_attributes by_place levels_of is_compact_in is_cramped_in by_name by_size by_level by_display
+unfolding child_style_of by_attributes by_place levels_of is_compact_in is_cramped_in by_name by_size by_level by_direction by_display
 level-inside m = refl
 
 -- below the root no level is less than 0, and none is more than 15
 pub level-highest : (m : MetricsValue)
     → child_style_of m initial (place Math 0) (element Mstyle (given (codes "scriptlevel") (codes "999"))) ≡ record initial { depth = 15 }
-unfolding child_style_of by_attributes by_place levels_of is_compact_in is_cramped_in by_name by_size by_level by_display level_of number_of
+unfolding child_style_of by_attributes by_place levels_of is_compact_in is_cramped_in by_name by_size by_level by_direction by_display level_of number_of
 level-highest m = refl
 
 -- a size that is given counts at the depth at which it stands: 2 em of 12288
 pub size-given_below : (m : MetricsValue) → percent_of m ScriptPercentScaleDown ≡ pos 75
     → child_style_of m (record initial { depth = 1 }) (place Mstyle 0) (element Mstyle (given (codes "mathsize") (codes "2em")))
     ≡ record initial { base = pos 24576; base_depth = 1; depth = 1 }
-unfolding child_style_of by_attributes by_place levels_of is_compact_in is_cramped_in by_name by_size by_level by_display size_of rounded length_of trimmed is_negative behind_sign number_in digits_in_front behind_digits fraction_of unit_at unit_of resolved unit_size
+unfolding child_style_of by_attributes by_place levels_of is_compact_in is_cramped_in by_name by_size by_level by_direction by_display size_of rounded length_of trimmed is_negative behind_sign number_in digits_in_front behind_digits fraction_of unit_at unit_of resolved unit_size
 size-given_below m percent = rw percent refl
+
+-- ---- directions
+
+pub direction-right_to_left : direction_of_word (codes "Rtl") ≡ Some true
+unfolding direction_of_word
+direction-right_to_left = refl
+
+pub direction-blank : direction_of_word (codes " rtl") ≡ None
+unfolding direction_of_word
+direction-blank = refl
+
+-- a root from right to left
+pub root-right_to_left : (m : MetricsValue) → root_style_of m (element Math (given (codes "dir") (codes "rtl"))) ≡ record initial { rtl = true }
+unfolding root_style_of by_attributes by_size by_level by_direction by_display direction_of_word
+root-right_to_left m = refl
+
+-- what stands below it is so, too
+pub below-right_to_left : (m : MetricsValue) → child_style_of m (record initial { rtl = true }) (place Math 0) (element Mn []) ≡ record initial { rtl = true }
+unfolding child_style_of by_attributes by_place levels_of is_compact_in is_cramped_in by_name by_size by_level by_direction by_display
+below-right_to_left m = refl
+
+-- but for what says that it is from left to right
+pub below-left_to_right : (m : MetricsValue)
+    → child_style_of m (record initial { rtl = true }) (place Math 0) (element Mn (given (codes "dir") (codes "ltr"))) ≡ initial
+unfolding child_style_of by_attributes by_place levels_of is_compact_in is_cramped_in by_name by_size by_level by_direction by_display direction_of_word
+below-left_to_right m = refl

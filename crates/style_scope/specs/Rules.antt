@@ -11,7 +11,7 @@ use Rattle.math_tree.specs.declared.kind.Kind.{Kind}
 use Rattle.math_tree.specs.declared.kind.Kind.TheVariants.{Mfrac, Mmultiscripts, Mover, Mroot, Msqrt, Msub, Msubsup, Msup, Mtable, Munder, Munderover}
 use Rattle.style_scope.specs.declared.style.Place.{Place}
 use Rattle.style_scope.specs.declared.style.Style.{Style}
-use Rattle.style_scope.specs.Words.{truth_of_word, level_of}
+use Rattle.style_scope.specs.Words.{direction_of_word, truth_of_word, level_of}
 
 -- ---- by place
 
@@ -79,6 +79,12 @@ by_name kind style = style
 unfoldable pub by_level : ℕ → List Attribute → Style → Style
 by_level parent_depth attributes style = record style {
   depth = min 15 (unwrap_or (option_and_then (level_of parent_depth) (value_of (codes "scriptlevel") attributes)) style.depth);
+}
+
+-- HTML's `dir`
+unfoldable pub by_direction : List Attribute → Style → Style
+by_direction attributes style = record style {
+  rtl = unwrap_or (option_and_then direction_of_word (value_of (codes "dir") attributes)) style.rtl;
 }
 
 unfoldable pub by_display : List Attribute → Style → Style

@@ -8,17 +8,18 @@ use Rattle.math_tree.specs.declared.attributes.Attribute.{Attribute}
 use Rattle.math_tree.specs.declared.node.Head.{Head}
 use Rattle.style_scope.specs.declared.style.Place.{Place}
 use Rattle.style_scope.specs.declared.style.Style.{Style}
-use Rattle.style_scope.specs.Rules.{by_place, by_name, by_display, by_level, by_size, size_written}
+use Rattle.style_scope.specs.Rules.{by_place, by_name, by_direction, by_display, by_level, by_size, size_written}
 use Rattle.style_scope.specs.Sizes.{size_of}
 
 -- what an element's own attributes make of a style, below a parent of this style
 unfoldable pub by_attributes : MetricsValue → Style → List Attribute → Style → Style
 by_attributes m parent attributes style =
-    by_size m (size_of m parent) (size_written attributes) (by_level parent.depth attributes (by_display attributes style))
+    by_size m (size_of m parent) (size_written attributes)
+    (by_level parent.depth attributes (by_display attributes (by_direction attributes style)))
 
--- 16 px at depth 0, neither in display style nor cramped
+-- 16 px at depth 0, neither in display style nor cramped, from left to right
 abbrev pub initial : Style
-initial = record { base = pos 16384; base_depth = 0; depth = 0; display = false; cramped = false }
+initial = record { base = pos 16384; base_depth = 0; depth = 0; display = false; cramped = false; rtl = false }
 
 -- whether the root is a formula of its own
 abbrev pub is_block : List Attribute → Bool

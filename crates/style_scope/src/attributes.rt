@@ -6,7 +6,7 @@ ghost use Rattle.std.specs.Str.Parse.{digits_value};
 ghost use Rattle.fixed_units.specs.Numbers.{IsWithin};
 ghost use Rattle.math_tree.specs.Attributes.{value_of};
 ghost use Rattle.style_scope.specs.Rules.{size_written};
-ghost use Rattle.style_scope.specs.Words.{truth_of_word, number_of, level_of};
+ghost use Rattle.style_scope.specs.Words.{direction_of_word, truth_of_word, number_of, level_of};
 
 use fixed_units::{LengthText, is_word, read_length};
 use math_tree::Attributes;
@@ -25,6 +25,26 @@ fn truth_of_word(value: &str) -> Option<bool>
     if is_word(value, "true") {
         Some(true)
     } else if is_word(value, "false") {
+        Some(false)
+    } else {
+        None
+    }
+}
+
+/// Whether `dir` says that an element is laid out from right to left.
+pub fn direction(attributes: &Attributes) -> Option<bool>
+    ensures { result ≡ option_and_then direction_of_word (value_of (codes "dir") attributes.now) }
+{
+    direction_of_word(attributes.get("dir")?)
+}
+
+#[tactic(auto, unfolding(crate::specs::Words::direction_of_word))]
+fn direction_of_word(value: &str) -> Option<bool>
+    ensures { result ≡ direction_of_word value.now }
+{
+    if is_word(value, "rtl") {
+        Some(true)
+    } else if is_word(value, "ltr") {
         Some(false)
     } else {
         None

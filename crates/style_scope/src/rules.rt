@@ -4,7 +4,7 @@ ghost use Rattle.fixed_units.specs.Numbers.{IsWithin};
 ghost use Rattle.style_scope.specs.Rules as rules;
 ghost use Rattle.style_scope.specs.Sizes.{IsStyle};
 
-use crate::attributes::{displaystyle, scriptlevel};
+use crate::attributes::{direction, displaystyle, scriptlevel};
 use crate::style::{Place, Style};
 use fixed_units::{LengthText, resolve};
 use font_metrics::Metrics;
@@ -93,6 +93,7 @@ pub fn by_place(place: Place, style: &Style) -> Style
         depth: style.depth + levels(place, style.display),
         display: style.display & !is_compact(place),
         cramped: style.cramped | is_cramped(place),
+        rtl: style.rtl,
     }
 }
 
@@ -114,6 +115,20 @@ pub fn by_name(kind: Kind, style: Style) -> Style
             ..style
         },
         _ => style,
+    }
+}
+
+/// What `dir` makes of a style.
+#[tactic(auto, unfolding(crate::specs::Rules::by_direction))]
+pub fn by_direction(attributes: &Attributes, style: Style) -> Style
+    ensures value { result ≡ rules.by_direction attributes.now style }
+    ensures depth { result.depth ≡ style.depth }
+    ensures base { result.base ≡ style.base }
+    ensures base_depth { result.base_depth ≡ style.base_depth }
+{
+    Style {
+        rtl: direction(attributes).unwrap_or(style.rtl),
+        ..style
     }
 }
 

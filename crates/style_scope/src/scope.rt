@@ -5,7 +5,7 @@ ghost use Rattle.style_scope.specs.Sizes.{IsStyle, size_of};
 ghost use Rattle.style_scope.specs.Styles.{by_attributes, child_style_of, is_block, root_style_of};
 
 use crate::attributes::mathsize;
-use crate::rules::{by_display, by_level, by_name, by_place, by_size};
+use crate::rules::{by_direction, by_display, by_level, by_name, by_place, by_size};
 use crate::size::font_size;
 use crate::style::{Place, Style};
 use fixed_units::{LengthText, is_word};
@@ -19,6 +19,7 @@ const INITIAL: Style = Style {
     depth: 0,
     display: false,
     cramped: false,
+    rtl: false,
 };
 
 /// The style of the root: 16 px, in display style where its `display` is `block`, and what its
@@ -61,7 +62,8 @@ fn by_attributes(metrics: &Metrics, parent: &Style, attributes: &Attributes, sty
     ensures value { result ≡ by_attributes metrics.now parent.now attributes.now style }
     ensures style { IsStyle result }
 {
-    let style = by_level(parent.depth, attributes, by_display(attributes, style));
+    let style = by_display(attributes, by_direction(attributes, style));
+    let style = by_level(parent.depth, attributes, style);
     match mathsize(attributes) {
         Some(length) => sized(metrics, parent, length, style),
         None => style,

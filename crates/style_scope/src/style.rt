@@ -14,6 +14,8 @@ pub struct Style {
     pub display: bool,
     /// Whether scripts are raised less (4.5, `math-shift: compact`).
     pub cramped: bool,
+    /// Whether it is laid out from right to left (HTML's `dir`).
+    pub rtl: bool,
 }
 
 /// Where a child stands in its parent.

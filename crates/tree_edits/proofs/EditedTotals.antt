@@ -79,7 +79,7 @@ module _ (tree : TreeValue) (path : List ℕ) (element : Node) where
       → CountsBytes (totals_of tree) (totals_of (edited tree (Text id text))) (length text) (length (head_of element).text)
   text_totals id text allows =
       let reasons = all_fail (own_reasons (Text id text) (shown (1 + length path) element)) allows.own in
-      let short = text_within text reasons.1.1.1.1.1.1.0 in
+      let short = text_within text reasons.1.1.1.1.1.0 in
       counts_bytes tree (edited tree (Text id text)) (head_of element) (with_text text (head_of element)) (length text) (length (head_of element).text) allows.whole
       (text_sizes tree path element allows.whole allows.at id text allows.has) (omega arith) (omega (arith, short)) (omega arith)
 
@@ -88,7 +88,7 @@ module _ (tree : TreeValue) (path : List ℕ) (element : Node) where
       → CountsBytes (totals_of tree) (totals_of (edited tree (Attr id name value))) (attribute_bytes name value) (attribute_bytes name (value_of name (head_of element).attributes))
   attribute_totals id name value allows order =
       let reasons = all_fail (own_reasons (Attr id name value) (shown (1 + length path) element)) allows.own in
-      let short = value_within name value (name_within name reasons.1.1.1.1.0) reasons.1.1.1.1.1.1.0 in
+      let short = value_within name value (name_within name reasons.1.1.1.1.0) reasons.1.1.1.1.1.0 in
       let bytes = value_bytes name value (head_of element).attributes order in
       counts_bytes tree (edited tree (Attr id name value)) (head_of element) (with_attribute name value (head_of element)) (attribute_bytes name value)
       (attribute_bytes name (value_of name (head_of element).attributes)) allows.whole

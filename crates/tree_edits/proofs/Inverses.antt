@@ -1,15 +1,14 @@
 -- The inverse of an edit is taken by the edited tree, and gives back the elements of before.
-use Rattle.std.proofs.Common.{◌≡◌, ◌∙◌, sym, ap, refl, subst, ℕ, ◌+◌, ◌^◌, ◌≤◌, ◌<◌, List, [], ◌∷◌, ◌++◌, length, slice_get, slice_set, insert, remove, All, codes, Bool, true, false, not, ◌&&◌, ◌||◌, cond, nat_eq, nat_lt, Option, Some, None, is_some, add-zero, arith, true≢false}
+use Rattle.std.proofs.Common.{◌≡◌, ◌∙◌, sym, ap, refl, subst, ℕ, ◌+◌, ◌^◌, ◌≤◌, ◌<◌, List, [], ◌∷◌, ◌++◌, length, slice_get, slice_set, insert, remove, All, Bool, true, false, not, ◌&&◌, ◌||◌, cond, nat_eq, nat_lt, Option, Some, None, is_some, add-zero, arith, true≢false}
 use Rattle.std.proofs.lemmas.Bool.{le-ltb, ltb-false, ne_eqb, not-false, or_from, false_from_ne_true}
 use Rattle.std.proofs.lemmas.Bool.Decides.{Decides-eqb}
 use Rattle.std.proofs.lemmas.List.Elements.{recursion_from_All}
 use Rattle.std.proofs.lemmas.Option.{same_Some, slice_get_within}
-use Rattle.std.proofs.lemmas.Slice.Eq.{bytes_eq-Decides}
 use Rattle.std.specs.List.{AllByRecursion, IsDistinct}
 use Rattle.std.specs.Option.{option_and_then, option_map_or}
 use Rattle.std.specs.Str.{bytes_eq}
 use Rattle.math_tree.specs.Attributes.{value_of}
-use Rattle.math_tree.specs.Forms.{most_elements, most_bytes, is_name, is_rtl, is_short_enough}
+use Rattle.math_tree.specs.Forms.{most_elements, most_bytes, is_name, is_short_enough}
 use Rattle.math_tree.specs.Kinds.{is_text_kind}
 use Rattle.math_tree.specs.Print.{renumbered}
 use Rattle.math_tree.specs.Trees.{TreeValue, IsProper, IsProperAttribute, IsWhole, Listed, byte_count, element_count, ids_of, listed}
@@ -40,7 +39,7 @@ use Rattle.tree_edits.proofs.StaysWhole.{further, over_named, stays_whole}
 use Rattle.tree_edits.proofs.Target.{found_at}
 use Rattle.tree_edits.proofs.WaysTo.{child_in, child_is, element_is, node_at_end}
 use Rattle.tree_edits.specs.Applying.{IsProperEdit}
-use Rattle.tree_edits.specs.Edits.{named, has_id, head_of, added, edited, at_target, is_deep, is_fixed, is_in_text, is_large, is_long_value, is_not_text, is_past, is_rtl_value, is_taken, refusal_of, target, with_attribute, with_text}
+use Rattle.tree_edits.specs.Edits.{named, has_id, head_of, added, edited, at_target, is_deep, is_fixed, is_in_text, is_large, is_long_value, is_not_text, is_past, is_taken, refusal_of, target, with_attribute, with_text}
 use Rattle.tree_edits.specs.Inverses.{InverseLaw, IsBack, inverse, with_next}
 use Rattle.tree_edits.specs.Paths.{children_of, node_at, changed, changed_at}
 use Rattle.tree_edits.specs.Reasons.{own_reason, own_reasons, shown}
@@ -86,8 +85,7 @@ module _ (before after : TreeValue) (whole : IsWhole before) (whole_after : IsWh
             within = ap (at_target (is_past back)) found ∙ tests.1.1.0;
             movable = ap (at_target (is_fixed back)) found ∙ tests.1.1.1.0;
             named = tests.1.1.1.1.0;
-            left_to_right = tests.1.1.1.1.1.0;
-            short = tests.1.1.1.1.1.1.0;
+            short = tests.1.1.1.1.1.0;
             shallow = ap is_deep same ∙ shallow_tree before whole;
             small = ap is_large same ∙ large_none before whole;
             left = le-ltb (2 ^ 32) (after.next_id + added back) bound;
@@ -128,19 +126,6 @@ value_short name (x ∷ xs) h =
     ap is_long_value (first_value name x xs)
     ∙ short_by (bytes_eq x.name name) x.value (value_of name xs) h.0.value (value_short name xs h.1)
 
-rtl_none : (name : List ℕ) (xs : List Attribute) → option_map_or is_rtl (value_of (codes "dir") xs) false ≡ false → is_rtl_value name (value_of name xs) ≡ false
-rtl_none name xs left = by (value_of name xs) refl
-  where
-    by_name : (value : List ℕ) (b : Bool) → bytes_eq name (codes "dir") ≡ b → value_of name xs ≡ Some value → (b && is_rtl value) ≡ false
-    by_name value true same is =
-        let dir : value_of (codes "dir") xs ≡ Some value = ap (λ n. value_of n xs) (sym ((bytes_eq-Decides name (codes "dir")).0 same)) ∙ is in
-        sym (ap (λ o. option_map_or is_rtl o false) dir) ∙ left
-    by_name value false same is = refl
-
-    by : (found : Option (List ℕ)) → value_of name xs ≡ found → is_rtl_value name found ≡ false
-    by None is = refl
-    by (Some value) is = by_name value (bytes_eq name (codes "dir")) refl is
-
 -- ---- each edit
 
 module _ (tree : TreeValue) (whole : IsWhole tree) where
@@ -165,7 +150,7 @@ module _ (tree : TreeValue) (whole : IsWhole tree) where
       let on_text : not (is_text_kind (head_of element).kind) ≡ false = sym (ap (at_target (is_not_text edit)) found) ∙ passes.on_text in
       let kind : (head_of now).kind ≡ (head_of element).kind = ap (λ (h : Head). h.kind) (head_rolled (with_text text (head_of element)) (children_of element)) in
       let reasons = none_holds (own_reasons back (shown (1 + length way.path) now))
-      (ap (λ k. not (is_text_kind k)) kind ∙ on_text, (refl, (refl, (refl, (refl, (refl, (not_not (is_short_enough old) own.text, tt))))))) in
+      (ap (λ k. not (is_text_kind k)) kind ∙ on_text, (refl, (refl, (refl, (refl, (not_not (is_short_enough old) own.text, tt)))))) in
       let root = own_change_law after back way.path now whole_after tt at has
       ∙ led_back tree.root after.root element way.path (changed change) (changed (SetText old)) way.at made (undone element change 0 tt tt) in
       let is : back ≡ inverse tree edit = sym (ap (λ o. Text id (option_map_or (λ e. (head_of e).text) o [])) (element_is tree id.0 way.path element whole way.at way.has)) in
@@ -191,7 +176,7 @@ module _ (tree : TreeValue) (whole : IsWhole tree) where
       let exchange = attribute_exchanged tree way.path element whole way.at id name value way.has in
       let own = own_of_all exchange IsProper (recursion_from_All IsProper (listed 1 tree.root) whole.proper) in
       let reasons = none_holds (own_reasons back (shown (1 + length way.path) now))
-      (refl, (refl, (refl, (refl, (passes.named, (rtl_none name attributes own.left_to_right, (value_short name attributes (recursion_from_All IsProperAttribute attributes own.attributes), tt))))))) in
+      (refl, (refl, (refl, (refl, (passes.named, (value_short name attributes (recursion_from_All IsProperAttribute attributes own.attributes), tt)))))) in
       let root = own_change_law after back way.path now whole_after tt at has
       ∙ led_back tree.root after.root element way.path (changed change) (changed (SetValue name old 0)) way.at made (undone element change 0 (omega arith) own.order) in
       let is : back ≡ inverse tree edit =
@@ -213,7 +198,7 @@ module _ (tree : TreeValue) (whole : IsWhole tree) where
       let has = itself (head_of child).id.0 in
       let down = node_at_end path index after.root now child over there in
       let below : nat_eq (1 + length (path ++ (index ∷ []))) 1 ≡ false = ne_eqb (1 + length (path ++ (index ∷ []))) 1 (λ same. omega (arith, same, length_end path index)) in
-      let reasons = none_holds (own_reasons back (shown (1 + length (path ++ (index ∷ []))) child)) (refl, (refl, (refl, (below, (refl, (refl, (refl, tt))))))) in
+      let reasons = none_holds (own_reasons back (shown (1 + length (path ++ (index ∷ []))) child)) (refl, (refl, (refl, (below, (refl, (refl, tt)))))) in
       let root = parent_change_law after back path now index child whole_after tt over there has
       ∙ led_back tree.root after.root element path (changed change) (changed (Children (Take index))) at made (undone element change 0 (within, omega arith) tt) in
       gives_before tree after whole whole_after back (path ++ (index ∷ [])) child down has reasons refl tt root refl
@@ -295,7 +280,7 @@ module _ (tree : TreeValue) (whole : IsWhole tree) where
       let head : head_of now ≡ head_of parent = head_rolled (head_of parent) (remove nodes place) in
       let count : length (children_of now) ≡ length (remove nodes place) = ap length (children_changed change parent) in
       let past : nat_lt (length (children_of now)) place ≡ false = le-ltb (length (children_of now)) place (omega (arith, count, length_remove nodes place near, near)) in
-      let reasons = none_holds (own_reasons back (shown (1 + length over.path) now)) (refl, (ap (λ (h : Head). is_text_kind h.kind) head ∙ other, (past, (refl, (refl, (refl, (refl, tt))))))) in
+      let reasons = none_holds (own_reasons back (shown (1 + length over.path) now)) (refl, (ap (λ (h : Head). is_text_kind h.kind) head ∙ other, (past, (refl, (refl, (refl, tt)))))) in
       let again : changed (Children (splice_back (TakeAt place) (slice_get nodes place) 0)) now ≡ changed (Children (Put place child 0)) now =
       ap (λ o. changed (Children (splice_back (TakeAt place) o 0)) now) over.there in
       let root = own_change_law after back over.path now whole_after tt at has
@@ -325,7 +310,7 @@ module _ (tree : TreeValue) (whole : IsWhole tree) where
       let has = itself (head_of other).id.0 in
       let down = node_at_end path place after.root now other over here in
       let below : nat_eq (1 + length (path ++ (place ∷ []))) 1 ≡ false = ne_eqb (1 + length (path ++ (place ∷ []))) 1 (λ same. omega (arith, same, length_end path place)) in
-      let reasons = none_holds (own_reasons back (shown (1 + length (path ++ (place ∷ []))) other)) (refl, (refl, (refl, (below, (refl, (refl, (refl, tt))))))) in
+      let reasons = none_holds (own_reasons back (shown (1 + length (path ++ (place ∷ []))) other)) (refl, (refl, (refl, (below, (refl, (refl, tt)))))) in
       let again : changed (Children (splice_back (ExchangeAt place) (slice_get nodes place) 0)) now ≡ changed (Children (Exchange place child)) now =
       ap (λ o. changed (Children (splice_back (ExchangeAt place) o 0)) now) there in
       let root = parent_change_law after back path now place other whole_after tt over here has

@@ -56,7 +56,6 @@ module _ (tree : TreeValue) (edit : Edit) (next : ℕ) (back : IsBack tree edit)
         within = is.within;
         movable = is.movable;
         named = is.named;
-        left_to_right = is.left_to_right;
         short = is.short;
         shallow = is.shallow;
         small = is.small;

@@ -88,7 +88,6 @@ lowered e a b p = record {
   text = p.text;
   childless = p.childless;
   textless = p.textless;
-  left_to_right = p.left_to_right;
 }
 
 all_lowered : (elements : List Listed) (a b : ℕ) → AllByRecursion IsProper (map (raised a) elements) → AllByRecursion IsProper (map (raised b) elements)

@@ -5,7 +5,7 @@ use Rattle.std.proofs.lemmas.Option.{none-some}
 use Rattle.std.specs.List.{AllByRecursion, find}
 use Rattle.std.specs.Option.{option_map}
 use Rattle.math_tree.specs.Trees.{TreeValue, Listed, listed}
-use Rattle.tree_edits.specs.Edits.{edited, is_not_text, is_in_text, is_past, is_fixed, is_misnamed, is_right_to_left, is_long, is_deep, is_large, is_taken, target, at_target, refusals, first_refusal, refusal_of}
+use Rattle.tree_edits.specs.Edits.{edited, is_not_text, is_in_text, is_past, is_fixed, is_misnamed, is_long, is_deep, is_large, is_taken, target, at_target, refusals, first_refusal, refusal_of}
 use Rattle.tree_edits.specs.Reasons.{first_reason}
 use Rattle.tree_edits.specs.declared.edit.Edit.{Edit}
 use Rattle.tree_edits.specs.declared.edit.EditRefusal.{EditRefusal}
@@ -35,7 +35,6 @@ pub record IsAccepted (before after : List Listed) (next : ℕ) (edit : Edit) : 
   pub within : at_target (is_past edit) (target edit before) ≡ false
   pub movable : at_target (is_fixed edit) (target edit before) ≡ false
   pub named : is_misnamed edit ≡ false
-  pub left_to_right : is_right_to_left edit ≡ false
   pub short : is_long edit ≡ false
   pub shallow : is_deep after ≡ false
   pub small : is_large after ≡ false
@@ -52,12 +51,11 @@ passed before after next edit h =
       within = rows.1.1.1.0;
       movable = rows.1.1.1.1.0;
       named = rows.1.1.1.1.1.0;
-      left_to_right = rows.1.1.1.1.1.1.0;
-      short = rows.1.1.1.1.1.1.1.0;
-      shallow = rows.1.1.1.1.1.1.1.1.0;
-      small = rows.1.1.1.1.1.1.1.1.1.0;
-      left = rows.1.1.1.1.1.1.1.1.1.1.0;
-      free = rows.1.1.1.1.1.1.1.1.1.1.1.0;
+      short = rows.1.1.1.1.1.1.0;
+      shallow = rows.1.1.1.1.1.1.1.0;
+      small = rows.1.1.1.1.1.1.1.1.0;
+      left = rows.1.1.1.1.1.1.1.1.1.0;
+      free = rows.1.1.1.1.1.1.1.1.1.1.0;
     }
 
 -- rows of which none holds give no reason
@@ -77,7 +75,7 @@ is_known (Some e) h = refl
 pub passes : (before after : List Listed) (next : ℕ) (edit : Edit) → IsAccepted before after next edit → first_refusal before after next edit ≡ None
 passes before after next edit is =
     none_holds (refusals before after next edit)
-    (is_known (target edit before) is.known, (is.on_text, (is.in_other, (is.within, (is.movable, (is.named, (is.left_to_right, (is.short, (is.shallow, (is.small, (is.left, (is.free, tt))))))))))))
+    (is_known (target edit before) is.known, (is.on_text, (is.in_other, (is.within, (is.movable, (is.named, (is.short, (is.shallow, (is.small, (is.left, (is.free, tt)))))))))))
 
 abbrev pub AcceptedBy : TreeValue → Edit → Type 0
 AcceptedBy tree edit = IsAccepted (listed 1 tree.root) (listed 1 (edited tree edit).root) (edited tree edit).next_id edit

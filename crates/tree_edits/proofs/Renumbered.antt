@@ -148,7 +148,6 @@ proper_with_id id e p = record {
   text = p.text;
   childless = p.childless;
   textless = p.textless;
-  left_to_right = p.left_to_right;
 }
 
 proper_numbered : (id : ℕ) (elements : List Listed) → AllByRecursion IsProper elements → AllByRecursion IsProper (numbered id elements)

@@ -31,7 +31,6 @@ proper_spare = record {
   text = refl;
   childless = λ e. cc;
   textless = λ e. refl;
-  left_to_right = refl;
 }
 
 bytes_spare : bytes_of_head spare_head ≡ 4

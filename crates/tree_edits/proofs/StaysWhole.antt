@@ -167,7 +167,7 @@ module _ (tree : TreeValue) (path : List ℕ) (element : Node) (whole : IsWhole 
       fits_whole tree edit own made [] [] whole passes (record {
         exchange = exchange;
         same = refl;
-        here = proper_attribute level (length nodes) (head_of element) name value (not-false (is_name name) passes.named) passes.short passes.left_to_right;
+        here = proper_attribute level (length nodes) (head_of element) name value (not-false (is_name name) passes.named) passes.short;
         proper = tt;
         distinct = with_new tree edit own made [] [] whole exchange refl ids;
         given = ids.given;

@@ -18,7 +18,7 @@ use Rattle.tree_edits.specs.Paths.{children_of}
 use Rattle.tree_edits.specs.declared.edit.Edit.{Edit}
 use Rattle.tree_edits.specs.declared.edit.Edit.TheVariants.{Text, Attr, Insert, Remove, Replace, Graft, Swap}
 use Rattle.tree_edits.specs.declared.edit.EditRefusal.{EditRefusal}
-use Rattle.tree_edits.specs.declared.edit.EditRefusal.TheVariants.{UnknownNode, NotText, IsText, IndexPast, RootFixed, BadName, RightToLeft, TooDeep, TooMany, IdsSpent, IdTaken}
+use Rattle.tree_edits.specs.declared.edit.EditRefusal.TheVariants.{UnknownNode, NotText, IsText, IndexPast, RootFixed, BadName, TooDeep, TooMany, IdsSpent, IdTaken}
 
 abbrev head : ℕ → List ℕ → Kind → List Attribute → List ℕ → Head
 head id name kind attributes text =
@@ -188,10 +188,6 @@ root_replaced after next = refl
 name_with_digit_first : Refused (Attr (id 3) (codes "2d") None) BadName
 unfolding math_tree_on_literals
 name_with_digit_first after next = refl
-
-direction_in_capitals : Refused (Attr (id 3) (codes "dir") (Some (codes "RTL"))) RightToLeft
-unfolding math_tree_on_literals
-direction_in_capitals after next = refl
 
 -- elements that stay within all limits
 level_sixty_one : (next : ℕ) → first_refusal elements (listed_at 61 math 0 ∷ []) next (Remove (id 4)) ≡ Some TooDeep

@@ -4,7 +4,7 @@ use Rattle.std.specs.List.{filter, find, insert, list_any, sum_by}
 use Rattle.std.specs.Option.{option_map, option_map_or}
 use Rattle.std.specs.Str.{bytes_eq}
 use Rattle.math_tree.specs.Attributes.{put, without}
-use Rattle.math_tree.specs.Forms.{is_name, is_short_enough, is_rtl, most_levels, most_elements, most_bytes}
+use Rattle.math_tree.specs.Forms.{is_name, is_short_enough, most_levels, most_elements, most_bytes}
 use Rattle.math_tree.specs.Kinds.{is_text_kind}
 use Rattle.math_tree.specs.Print.{renumbered}
 use Rattle.math_tree.specs.Trees.{TreeValue, Listed, node, listed, ids_of, element_count, bytes_of_head}
@@ -17,7 +17,7 @@ use Rattle.math_tree.specs.declared.node.Node.TheViews.{out-Node}
 use Rattle.tree_edits.specs.declared.edit.Edit.{Edit}
 use Rattle.tree_edits.specs.declared.edit.Edit.TheVariants.{Text, Attr, Insert, Remove, Replace, Graft, Swap}
 use Rattle.tree_edits.specs.declared.edit.EditRefusal.{EditRefusal}
-use Rattle.tree_edits.specs.declared.edit.EditRefusal.TheVariants.{UnknownNode, NotText, IsText, IndexPast, RootFixed, BadName, RightToLeft, TextLong, TooDeep, TooMany, IdsSpent, IdTaken}
+use Rattle.tree_edits.specs.declared.edit.EditRefusal.TheVariants.{UnknownNode, NotText, IsText, IndexPast, RootFixed, BadName, TextLong, TooDeep, TooMany, IdsSpent, IdTaken}
 
 -- ---- the edited tree
 
@@ -147,19 +147,6 @@ is_misnamed (Replace id element) = false
 is_misnamed (Graft id index element) = false
 is_misnamed (Swap id element) = false
 
-abbrev pub is_rtl_value : List ℕ → Option (List ℕ) → Bool
-is_rtl_value name (Some value) = bytes_eq name (codes "dir") && is_rtl value
-is_rtl_value name None = false
-
-abbrev pub is_right_to_left : Edit → Bool
-is_right_to_left (Text id text) = false
-is_right_to_left (Attr id name value) = is_rtl_value name value
-is_right_to_left (Insert id index element) = false
-is_right_to_left (Remove id) = false
-is_right_to_left (Replace id element) = false
-is_right_to_left (Graft id index element) = false
-is_right_to_left (Swap id element) = false
-
 abbrev pub is_long_value : Option (List ℕ) → Bool
 is_long_value (Some value) = not (is_short_enough value)
 is_long_value None = false
@@ -230,7 +217,6 @@ refusals before after next edit = let element = target edit before in
     ∷ (at_target (is_past edit) element, IndexPast)
     ∷ (at_target (is_fixed edit) element, RootFixed)
     ∷ (is_misnamed edit, BadName)
-    ∷ (is_right_to_left edit, RightToLeft)
     ∷ (is_long edit, TextLong)
     ∷ (is_deep after, TooDeep)
     ∷ (is_large after, TooMany)

@@ -6,11 +6,11 @@ use Rattle.std.specs.Option.{option_map}
 use Rattle.math_tree.specs.Forms.{most_elements, most_bytes}
 use Rattle.math_tree.specs.Trees.{Listed}
 use Rattle.math_tree.specs.declared.node.Node.{Node}
-use Rattle.tree_edits.specs.Edits.{head_of, is_not_text, is_in_text, is_past, is_fixed, is_misnamed, is_right_to_left, is_long}
+use Rattle.tree_edits.specs.Edits.{head_of, is_not_text, is_in_text, is_past, is_fixed, is_misnamed, is_long}
 use Rattle.tree_edits.specs.Paths.{children_of}
 use Rattle.tree_edits.specs.declared.edit.Edit.{Edit}
 use Rattle.tree_edits.specs.declared.edit.EditRefusal.{EditRefusal}
-use Rattle.tree_edits.specs.declared.edit.EditRefusal.TheVariants.{NotText, IsText, IndexPast, RootFixed, BadName, RightToLeft, TextLong, TooDeep, TooMany, IdsSpent}
+use Rattle.tree_edits.specs.declared.edit.EditRefusal.TheVariants.{NotText, IsText, IndexPast, RootFixed, BadName, TextLong, TooDeep, TooMany, IdsSpent}
 
 -- an element at a level as a list shows it
 abbrev pub shown : ℕ → Node → Listed
@@ -29,7 +29,6 @@ own_reasons edit element =
     ∷ (is_past edit element, IndexPast)
     ∷ (is_fixed edit element, RootFixed)
     ∷ (is_misnamed edit, BadName)
-    ∷ (is_right_to_left edit, RightToLeft)
     ∷ (is_long edit, TextLong)
     ∷ []
 

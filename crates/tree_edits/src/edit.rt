@@ -89,8 +89,6 @@ pub enum EditRefusal {
     RootFixed,
     /// The name of the attribute isn't in its form.
     BadName,
-    /// `dir` would be `rtl`, which isn't laid out yet.
-    RightToLeft,
     /// The text or the value has more than 65,536 bytes.
     TextLong,
     /// The tree would have more than 60 levels.
@@ -120,7 +118,6 @@ impl EditRefusal {
             EditRefusal::IndexPast => "the index is above the number of children",
             EditRefusal::RootFixed => "the root is neither removed nor replaced",
             EditRefusal::BadName => "the name of the attribute isn't in its form",
-            EditRefusal::RightToLeft => "`dir` would be `rtl`, which isn't laid out yet",
             EditRefusal::TextLong => "the text or the value is too long",
             EditRefusal::TooDeep => "the tree would have too many levels",
             EditRefusal::TooMany => "the tree would have too many elements or bytes",

@@ -2,14 +2,14 @@
 ghost use Rattle.std.specs.Prelude.{◌≡◌, ◌∷◌, [], length, nat_eq, nat_lt, not};
 ghost use Rattle.math_tree.specs.Forms.{is_name, is_short_enough};
 ghost use Rattle.math_tree.specs.Kinds.{is_text_kind};
-ghost use Rattle.tree_edits.specs.Edits.{head_of, is_long_value, is_rtl_value};
+ghost use Rattle.tree_edits.specs.Edits.{head_of, is_long_value};
 ghost use Rattle.tree_edits.specs.Paths.{children_of};
 ghost use Rattle.tree_edits.specs.Reasons.{first_reason, own_reason, shown};
-ghost use Rattle.tree_edits.specs.declared.edit.EditRefusal.TheVariants.{NotText, IsText, IndexPast, RootFixed, BadName, RightToLeft, TextLong};
+ghost use Rattle.tree_edits.specs.declared.edit.EditRefusal.TheVariants.{NotText, IsText, IndexPast, RootFixed, BadName, TextLong};
 
 use crate::{Edit, EditRefusal};
 use fixed_units::Txt;
-use math_tree::{Kind, Node, is_name, is_rtl, is_short_enough};
+use math_tree::{Kind, Node, is_name, is_short_enough};
 
 /// The first of these reasons against an edit of an element at a level.
 pub fn own_reason(edit: &Edit, level: u32, element: &Node) -> Option<EditRefusal>
@@ -43,28 +43,15 @@ fn against_text(kind: Kind, text: &Txt) -> Option<EditRefusal>
 fn against_attribute(name: &Txt, value: &Option<Txt>) -> Option<EditRefusal>
     ensures { result ≡ first_reason (
         (not (is_name name.now), BadName)
-        ∷ (is_rtl_value name.now value.now, RightToLeft)
         ∷ (is_long_value value.now, TextLong)
         ∷ []) }
 {
     if !is_name(name.as_str()) {
         Some(EditRefusal::BadName)
-    } else if is_rtl_value(name, value) {
-        Some(EditRefusal::RightToLeft)
     } else if is_long_value(value) {
         Some(EditRefusal::TextLong)
     } else {
         None
-    }
-}
-
-/// Whether `dir` would be `rtl`.
-fn is_rtl_value(name: &Txt, value: &Option<Txt>) -> bool
-    ensures { result ≡ is_rtl_value name.now value.now }
-{
-    match value {
-        Some(value) => name.as_str() == "dir" && is_rtl(value.as_str()),
-        None => false,
     }
 }
 

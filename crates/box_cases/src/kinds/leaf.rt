@@ -91,6 +91,7 @@ fn style_of(size: i64, display: bool) -> Style {
         depth: 0,
         display,
         cramped: false,
+        rtl: false,
     }
 }
 

@@ -1,9 +1,9 @@
-use Rattle.std.proofs.Common.{◌≡◌, ◌∙◌, inl, inr, ap, subst, sym, length, Option, None, IfSome}
+use Rattle.std.proofs.Common.{◌∙◌, inl, inr, ap, subst, sym, length, Option, None, IfSome}
 use Rattle.font_metrics.specs.Metrics.{MetricsValue}
 use Rattle.font_metrics.specs.declared.corner.Corner.TheVariants.{BottomRight, TopLeft}
 use Rattle.scripts.specs.Kerns.{IsInked}
 use Rattle.scripts.specs.declared.parts.Inked.{Inked}
-use Rattle.outcomes.proofs.Cornered.{inked}
+use Rattle.outcomes.proofs.Cornered.{inked, turned_is}
 use Rattle.outcomes.proofs.corners.sub_corners.Goals as goal
 
 pub returns-then-has_no_kerns-clause-value : goal.returns-then-has_no_kerns-clause-value
@@ -13,8 +13,8 @@ returns-then-has_no_kerns-clause-value g c =
 pub returns-clause-value : goal.returns-clause-value
 returns-clause-value g c =
     inl (λ i. record {
-      base_sub = (c.corner_of.ensures ∙ (c.in_ok-base.ensures {u = tt}).value BottomRight) i;
-      sub = (c.corner_of-2.ensures ∙ (c.in_ok-sub.ensures {u = tt}).value TopLeft) i;
+      base_sub = (c.corner_of.ensures ∙ turned_is _ _ c.in_ok-base.base BottomRight c.context.ensures.value ∙ (c.in_ok-base.ensures {u = tt}).value BottomRight) i;
+      sub = (c.corner_of-2.ensures ∙ turned_is _ _ c.in_ok-sub.sub TopLeft c.context.ensures.value ∙ (c.in_ok-sub.ensures {u = tt}).value TopLeft) i;
       base_sup = None;
       sup = None;
     })
@@ -25,10 +25,10 @@ returns-clause-inked g c =
     record {
       base_sub =
           subst (λ (found : Option Inked). IfSome found (IsInked count)) (sym c.corner_of.ensures)
-          (inked count BottomRight c.in_ok-base.base (c.in_ok-base.ensures {u = tt}).alone);
+          (inked count _ c.in_ok-base.base (c.in_ok-base.ensures {u = tt}).alone);
       sub =
           subst (λ (found : Option Inked). IfSome found (IsInked count)) (sym c.corner_of-2.ensures)
-          (inked count TopLeft c.in_ok-sub.sub (c.in_ok-sub.ensures {u = tt}).alone);
+          (inked count _ c.in_ok-sub.sub (c.in_ok-sub.ensures {u = tt}).alone);
       base_sup = tt;
       sup = tt;
     }

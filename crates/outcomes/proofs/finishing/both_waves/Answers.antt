@@ -1,10 +1,8 @@
-use Rattle.std.proofs.Common.{◌≡◌, ◌∙◌, ap, sym, subst, All, List, ◌++◌}
+use Rattle.std.proofs.Common.{◌≡◌, ◌∙◌, ap, sym, subst, All, ◌++◌}
 use Rattle.embellished.specs.Seen.{seen_of}
 use Rattle.layout_model.specs.Answers.{answers_in, questions_in}
 use Rattle.layout_model.specs.Fits.{AreAnswers, HasFont}
 use Rattle.layout_model.specs.Questions.{first, second}
-use Rattle.layout_model.specs.declared.context.Question.{Question}
-use Rattle.layout_model.specs.declared.outcome.Answer.{Answer}
 use Rattle.outcomes.proofs.finishing.both_waves.Goals as goal
 
 pub returns-clause-replies : goal.returns-clause-replies

@@ -5,4 +5,4 @@ use Rattle.outcomes.proofs.row.along.Given as goal
 
 -- the children so far
 abbrev pub invariant-loop-index : goal.invariant-loop-index
-invariant-loop-index g l = l.offsets ≡ list_to l.index (along_row l.row l.start l.y)
+invariant-loop-index g l = l.offsets ≡ list_to l.index (along_row l.e l.row l.start l.y)

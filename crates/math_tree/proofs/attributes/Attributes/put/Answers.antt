@@ -1,7 +1,7 @@
 use Rattle.std.proofs.Common.{◌≡◌, ◌∙◌, sym, slice_get, slice_set, Some, Ok, Err, rules}
 use Rattle.std.specs.List.{insert}
 use Rattle.std.specs.List.Sorted.{IsBinarySearchResult}
-use Rattle.math_tree.specs.Attributes.{IsInOrder, put}
+use Rattle.math_tree.specs.Attributes.{put}
 use Rattle.math_tree.specs.declared.attributes.Attribute.{Attribute}
 use Rattle.math_tree.proofs.Lookup.{compare, found_at, found_nowhere}
 use Rattle.math_tree.proofs.Puts.{at_place, put_at, put_between, put_in_order}

@@ -1,4 +1,4 @@
-use Rattle.std.proofs.Common.{◌≡◌, ◌∙◌, ap, arith, lit<, length, pos, ◌≤ℤ◌, ◌^◌, subst, sym, ℤ, true, true≢false, Option, to_z, of_z, w64}
+use Rattle.std.proofs.Common.{◌≡◌, ◌∙◌, ap, arith, lit<, length, pos, ◌≤ℤ◌, ◌^◌, subst, sym, ℤ, true≢false, Option}
 use Rattle.std.specs.Prelude.{is_some}
 use Rattle.font_metrics.proofs.Scaling.{back64, size_in}
 use Rattle.embellished.specs.Seen.{seen_of}
