@@ -218,7 +218,7 @@ class RefusedMemory(InFolder):
         for words in HUNGRY:
             status, whole, told = self.ended(words, 0)
             self.assertEqual(status, 0)
-            if not told:
+            if not int(told or 0):
                 self.skipTest(f"{PROGRAM.relative_to(TOP)} brings an allocator of its own, as what `rt try` compiles does")
             for number in range(1, int(told) + 1):
                 status, front, errors = self.ended(words, number)
