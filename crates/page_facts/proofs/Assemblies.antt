@@ -1,6 +1,6 @@
 -- The assemblies that an outcome draws have a font size, and overlaps that aren't large.
 use Rattle.std.proofs.Common.{◌≡◌, ◌∙◌, refl, ap, subst, ℕ, zero, suc, ◌+◌, ◌-◌, ◌^◌, ◌≤◌, min, arith, Bool, true, false, ◌&&◌, cond, List, [], ◌∷◌, ◌++◌, length, map, fold, replicate, All, Option, Some, None, ℤ, pos, negsuc, slice_get}
-use Rattle.std.specs.Prelude.{⊤, ◌≤ℤ◌, int_le, int_lt, nat_le, nat_lt, if◌then◌else◌, unsigned_abs}
+use Rattle.std.specs.Prelude.{⊤, ◌≤ℤ◌, ◌-ℤ◌, int_le, int_lt, nat_le, nat_lt, if◌then◌else◌, unsigned_abs}
 use Rattle.std.proofs.lemmas.Bool.{and_parts, le-leb}
 use Rattle.std.proofs.lemmas.List.Elements.{All-head, All-tail}
 use Rattle.std.specs.List.{AllByRecursion, list_all, reduce}
@@ -43,7 +43,7 @@ use Rattle.op_dictionary.specs.declared.operator.Form.{Form}
 use Rattle.op_dictionary.specs.declared.operator.Properties.{Properties}
 use Rattle.radicals.specs.Equation.{root_start_of}
 use Rattle.radicals.specs.Lengths.{index_lengths_of}
-use Rattle.radicals.specs.Placing.{covered_of, root_of, root_with_index_of, with_index_of}
+use Rattle.radicals.specs.Placing.{covered_of, root_of, root_with_index_of, square_root_of, with_index_of}
 use Rattle.style_scope.specs.Sizes.{size_of}
 use Rattle.style_scope.specs.declared.style.Style.{Style}
 use Rattle.token_boxes.specs.Letters.{letters_of, lone, slanted}
@@ -53,7 +53,7 @@ use Rattle.token_boxes.specs.declared.leaf.Drawn.{Drawn}
 use Rattle.token_boxes.specs.declared.leaf.Leaf.{Leaf}
 use Rattle.layout_model.proofs.Drawn.{both_true, listed_pass}
 use Rattle.layout_model.proofs.Trees.{lay_is}
-use Rattle.layout_model.specs.Direction.{turned_mark}
+use Rattle.layout_model.specs.Direction.{turned_mark, x_of}
 use Rattle.layout_model.specs.Elements.{Element, font, frame_at, outcome_with, row_in}
 use Rattle.layout_model.specs.Equations.{fraction_outcome, marks_if, multi_outcome, operator_outcome, operator_with, outcome_by, over_outcome, root_outcome, space_outcome, square_root_outcome, sub_outcome, sub_sup_outcome, sup_outcome, thickness_of, token_outcome, under_outcome, under_over_outcome}
 use Rattle.layout_model.specs.Laid.{all_outcomes}
@@ -314,13 +314,17 @@ module _ (e : Element) (taken : IsTaken e.metrics) (sized : is_font_size (font e
   square_root_drawn : IsOutcome (square_root_outcome e)
   unfolding outcome_with draws_small
   square_root_drawn =
-      marks_small e.context.style.rtl _ _ _ _ _
+      let row = (row_in e).frame in
+      let root = square_root_of e.metrics row e.context.style.display (font e) in
+      marks_small e.context.style.rtl root.frame.width (root.base.x -ℤ x_of root.surd) row.width root.surd root.rule
       (root_small e.metrics taken (font e) sized (row_in e).frame (pos 0) e.context.style.display)
 
   root_drawn : IsOutcome (root_outcome e)
   unfolding outcome_with draws_small root_with_index_of with_index_of
   root_drawn =
-      marks_small e.context.style.rtl _ _ _ _ _
+      let base = frame_at e 0 in
+      let root = root_with_index_of e.metrics base (frame_at e 1) e.context.style.display (font e) in
+      marks_small e.context.style.rtl root.frame.width (root.base.x -ℤ x_of root.surd) base.width root.surd root.rule
       (root_small e.metrics taken (font e) sized (frame_at e 0) (root_start_of (index_lengths_of e.metrics (font e)) (frame_at e 1)) e.context.style.display)
 
   scripts_drawn : IsOutcome (multi_outcome e)
