@@ -1,21 +1,27 @@
 -- What a call of a ring makes of the history that it keeps, and what is answered to it.
-use Rattle.std.proofs.Common.{◌≡◌, ◌∙◌, inl, sym, ap, refl, subst, ℕ, Bool, true, false, List, [], ◌∷◌, Option, Some, None}
+use Rattle.std.proofs.Common.{◌≡◌, ◌∙◌, inl, sym, ap, refl, subst, pos, ℕ, Bool, true, false, List, [], ◌∷◌, Option, Some, None}
 use Rattle.std.specs.Prelude.{◌≢◌, Result, Ok, Err, IsErr, if◌then◌else◌, unwrap_or}
 use Rattle.std.specs.List.{All}
 use Rattle.std.proofs.lemmas.Option.{same_Some}
+use Rattle.font_metrics.specs.Metrics.{MetricsValue}
 use Rattle.font_metrics.specs.Taken.{IsTaken}
 use Rattle.math_tree.specs.Forms.{is_white_space}
+use Rattle.math_tree.specs.Trees.{TreeValue}
 use Rattle.math_tree.specs.declared.node.Node.{Node}
+use Rattle.math_tree.specs.declared.node.Node.TheViews.{out-Node}
 use Rattle.tree_edits.specs.Commands.{command_in}
 use Rattle.tree_edits.specs.Edits.{edited, refusal_of}
 use Rattle.tree_edits.specs.declared.command.Command.{Command}
 use Rattle.tree_edits.specs.declared.command.Command.TheVariants.{Show, Change}
 use Rattle.tree_edits.specs.declared.edit.Edit.{Edit}
 use Rattle.kept_edits.specs.ByIds.{TakesNeeded}
+use Rattle.layout_model.proofs.LaidTrees.{drawn_law}
+use Rattle.layout_model.specs.Layout.{is_tree_in_range, laid_tree, root_context}
 use Rattle.box_writer.specs.Items.{IsOfFont}
 use Rattle.box_writer.specs.declared.placed.PlacedItem.{PlacedItem}
 use Rattle.edit_session.specs.Session.{SessionValue, page}
-use Rattle.edit_session.proofs.Whole.{glyphs_known}
+use Rattle.placement.proofs.Glyphs.{glyph_law}
+use Rattle.placement.specs.Placing.{placed}
 use Rattle.edit_ring.specs.Grounds.{GroundTold, IsStanding}
 use Rattle.edit_ring.specs.Rings.{History, RingEdits, RingMoves, RingState, TakesMove, after_redo, after_undo, back_over, back_to, forth_over, forth_to, history_of, redone, trail, undone}
 use Rattle.edit_ring.specs.declared.ground.GroundRefusal.{GroundRefusal}
@@ -159,6 +165,11 @@ module _ (session : SessionValue) (past future : List Edit) (depth : ℕ) (after
   edit_makes (Err LacksMemory) result e tells = unmade wanted changed before after result tells e.unchanged
 
 -- ---- the boxes
+
+-- the glyphs of a page are glyphs of the font
+glyphs_known : (m : MetricsValue) (tree : TreeValue) → IsTaken m → is_tree_in_range m tree ≡ true → All (IsOfFont m) (placed (laid_tree m tree) (pos 0) (pos 0))
+glyphs_known m tree taken fit =
+    glyph_law m (laid_tree m tree) (pos 0) (pos 0) (drawn_law m tree.root (root_context m (out-Node tree.root).head) taken fit)
 
 pub show_makes : {E : Type 0} (session : SessionValue) (past future : List Edit) (depth : ℕ) (after : RingState) (items : List PlacedItem)
     → IsTaken session.metrics → IsStanding (told session) → items ≡ page session

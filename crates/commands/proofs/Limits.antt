@@ -5,7 +5,9 @@ use Rattle.std.specs.Option.{option_and_then, option_map}
 use Rattle.std.specs.Str.{bytes_eq}
 use Rattle.std.proofs.lemmas.Bool.{and_parts, leb-true}
 use Rattle.std.proofs.lemmas.Option.{same_Some}
-use Rattle.commands.specs.Command.{Asked, Job, OverTree, Generates, Work, LaysOut, Edits, Checks, Remembers, IsInLimits, IsWorkInLimits, asked_by, generation_of, job_named, remembering, work_named}
+use Rattle.queries.specs.declared.query.Query.{Query}
+use Rattle.queries.specs.declared.query.Query.TheVariants.{Paint}
+use Rattle.commands.specs.Command.{Asked, Job, OverTree, Generates, Work, LaysOut, Edits, Checks, Asks, Remembers, IsInLimits, IsWorkInLimits, asked_by, generation_of, job_named, query_named, remembering, work_named}
 use Rattle.commands.specs.Numerals.{count_in, depth_in, if_depth, is_depth, most_undone, number_in, seed_in}
 
 -- a depth
@@ -27,18 +29,24 @@ depth_within word n is = by (number_in 4 word) is
 
 -- the other work has none
 work_within : (word : List ℕ) (others : List (List ℕ)) (work : Work) → work_named word others ≡ Some work → IsWorkInLimits work
-work_within word [] work is = by (bytes_eq word (codes "layout")) (bytes_eq word (codes "check")) is
+work_within word [] work is = by (bytes_eq word (codes "layout")) (bytes_eq word (codes "check")) (bytes_eq word (codes "paint")) is
   where
-    by : (lays checks : Bool) → (if lays then Some LaysOut else if checks then Some Checks else None) ≡ Some work → IsWorkInLimits work
-    by true checks is = subst IsWorkInLimits (same_Some LaysOut work is) tt
-    by false true is = subst IsWorkInLimits (same_Some Checks work is) tt
-    by false false is = absurd cc
+    by : (lays checks paints : Bool) → (if lays then Some LaysOut else if checks then Some Checks else if paints then Some (Asks Paint) else None) ≡ Some work → IsWorkInLimits work
+    by true checks paints is = subst IsWorkInLimits (same_Some LaysOut work is) tt
+    by false true paints is = subst IsWorkInLimits (same_Some Checks work is) tt
+    by false false true is = subst IsWorkInLimits (same_Some (Asks Paint) work is) tt
+    by false false false is = absurd cc
 work_within word (script ∷ []) work is = by (bytes_eq word (codes "edit")) is
   where
     by : (edits : Bool) → (if edits then Some (Edits script) else None) ≡ Some work → IsWorkInLimits work
     by true is = subst IsWorkInLimits (same_Some (Edits script) work is) tt
     by false is = absurd cc
-work_within word (script ∷ more ∷ others) work is = absurd cc
+work_within word (first ∷ second ∷ []) work is = asked (query_named word first second) is
+  where
+    asked : (query : Option Query) → option_map Asks query ≡ Some work → IsWorkInLimits work
+    asked None is = absurd cc
+    asked (Some query) is = subst IsWorkInLimits (same_Some (Asks query) work is) tt
+work_within word (first ∷ second ∷ third ∷ others) work is = absurd cc
 
 generation_within : (seed : List ℕ) (others : List (List ℕ)) (job : Job) → generation_of seed others ≡ Some job → IsInLimits job
 generation_within seed [] job is = absurd cc

@@ -35,7 +35,7 @@ use Rattle.commands.specs.Script.{within, is_within}
 use Rattle.commands.specs.Replies.{after_line, by_session, is_edited_in_range, replies, reply_by, reply_to, reply_to_command, reply_to_edit, text_of_reply, told_of}
 use Rattle.commands.specs.declared.reply.Cause.TheVariants.{NoCommand, Unmade}
 use Rattle.commands.specs.declared.reply.Reply.TheVariants.{Nothing, Refused}
-use Rattle.commands.specs.Steps.{TakesForEdit, TakesForLine, TakesForLines, accepted_by, accepted_in, unless_refused}
+use Rattle.commands.specs.Steps.{TakesForEdit, TakesForLine, accepted_by, accepted_in, unless_refused}
 use Rattle.commands.specs.Numerals.{coordinate_in, number_in as numeral_in}
 use Rattle.queries.specs.declared.query.Query.TheVariants.{Hit, Select}
 use Rattle.commands.specs.Command.{asked_by, Asked, OverTree, Generates, Edits, Checks, Asks}
@@ -149,7 +149,7 @@ output_of_no_metrics = ap output_of (refused_by_metrics _ (files one) _ tree_is_
 
 output_of_two_words : output (asked_by (codes "layout" ∷ codes "m" ∷ [])) (files one)
     ≡ record {
-      bytes = codes "usage: mathlay layout METRICS TREE | edit METRICS TREE SCRIPT | check METRICS TREE | gen METRICS SEED COUNT | paint METRICS TREE | hit METRICS TREE X Y | select METRICS TREE ID ID\n";
+      bytes = codes "usage: mathlay layout METRICS TREE | edit METRICS TREE SCRIPT | check METRICS TREE | gen METRICS SEED COUNT | paint METRICS TREE | hit METRICS TREE X Y | select METRICS TREE ID ID | history DEPTH METRICS TREE SCRIPT\n";
       status = Usage;
     }
 output_of_two_words = refl

@@ -7,7 +7,7 @@ use Rattle.commands.proofs.history.change.Goals as goal
 pub returns-clause-made : goal.returns-clause-made
 returns-clause-made g c =
     let ring = c.args.ring.now in
-    edit_makes ring.base.session.held ring.past ring.future ring.depth (ring_of c.edit.new.ring) c.args.edit c.args.steps.now c.edit.new.steps
+    edit_makes ring.base.session.held ring.past ring.future ring.depth (ring_of c.edit.new.self) c.args.edit c.args.steps.now c.edit.new.steps
     c.edit.result _ c.edit.ensures c.told_edit.ensures
 
 pub returns-clause-taken : goal.returns-clause-taken

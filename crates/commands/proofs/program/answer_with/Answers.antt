@@ -9,7 +9,7 @@ use Rattle.commands.proofs.Answering.{generated_answers, over_tree_answers}
 use Rattle.commands.proofs.program.answer_with.Goals as goal
 
 pub answer_over-requires : goal.answer_over-requires
-answer_over-requires g c = subst (λ (job : Job). IsInLimits job) (ap job_of c.in-OverTree.is) c.requires
+answer_over-requires g c = record { limits = subst (λ (job : Job). IsInLimits job) (ap job_of c.in-OverTree.is) c.requires.limits }
 
 pub returns-in-OverTree-clause-answered : goal.returns-in-OverTree-clause-answered
 returns-in-OverTree-clause-answered g c =

@@ -9,10 +9,10 @@ use Rattle.commands.proofs.Answering.{asked_answers, checked_answers, laid_out_a
 use Rattle.commands.proofs.program.do_task.Goals as goal
 
 pub remember-requires-clause-some : goal.remember-requires-clause-some
-remember-requires-clause-some g c = (subst (λ (work : Work). IsWorkInLimits work) (ap work_of c.in-Remember.is) c.requires).0
+remember-requires-clause-some g c = (subst (λ (work : Work). IsWorkInLimits work) (ap work_of c.in-Remember.is) c.requires.limits).0
 
 pub remember-requires-clause-few : goal.remember-requires-clause-few
-remember-requires-clause-few g c = (subst (λ (work : Work). IsWorkInLimits work) (ap work_of c.in-Remember.is) c.requires).1
+remember-requires-clause-few g c = (subst (λ (work : Work). IsWorkInLimits work) (ap work_of c.in-Remember.is) c.requires.limits).1
 
 pub returns-in-Layout-clause-answered : goal.returns-in-Layout-clause-answered
 returns-in-Layout-clause-answered g c =

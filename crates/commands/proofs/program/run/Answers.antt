@@ -1,4 +1,6 @@
 use Rattle.std.proofs.Common.{refl, subst, sym}
+use Rattle.std.specs.Prelude.{map, string_bytes}
+use Rattle.commands.specs.Command.{asked_of}
 use Rattle.commands.specs.Ends.{TakesNoSteps}
 use Rattle.commands.specs.Steps.{TakesForRun}
 use Rattle.commands.proofs.Ending.{answered_ends, usage_ends}
@@ -6,7 +8,7 @@ use Rattle.commands.proofs.Limits.{asked_within}
 use Rattle.commands.proofs.program.run.Goals as goal
 
 pub answer-requires : goal.answer-requires
-answer-requires g c = asked_within _ _ c.in-Ok.ensures.ok
+answer-requires g c = record { limits = asked_within (map string_bytes c.args.words.now) (asked_of c.in-Ok.request) c.in-Ok.ensures.ok }
 
 pub returns-in-Err-clause-ends : goal.returns-in-Err-clause-ends
 returns-in-Err-clause-ends g c = usage_ends _ _ _ _ _ _ c.in-Err.ensures.err c.as_bytes.ensures.value c.deliver.ensures
