@@ -6,10 +6,17 @@ use Rattle.font_metrics.specs.Metrics.{MetricsValue}
 use Rattle.tree_edits.specs.declared.command.Command.TheVariants.{Show}
 use Rattle.tree_edits.specs.declared.edit.Edit.{Edit}
 use Rattle.kept_edits.specs.ByIds.{TakesNeeded}
-use Rattle.edit_session.specs.Session.{page}
+use Rattle.box_writer.specs.declared.placed.PlacedItem.{PlacedItem}
+use Rattle.edit_session.specs.Session.{SessionValue, page}
+use Rattle.edit_ring.specs.Grounds.{GroundTold}
 use Rattle.edit_ring.specs.Rings.{History, RingMoves, RingState, after_redo, after_undo, history_of, redone as ring_redone, undone as ring_undone}
 use Rattle.edit_ring.specs.declared.ring.RingRefusal.{RingRefusal}
 use Rattle.edit_ring.specs.declared.ring.RingRefusal.TheVariants.{Nothing as HoldsNone}
+use Rattle.queries.specs.Queries.{IsCause, answer_to, bytes_of}
+use Rattle.queries.specs.declared.answers.Answer.{Answer}
+use Rattle.queries.specs.declared.query.Query.{Query}
+use Rattle.queries.specs.declared.query.QueryRefusal.{QueryRefusal}
+use Rattle.session_ring.specs.Undoable.{told}
 use Rattle.session_ring.specs.declared.moves.Move.TheVariants.{Other}
 use Rattle.commands.specs.History.{reply_by_move, reply_to, session_in}
 use Rattle.commands.specs.HistoryParts.{Makes, kept_after_move}
@@ -17,9 +24,9 @@ use Rattle.commands.specs.HistorySteps.{kept_after, kept_by}
 use Rattle.commands.specs.Replies.{IsReplyOfFont, text_of_reply}
 use Rattle.commands.specs.declared.reply.Reply.{Reply}
 use Rattle.commands.proofs.Histories.{Keeps, back_keeps, forth_keeps, history_keeps}
-use Rattle.embed.specs.Desks.{DeskValue, IsOfFont, after, redone, shown, text_of, undone, with_history}
+use Rattle.embed.specs.Desks.{DeskValue, IsAnswered, IsOfFont, after, redone, shown, text_of, undone, with_history}
 use Rattle.embed.specs.declared.kept_reply.KeptReply.{KeptReply}
-use Rattle.embed.specs.declared.kept_reply.KeptReply.TheVariants.{Line}
+use Rattle.embed.specs.declared.kept_reply.KeptReply.TheVariants.{Line, Page}
 
 -- what a desk is to callers whose ring tells this
 abbrev pub desk_in : KeptReply → RingState → DeskValue
@@ -120,3 +127,19 @@ module _ {E : Type 0} (before next : RingState) (reply : Reply) (told : KeptRepl
 
   pub show_fits : IsReplyOfFont next.told.metrics reply
   show_fits = subst (λ (metrics : MetricsValue). IsReplyOfFont metrics reply) (sym show_metrics) m.glyphs
+
+-- ---- a question about the page
+
+-- a page is that of the session as it stands behind the look at it
+pub page_behind : (old new : SessionValue) (items : List PlacedItem) → told new ≡ told old → items ≡ (told old).boxes (told old).tree.root → items ≡ page new
+page_behind old new items same is = is ∙ ap (λ (t : GroundTold). t.boxes t.tree.root) (sym same)
+
+module _ (before next : RingState) (same : next ≡ before) (query : Query) where
+  pub asked : (answer : Answer) (reply : KeptReply) → answer_to query (session_in (kept_by next).history) ≡ Ok (bytes_of next.told.metrics answer)
+      → IsAnswered query (desk_in reply before) (desk_in (Page answer) next)
+  asked answer reply is =
+      (ap (λ (r : RingState). (kept_by r).history) same, ap (λ (r : RingState). answer_to query (session_in (kept_by r).history)) (sym same) ∙ is)
+
+  pub not_asked : (refusal : QueryRefusal) → IsCause (answer_to query (session_in (kept_by next).history)) refusal
+      → IsCause (answer_to query (session_in (kept_by before).history)) refusal
+  not_asked refusal is = subst (λ (r : RingState). IsCause (answer_to query (session_in (kept_by r).history)) refusal) same is
