@@ -28,14 +28,14 @@ pub returns-in-Err-BadLine-clause-made : goal.returns-in-Err-BadLine-clause-made
 returns-in-Err-BadLine-clause-made g c =
     let black : is_white_space c.args.line.now ≡ false = sym c.is_white_space.ensures ∙ c.if-is_white_space.false in
     let reads : command_in c.args.line.now ≡ None =
-        subst (λ (r : CommandRefusal). Gives (command_in c.args.line.now) (Err r)) c.in-Err-BadLine.field-0-is c.in-Err-BadLine.ensures.reads in
+    subst (λ (r : CommandRefusal). Gives (command_in c.args.line.now) (Err r)) c.in-Err-BadLine.field-0-is c.in-Err-BadLine.ensures.reads in
     step_makes (ring_of c.args.ring.now) (ring_of c.go.new.ring) c.args.line.now _ black reads c.go.ensures.made
 
 pub returns-in-Err-BadLine-clause-taken : goal.returns-in-Err-BadLine-clause-taken
 returns-in-Err-BadLine-clause-taken g c =
     let black : is_white_space c.args.line.now ≡ false = sym c.is_white_space.ensures ∙ c.if-is_white_space.false in
     let reads : command_in c.args.line.now ≡ None =
-        subst (λ (r : CommandRefusal). Gives (command_in c.args.line.now) (Err r)) c.in-Err-BadLine.field-0-is c.in-Err-BadLine.ensures.reads in
+    subst (λ (r : CommandRefusal). Gives (command_in c.args.line.now) (Err r)) c.in-Err-BadLine.field-0-is c.in-Err-BadLine.ensures.reads in
     step_takes (ring_of c.args.ring.now) c.args.line.now _ _ black reads c.go.ensures.taken
 
 pub returns-in-Err-Memory-clause-taken : goal.returns-in-Err-Memory-clause-taken
