@@ -50,9 +50,12 @@ uninstall:
 	rm -f $(LIB)/libmathlay.a $(LIB)/libmathlay.so $(INCLUDE)/mathlay.h
 	rm -rf $(SHARE)
 
-# The archive stands alone: the kit's heap, over malloc, is put in.
 library:
 	cd crates/embed && rt lib
+	$(MAKE) -s archive
+
+# It stands alone: the kit's heap, over malloc, is put in.
+archive: $(ARCHIVE)
 	cp $(ARCHIVE) libmathlay.a
 	mkdir -p build && cd build && ar x $(KIT)c/liblibc_c.a heap.pic.o
 	ar rs libmathlay.a build/heap.pic.o
@@ -66,11 +69,11 @@ install-library: libmathlay.a libmathlay.so
 	install -m 755 libmathlay.so $(LIB)/libmathlay.so
 	install -m 644 bindings/python/mathlay.py $(SHARE)/python/mathlay.py
 
-libmathlay.a libmathlay.so:
+$(ARCHIVE) libmathlay.a libmathlay.so:
 	@echo '$@ is not there: `make library` makes it' >&2
 	@exit 1
 
 test:
 	cd tools && python3 -B -m tests
 
-.PHONY: help install library install-library uninstall test
+.PHONY: help install library archive install-library uninstall test

@@ -1,7 +1,7 @@
 /* mathlay: layout of mathematics with proved boxes, as a library.
 
-   A session lays out one formula and keeps it laid out under edits. Its lines and replies are those of
-   `mathlay edit`: docs/FORMATS.md has them all. docs/EMBEDDING.md shows the calls by example.
+   A session lays out one formula and keeps it laid out under edits, of which the last 1,000 can be undone. Its lines and
+   replies are those of `mathlay history 1000`: docs/FORMATS.md has them all. docs/EMBEDDING.md shows the calls by example.
 
    What a caller owes, and nobody checks:
    1. A session starts as MATHLAY_CLOSED, and then the calls alone write it. It is never copied, except as a move after
@@ -34,10 +34,12 @@ enum mathlay_answer {
     MATHLAY_MEMORY = 7,    /* memory was refused */
     MATHLAY_RANGE = 8,     /* a size of the layout is out of range */
     MATHLAY_LINE_LONG = 9, /* the line has more than 1,048,576 bytes */
+    MATHLAY_NODE = 10,     /* no element in flow has this number */
+    MATHLAY_PAINT = 11,    /* more would be painted than may be */
     MATHLAY_OPEN = 32,     /* the session is open already */
     MATHLAY_NOT_OPEN = 33, /* the session is closed */
     MATHLAY_SHORT = 34,    /* the buffer is too short */
-    MATHLAY_NOTHING = 35   /* no box holds the point */
+    MATHLAY_NOTHING = 35   /* no box holds the point, or there is nothing to undo or redo */
 };
 
 /* The least room for the line of a refusal. */
@@ -60,12 +62,27 @@ typedef struct mathlay_frame {
 uint32_t mathlay_open(const uint8_t *metrics, size_t metrics_len, const uint8_t *tree, size_t tree_len,
                       mathlay_session *session, uint8_t *refusal, size_t refusal_room, size_t *refusal_len);
 
-/* Does what a line of a script asks for, without its line feed. The reply is kept until the next line or show. After
-   MATHLAY_MEMORY the session and its last reply are as before. */
+/* Does what a line of a script asks for, without its line feed. The reply is kept until the next line, show, picture or
+   selection. After MATHLAY_MEMORY the session and its last reply are as before. */
 uint32_t mathlay_line(mathlay_session *session, const uint8_t *line, size_t line_len);
+
+/* Undoes the last edit that wasn't undone, and makes the edit again that was undone last. Elements get back the numbers that
+   they had. An edit that is made otherwise ends what can be redone. Where there is nothing to undo or redo, the answer is
+   MATHLAY_NOTHING. The last reply stays. */
+uint32_t mathlay_undo(mathlay_session *session);
+uint32_t mathlay_redo(mathlay_session *session);
 
 /* Keeps the lines of all boxes and marks as the reply, behind a line `shown`. */
 uint32_t mathlay_show(mathlay_session *session);
+
+/* Keeps a picture as the reply: the SVG of `mathlay paint`, in which a glyph stands by its name in the metrics file.
+   MATHLAY_PAINT, where it would have more than 33,554,432 glyphs and rules. */
+uint32_t mathlay_paint(mathlay_session *session);
+
+/* Keeps the lines of the areas to mark from one element to another as the reply: `area X Y W H`, as `mathlay select` writes
+   them. There may be none. Where no element in flow has one of the numbers, the answer is MATHLAY_NODE and `missing` is told the
+   first that is missing; else `missing` isn't written. */
+uint32_t mathlay_select(mathlay_session *session, uint32_t first, uint32_t second, uint32_t *missing);
 
 /* Copies the kept reply to the front of `out`. Where the room is too short it writes nothing, tells the length in `len`
    and answers MATHLAY_SHORT; nothing is lost. */

@@ -6,6 +6,8 @@
         session.line(b'{"op":"text","node":14,"text":"44"}')    # b'ok\\n'
         session.show()                                          # the lines of all boxes and marks
         session.root().width                                    # in 1/1024 px
+        session.undo()                                          # True: the text is the old one again
+        session.paint()                                         # an SVG of the formula
 
 The library is a shared object, `libmathlay.so` (`make library` at the top of the repository). It is looked for in the
 variable MATHLAY_LIBRARY, beside this file, at the top of the repository, where `make install-library` puts it, and where the
@@ -16,11 +18,11 @@ import ctypes.util
 import os
 import pathlib
 import threading
-from typing import NamedTuple, Optional
+from typing import List, NamedTuple, Optional
 
-__all__ = ["Frame", "MathlayError", "Refusal", "Session", "library"]
+__all__ = ["Area", "Frame", "MathlayError", "Refusal", "Session", "library"]
 
-DONE, SHORT, NOTHING = 0, 34, 35
+DONE, NODE, SHORT, NOTHING = 0, 10, 34, 35
 REFUSAL_ROOM = 160
 FARTHEST = 2**62
 
@@ -30,10 +32,12 @@ NAMES = {
     7: "memory was refused",
     8: "a size of the layout is out of range",
     9: "the line has more than 1,048,576 bytes",
+    10: "no element in flow has this number",
+    11: "more would be painted than may be",
     32: "the session is open already",
     33: "the session is closed",
     34: "the buffer is too short",
-    35: "no box holds the point",
+    35: "no box holds the point, or there is nothing to undo or redo",
 }
 
 
@@ -61,6 +65,16 @@ class Frame(NamedTuple):
     ink_descent: int
     italic: int
     accent: int
+
+
+class Area(NamedTuple):
+    """A rectangle to mark, in 1/1024 px: its left upper corner, to the right and downward from where the formula's baseline
+    begins, and its size."""
+
+    x: int
+    y: int
+    width: int
+    height: int
 
 
 class _Handle(ctypes.Structure):
@@ -102,14 +116,18 @@ def library() -> ctypes.CDLL:
 
 def _typed(loaded: ctypes.CDLL) -> ctypes.CDLL:
     text, size, handle = ctypes.c_char_p, ctypes.c_size_t, ctypes.POINTER(_Handle)
-    told = ctypes.POINTER(ctypes.c_size_t)
+    told, number = ctypes.POINTER(ctypes.c_size_t), ctypes.c_uint32
     for name, types, result in (
         ("open", [text, size, text, size, handle, text, size, told], ctypes.c_uint32),
         ("line", [handle, text, size], ctypes.c_uint32),
+        ("undo", [handle], ctypes.c_uint32),
+        ("redo", [handle], ctypes.c_uint32),
         ("show", [handle], ctypes.c_uint32),
+        ("paint", [handle], ctypes.c_uint32),
+        ("select", [handle, number, number, ctypes.POINTER(number)], ctypes.c_uint32),
         ("reply", [handle, text, size, told], ctypes.c_uint32),
         ("root", [handle, ctypes.POINTER(_Frame)], ctypes.c_uint32),
-        ("hit", [handle, ctypes.c_int64, ctypes.c_int64, ctypes.POINTER(ctypes.c_uint32)], ctypes.c_uint32),
+        ("hit", [handle, ctypes.c_int64, ctypes.c_int64, ctypes.POINTER(number)], ctypes.c_uint32),
         ("close", [handle], None),
     ):
         call = getattr(loaded, "mathlay_" + name)
@@ -118,7 +136,7 @@ def _typed(loaded: ctypes.CDLL) -> ctypes.CDLL:
 
 
 class Session:
-    """A formula that is laid out, and stays laid out under edits.
+    """A formula that is laid out, and stays laid out under edits, of which the last 1,000 can be undone.
 
     Calls of several threads on one session wait for each other. A session can't be copied or pickled.
     """
@@ -142,14 +160,42 @@ class Session:
             self._ask(self._library.mathlay_line(self._handle, line, len(line)))
             return self.reply()
 
+    def undo(self) -> bool:
+        """Undoes the last edit that wasn't undone, and says whether there was one."""
+        return self._step(self._library.mathlay_undo)
+
+    def redo(self) -> bool:
+        """Makes the edit again that was undone last, and says whether there was one."""
+        return self._step(self._library.mathlay_redo)
+
     def show(self) -> bytes:
         """The lines of all boxes and marks, behind a line `shown`."""
         with self._lock:
             self._ask(self._library.mathlay_show(self._handle))
             return self.reply()
 
+    def paint(self) -> bytes:
+        """An SVG of the formula, in which glyphs stand by their names: a page defines what each looks like."""
+        with self._lock:
+            self._ask(self._library.mathlay_paint(self._handle))
+            return self.reply()
+
+    def select(self, first: int, second: int) -> List[Area]:
+        """The areas to mark from one element to another; `KeyError` with the number of an element that isn't there."""
+        missing = ctypes.c_uint32()
+        for number in (first, second):
+            if not 0 <= number < 2**32:
+                raise KeyError(number)
+        with self._lock:
+            status = self._library.mathlay_select(self._handle, first, second, missing)
+            if status == NODE:
+                raise KeyError(missing.value)
+            self._ask(status)
+            lines = self.reply().decode().splitlines()
+        return [Area(*(int(word) for word in line.split()[1:])) for line in lines]
+
     def reply(self) -> bytes:
-        """The reply to the last line or show."""
+        """The reply to the last line, show, picture or selection."""
         with self._lock:
             length, room = ctypes.c_size_t(), 64
             while True:
@@ -197,6 +243,14 @@ class Session:
 
     def __exit__(self, *_) -> None:
         self.close()
+
+    def _step(self, call) -> bool:
+        with self._lock:
+            status = call(self._handle)
+        if status == NOTHING:
+            return False
+        self._ask(status)
+        return True
 
     @staticmethod
     def _ask(status: int) -> None:

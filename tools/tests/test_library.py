@@ -35,10 +35,10 @@ sys.path.insert(0, str(TOP / "bindings" / "python"))
 
 
 def script_of(seed, elements):
-    """Some lines that edit a tree: accepted and refused ones, some that are no command, and a show at the end."""
+    """Some lines that edit a tree, undo and redo: accepted and refused ones, some that are no command, and a show at the end."""
     draw = random.Random(seed)
     lines = []
-    for _ in range(draw.randint(1, 8)):
+    for _ in range(draw.randint(1, 12)):
         node = draw.randint(1, elements + 3)
         lines.append(draw.choice([
             {"op": "text", "node": node, "text": draw.choice(["1", "x", "+", "sin", ""])},
@@ -48,6 +48,8 @@ def script_of(seed, elements):
             {"op": "replace", "node": node, "element": {"name": "mrow", "children": [{"name": "mn", "text": "7"}]}},
             {"op": "show"},
             {"op": "nothing"},
+            {"op": "undo"},
+            {"op": "redo"},
         ]))
     return [json.dumps(line).encode() for line in lines] + [b"  ", b'{"op":"show"}']
 
@@ -80,7 +82,46 @@ class Library(InFolder):
             answered = b"".join(session.line(line) for line in lines)
             session.close()
             path = self.file("script", b"\n".join(lines))
-            self.assertEqual(answered, self.program("edit", METRICS, sample, path), f"seed {seed}")
+            self.assertEqual(answered, self.program("history", "1000", METRICS, sample, path), f"seed {seed}")
+
+    @needs_program
+    def test_every_sample_is_painted_as_by_the_program(self):
+        for sample in sorted((TOP / "samples").glob("*.json")):
+            with self.subTest(sample=sample.name):
+                self.assertEqual(self.session(sample.read_bytes()).paint(), self.program("paint", METRICS, sample))
+
+    @needs_program
+    def test_elements_are_selected_as_by_the_program(self):
+        draw = random.Random(2)
+        for sample in (TOP / "samples" / "quadratic.json", TOP / "samples" / "matrix.json"):
+            session, most = self.session(sample.read_bytes()), sample.read_bytes().count(b'"name"')
+            for _ in range(40):
+                first, second = draw.randint(0, most + 1), draw.randint(0, most + 1)
+                try:
+                    told = "".join(f"area {x} {y} {width} {height}\n" for x, y, width, height in session.select(first, second))
+                except KeyError as missing:
+                    told = f"node {missing.args[0]}\n"
+                self.assertEqual(told.encode(), self.program("select", METRICS, sample, str(first), str(second)))
+
+    def test_edits_are_undone_and_made_again(self):
+        session = self.session((TOP / "samples" / "quadratic.json").read_bytes())
+        self.assertFalse(session.undo() or session.redo())
+        pages = [session.show()]
+        for text in range(1_001):
+            self.assertEqual(session.line(b'{"op":"text","node":14,"text":"%d"}' % text), b"ok\n")
+            if text in (0, 999, 1_000):
+                pages.append(session.show())
+        self.assertTrue(session.undo())
+        self.assertEqual(session.show(), pages[2])
+        self.assertTrue(session.redo())
+        self.assertEqual(session.show(), pages[3])
+        self.assertEqual(sum(session.undo() for _ in range(1_001)), 1_000)
+        self.assertEqual(session.show(), pages[1])
+        self.assertEqual(session.line(b'{"op":"undo"}'), b"refused nothing\n")
+        self.assertEqual(session.line(b'{"op":"redo"}'), b"ok\n")
+        self.assertEqual(session.line(b'{"op":"remove","node":14}'), b"ok\n")
+        self.assertFalse(session.redo())
+        self.assertEqual(session.reply(), b"ok\n")
 
     def test_refusals_lose_nothing(self):
         from mathlay import MathlayError, Refusal, Session
@@ -96,6 +137,9 @@ class Library(InFolder):
         self.assertEqual(caught.exception.status, 9)
         self.assertEqual(session.reply(), before)
         self.assertEqual(session.line(b'{"op":"remove","node":1}'), b"refused root\n")
+        with self.assertRaises(KeyError) as missing:
+            session.select(2, 9)
+        self.assertEqual(missing.exception.args, (9,))
         self.assertEqual(session.show(), before)
         session.close()
         session.close()
@@ -199,7 +243,7 @@ class Archive(InFolder):
         wide = self.file("wide", '{"name":"math","children":[{"name":"mspace","attributes":{"width":"2000000px"}}]}')
         for seed in ("1", "2"):
             answers = self.said(program, seed, "10000", METRICS, wide, *TREES).split()
-            self.assertEqual([int(answer) for answer in answers], [0, 3, 4, 8, 9, 32, 33, 34, 35])
+            self.assertEqual([int(answer) for answer in answers], [0, 3, 4, 8, 9, 10, 32, 33, 34, 35])
 
     def test_random_calls_lose_nothing_where_memory_is_refused(self):
         program = self.built(CALLS, "-DFAIL", "-Wl,--wrap=malloc,--wrap=realloc")

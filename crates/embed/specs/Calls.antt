@@ -1,11 +1,17 @@
 -- How each call ends: what the answer says, and what is changed with it.
-use Rattle.std.specs.Prelude.{◌≡◌, ◌≢◌, ◌<◌, ℕ, ℤ, List, length, take, drop, Option, Some, None, Ok, Err}
+use Rattle.std.specs.Prelude.{◌≡◌, ◌≢◌, ◌<◌, ℕ, ℤ, List, length, take, drop, Option, Some, None, Result, Ok, Err}
 use Rattle.doc_io.specs.LineReader.{longest_line}
-use Rattle.edit_session.specs.Session.{SessionValue, root_box}
+use Rattle.edit_ring.specs.declared.ring.RingRefusal.{RingRefusal}
+use Rattle.edit_ring.specs.declared.ring.RingRefusal.TheVariants.{Nothing as HoldsNone, Memory as LacksMemory}
+use Rattle.edit_session.specs.Session.{root_box}
+use Rattle.queries.specs.Queries.{IsCause, answer_to}
+use Rattle.queries.specs.declared.query.Query.{Query}
+use Rattle.queries.specs.declared.query.QueryRefusal.{QueryRefusal}
 use Rattle.commands.specs.Answer.{opened}
-use Rattle.commands.specs.Refusals.{line_of}
-use Rattle.commands.specs.declared.refusal.Refusal.TheVariants.{Memory as NoMemory}
-use Rattle.embed.specs.Desks.{DeskValue, after, element_at, fresh, shown, text}
+use Rattle.commands.specs.History.{session_in}
+use Rattle.commands.specs.Refusals.{line_of, of_query}
+use Rattle.commands.specs.declared.refusal.Refusal.TheVariants.{NoNode, Memory as NoMemory}
+use Rattle.embed.specs.Desks.{DeskValue, IsAnswered, IsOpened, after, element_at, shown}
 use Rattle.embed.specs.Frames.{frame_of}
 use Rattle.embed.specs.Kept.{Becomes, Keeps}
 use Rattle.embed.specs.Status.{number_of}
@@ -45,8 +51,8 @@ refusal_room = 160
 -- a session over these bytes is opened in a closed handle, or why not; a refusal is told in a line
 abbrev pub Opens : List ℕ → List ℕ → Seen → Seen → Answer → Type 0
 Opens metrics tree old new Done =
-    (old.kept ≡ None) × (session : SessionValue) × (opened metrics tree ≡ Ok session)
-    × (new ≡ record old { kept = Some (fresh session) })
+    (old.kept ≡ None) × (desk : DeskValue) × IsOpened metrics tree desk
+    × (new ≡ record old { kept = Some desk })
 Opens metrics tree old new (Refused refusal) =
     (old.kept ≡ None) × (refusal ≢ NoMemory → opened metrics tree ≡ Err refusal)
     × (new.kept ≡ old.kept) × Copies (line_of refusal) old.bytes new.bytes new.told
@@ -72,28 +78,61 @@ Shows old new Memory = (old ≢ None) × (new ≡ old)
 Shows old new Closed = (old ≡ None) × (new ≡ old)
 Shows old new answer = ⊥
 
+-- what is answered to a step through the history
+abbrev pub answer_of_step : Result (Unit {0}) RingRefusal → Answer
+answer_of_step (Ok done) = Done
+answer_of_step (Err HoldsNone) = Nothing
+answer_of_step (Err LacksMemory) = Memory
+
+-- an edit is undone, or made again: `way` says what is kept then; there is none, or why not
+abbrev pub Goes : (DeskValue → Option DeskValue) → Option DeskValue → Option DeskValue → Answer → Type 0
+Goes way old new Done = Becomes old new (λ desk next. way desk ≡ Some next)
+Goes way old new Nothing = Keeps old (λ desk. way desk ≡ None) × (new ≡ old)
+Goes way old new Memory = (old ≢ None) × (new ≡ old)
+Goes way old new Closed = (old ≡ None) × (new ≡ old)
+Goes way old new answer = ⊥
+
+-- what is answered to a question about the page
+abbrev pub answer_of_query : Result (Unit {0}) QueryRefusal → Answer
+answer_of_query (Ok done) = Done
+answer_of_query (Err refusal) = Refused (of_query refusal)
+
+-- what is asked for on the page is kept as the reply, or why it isn't there
+abbrev pub Asks : Query → Option DeskValue → Option DeskValue → Answer → Type 0
+Asks query old new Done = Becomes old new (IsAnswered query)
+Asks query old new (Refused refusal) = Keeps old (λ desk.
+    (cause : QueryRefusal) × (refusal ≡ of_query cause)
+    × IsCause (answer_to query (session_in desk.kept)) cause) × (new ≡ old)
+Asks query old new Closed = (old ≡ None) × (new ≡ old)
+Asks query old new answer = ⊥
+
+-- the number of an element that isn't there is told
+abbrev pub Misses : ℕ → ℕ → Answer → Type 0
+Misses old new (Refused (NoNode id)) = new ≡ id.0
+Misses old new answer = new ≡ old
+
 -- the last reply is copied, or why not; of a reply that is too long for the buffer the length is told
 abbrev pub Tells : Seen → Seen → Answer → Type 0
-Tells old new Done = Keeps old.kept (λ desk. Copies (text desk) old.bytes new.bytes new.told) × (new.kept ≡ old.kept)
+Tells old new Done = Keeps old.kept (λ desk. Copies desk.text old.bytes new.bytes new.told) × (new.kept ≡ old.kept)
 Tells old new Short =
-    Keeps old.kept (λ desk. (length old.bytes < length (text desk))
-    × (new ≡ record old { told = length (text desk) }))
+    Keeps old.kept (λ desk. (length old.bytes < length desk.text)
+    × (new ≡ record old { told = length desk.text }))
 Tells old new Memory = (old.kept ≢ None) × (new ≡ old)
 Tells old new Closed = (old.kept ≡ None) × (new ≡ old)
 Tells old new answer = ⊥
 
 -- the box of the root is told, or there is none
 abbrev pub Measures : Option DeskValue → Frame → Frame → Answer → Type 0
-Measures kept old new Done = Keeps kept (λ desk. new ≡ frame_of (root_box desk.session))
+Measures kept old new Done = Keeps kept (λ desk. new ≡ frame_of (root_box (session_in desk.kept)))
 Measures kept old new Closed = (kept ≡ None) × (new ≡ old)
 Measures kept old new answer = ⊥
 
 -- the element at a point of the page is told, or there is none
 abbrev pub Hits : ℤ → ℤ → Option DeskValue → ℕ → ℕ → Answer → Type 0
 Hits x y kept old new Done =
-    Keeps kept (λ desk. element_at x y desk.session ≡ Some (record { 0 = new }))
+    Keeps kept (λ desk. element_at x y (session_in desk.kept) ≡ Some (record { 0 = new }))
 Hits x y kept old new Nothing =
-    Keeps kept (λ desk. element_at x y desk.session ≡ None) × (new ≡ old)
+    Keeps kept (λ desk. element_at x y (session_in desk.kept) ≡ None) × (new ≡ old)
 Hits x y kept old new Memory = (kept ≢ None) × (new ≡ old)
 Hits x y kept old new Closed = (kept ≡ None) × (new ≡ old)
 Hits x y kept old new answer = ⊥

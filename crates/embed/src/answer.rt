@@ -8,7 +8,7 @@ use commands::{Refusal, Status};
 pub enum Answer {
     /// What was asked for is done.
     Done,
-    /// The files don't give a session.
+    /// The files don't give a session, or the page has no answer.
     Refused(Refusal),
     /// The line has more bytes than the longest.
     LineLong,
@@ -20,7 +20,7 @@ pub enum Answer {
     Closed,
     /// The buffer is too short.
     Short,
-    /// No box holds the point.
+    /// No box holds the point, or there is nothing to undo or redo.
     Nothing,
 }
 

@@ -1,8 +1,9 @@
 ghost use Rattle.std.specs.Prelude.{◌≡◌, ◌≢◌, true, false, None, Some, IfOk, IfErr, Err, Ok};
 ghost use Rattle.commands.specs.Answer.{opened as opened_session};
 ghost use Rattle.commands.specs.Ends.{GivesOr};
-ghost use Rattle.embed.specs.Calls.{Hits, Lines, Measures, Opens, Shows, Tells, seen};
-ghost use Rattle.embed.specs.Desks.{fresh};
+ghost use Rattle.embed.specs.Calls.{Asks, Goes, Hits, Lines, Measures, Misses, Opens, Shows, Tells, answer_of_query, answer_of_step, seen};
+ghost use Rattle.embed.specs.Desks.{IsOpened, redone, undone};
+ghost use Rattle.queries.specs.declared.query.Query.TheVariants.{Paint, Select};
 
 use crate::answer::Answer;
 use crate::copying::copy_to;
@@ -10,7 +11,10 @@ use crate::desk::Desk;
 use crate::frame::Frame;
 use crate::handle::Handle;
 use commands::Refusal;
+use edit_ring::RingRefusal;
 use fixed_units::Memory;
+use math_tree::NodeId;
+use queries::{Query, QueryRefusal};
 use std::alloc::Global;
 
 /// The most bytes that a line may have: 1 MiB.
@@ -67,8 +71,7 @@ fn is_open(alloc: Global, handle: &mut Handle) -> bool
 
 /// A desk over the bytes of both files, in a box.
 fn desk_of(alloc: Global, metrics: &[u8], tree: &[u8]) -> Result<Box<Desk>, Refusal>
-    ensures opened { IfOk result (λ desk. opened_session metrics.now tree.now ≡ Ok desk.value.session) }
-    ensures fresh { IfOk result (λ desk. desk.value ≡ fresh desk.value.session) }
+    ensures opened { IfOk result (λ desk. IsOpened metrics.now tree.now desk.value) }
     ensures refused { IfErr result (λ refusal. GivesOr (opened_session metrics.now tree.now) (Err refusal)) }
 {
     let desk = Desk::open(alloc, metrics, tree)?;
@@ -119,6 +122,102 @@ pub fn shown(alloc: Global, handle: &mut Handle) -> Answer
             handle.keep(alloc, desk);
             answer
         }
+    }
+}
+
+/// Undoes the last edit that wasn't undone.
+pub fn undone(alloc: Global, handle: &mut Handle) -> Answer
+    ensures { Goes undone handle.old.kept handle.new.kept result }
+{
+    match handle.take(alloc) {
+        None => Answer::Closed,
+        Some(mut desk) => {
+            let answer = answer_step(desk.as_mut().undo(alloc));
+            handle.keep(alloc, desk);
+            answer
+        }
+    }
+}
+
+/// Makes the edit again that was undone last.
+pub fn redone(alloc: Global, handle: &mut Handle) -> Answer
+    ensures { Goes redone handle.old.kept handle.new.kept result }
+{
+    match handle.take(alloc) {
+        None => Answer::Closed,
+        Some(mut desk) => {
+            let answer = answer_step(desk.as_mut().redo(alloc));
+            handle.keep(alloc, desk);
+            answer
+        }
+    }
+}
+
+/// What is answered to a step through the history.
+fn answer_step(stepped: Result<(), RingRefusal>) -> Answer
+    ensures { result ≡ answer_of_step stepped }
+{
+    match stepped {
+        Ok(()) => Answer::Done,
+        Err(RingRefusal::Nothing) => Answer::Nothing,
+        Err(RingRefusal::Memory) => Answer::Memory,
+    }
+}
+
+/// Keeps a picture of the page as the reply.
+pub fn painted(alloc: Global, handle: &mut Handle) -> Answer
+    ensures { Asks Paint handle.old.kept handle.new.kept result }
+{
+    asked(alloc, handle, Query::Paint)
+}
+
+/// Keeps the areas to mark from one element to another as the reply.
+pub fn selected(
+    alloc: Global,
+    handle: &mut Handle,
+    first: u32,
+    second: u32,
+    missing: &mut u32,
+) -> Answer
+    ensures areas { Asks (Select (record { 0 = first }) (record { 0 = second }))
+        handle.old.kept handle.new.kept result }
+    ensures missing { Misses missing.old missing.new result }
+{
+    let answer = asked(alloc, handle, Query::Select(NodeId(first), NodeId(second)));
+    tell_missing(answer, missing);
+    answer
+}
+
+/// Tells the number of an element that isn't there.
+fn tell_missing(answer: Answer, missing: &mut u32)
+    ensures { Misses missing.old missing.new answer }
+{
+    if let Answer::Refused(Refusal::NoNode(id)) = answer {
+        *missing = id.0;
+    }
+}
+
+/// Keeps what is asked for on the page as the reply.
+fn asked(alloc: Global, handle: &mut Handle, query: Query) -> Answer
+    ensures { Asks query handle.old.kept handle.new.kept result }
+{
+    match handle.take(alloc) {
+        None => Answer::Closed,
+        Some(mut desk) => {
+            let answer = answer_query(desk.as_mut().ask(alloc, query));
+            handle.keep(alloc, desk);
+            answer
+        }
+    }
+}
+
+/// What is answered to a question about the page.
+fn answer_query(found: Result<(), QueryRefusal>) -> Answer
+    ensures { result ≡ answer_of_query found }
+{
+    match found {
+        Ok(()) => Answer::Done,
+        Err(refusal) => Answer::Refused(Refusal::of_query(refusal)),
     }
 }
 

@@ -1,27 +1,37 @@
-ghost use Rattle.std.specs.Prelude.{◌≡◌, ◌<◌, Some, Ok, Err, IfOk, IfErr, OnOk, OnErr};
+ghost use Rattle.std.specs.Prelude.{◌≡◌, ◌<◌, None, Some, Ok, Err, IfOk, IfErr, OnOk, OnErr};
+ghost use Rattle.edit_ring.specs.declared.ring.RingRefusal.TheVariants.{Nothing as HoldsNone};
 ghost use Rattle.edit_session.specs.Session.{root_box};
+ghost use Rattle.queries.specs.Queries.{IsCause, answer_to};
 ghost use Rattle.commands.specs.Answer.{opened};
 ghost use Rattle.commands.specs.Ends.{GivesOr};
+ghost use Rattle.commands.specs.History.{session_in};
 ghost use Rattle.embed.specs.Calls.{Tells, seen};
-ghost use Rattle.embed.specs.Desks.{after, element_at, fresh, shown};
+ghost use Rattle.embed.specs.Desks.{IsAnswered, IsOpened, after, element_at, fresh, redone, shown, undone};
 
 use crate::answer::Answer;
 use crate::copying::put;
-use crate::growing::text_of_reply;
-use commands::{Refusal, Reply, open, reply_to};
+use crate::growing::text_of;
+use crate::kept_reply::KeptReply;
+use commands::{Refusal, Reply, history, open};
+use edit_ring::{Ring, RingRefusal};
 use edit_session::Session;
 use fixed_units::{List, MathBox, Memory, Steps};
 use hit_test::hit;
 use math_tree::NodeId;
+use queries::{Query, QueryRefusal, answer_over};
+use session_ring::Undoable;
 use std::alloc::Global;
 use std::marker::{Brand, Model};
 use std::sync::ledger::{Blank, Ledger};
 
-/// What a handle keeps: a session, and the reply to its last call.
+/// How many edits can be undone.
+const DEPTH: usize = 1_000;
+
+/// What a handle keeps: a session whose edits can be undone, and the reply to the last call.
 #[derive(Drop)]
 pub struct Desk {
-    session: Session,
-    reply: Reply,
+    ring: Ring<Undoable>,
+    reply: KeptReply,
     /// The bytes of the reply, once they were asked for.
     text: Option<List<u8>>,
 }
@@ -30,25 +40,25 @@ impl Model for Desk {
     ghost use Rattle.std.specs.Coded.{codes};
     ghost use Rattle.std.specs.Prelude.{◌≡◌, IfSome};
     ghost use Rattle.math_tree.specs.contracts.node.Node as node;
-    ghost use Rattle.kept_results.specs.contracts.memo.Memo as kept;
-    ghost use Rattle.commands.specs.Replies.{IsReplyOfFont, text_of_reply};
-    ghost use Rattle.embed.specs.Desks.{DeskValue};
+    ghost use Rattle.embed.specs.Desks.{DeskValue, IsOfFont, kept_in, text_of};
 
     ghost Value = { DeskValue };
 
-    ghost coded = { Prim.hlevel (codes, node.the_row.coded, kept.the_row.coded) };
+    ghost coded = { Prim.hlevel (codes, node.the_row.coded) };
 
-    ghost view = { λ desk. record { session = desk.session.held; reply = desk.reply } };
+    ghost view = { λ desk. record {
+      kept = kept_in desk.ring;
+      text = text_of (kept_in desk.ring).metrics desk.reply;
+    } };
 
-    ghost invariant = { λ desk. IsReplyOfFont desk.session.held.metrics desk.reply
-        × IfSome desk.text (λ text. text ≡ text_of_reply desk.session.held.metrics desk.reply) };
+    ghost invariant = { λ desk. IsOfFont (kept_in desk.ring).metrics desk.reply
+        × IfSome desk.text (λ text. text ≡ text_of (kept_in desk.ring).metrics desk.reply) };
 }
 
 impl Desk {
     /// The session of a metrics file's and a tree file's bytes, asked for nothing yet.
     pub fn open(alloc: Global, metrics: &[u8], tree: &[u8]) -> Result<Desk, Refusal>
-        ensures opened { IfOk result (λ desk. opened metrics.now tree.now ≡ Ok desk.session) }
-        ensures fresh { IfOk result (λ desk. desk ≡ fresh desk.session) }
+        ensures opened { IfOk result (IsOpened metrics.now tree.now) }
         ensures refused { IfErr result (λ refusal. GivesOr (opened metrics.now tree.now) (Err refusal)) }
     {
         Desk::open_counted::<Brand>(alloc, metrics, tree, Blank::new(1))
@@ -64,18 +74,24 @@ impl Desk {
         requires name { blank.name ≡ L.name }
         requires parts { blank.parts ≡ L.parts }
         requires some { 0 < blank.parts }
-        ensures opened { IfOk result (λ desk. opened metrics.now tree.now ≡ Ok desk.session) }
-        ensures fresh { IfOk result (λ desk. desk ≡ fresh desk.session) }
+        ensures opened { IfOk result (IsOpened metrics.now tree.now) }
         ensures refused { IfErr result (λ refusal. GivesOr (opened metrics.now tree.now) (Err refusal)) }
     {
-        match open(alloc, metrics, tree, &mut Steps::<L>::new(blank)) {
-            Ok(session) => Ok(Desk {
-                session,
-                reply: Reply::Nothing,
-                text: None,
-            }),
-            Err(refusal) => Err(refusal),
-        }
+        let session = open(alloc, metrics, tree, &mut Steps::<L>::new(blank))?;
+        Ok(Desk::over(alloc, session)?)
+    }
+
+    /// A desk over a session of which nothing can be undone yet.
+    #[tactic(auto, unfolding(commands::specs::Replies::text_of_reply))]
+    fn over(alloc: Global, session: Session) -> Result<Desk, Memory>
+        ensures { IfOk result (λ desk. desk ≡ fresh session.held) }
+    {
+        let ring = Ring::make(alloc, Undoable { session }, DEPTH)?;
+        Ok(Desk {
+            ring,
+            reply: KeptReply::Line(Reply::Nothing),
+            text: None,
+        })
     }
 
     /// Does what a line of a script asks for, and keeps the reply.
@@ -99,10 +115,52 @@ impl Desk {
         ensures taken { OnOk result (self.new ≡ after self.old line.now) }
         ensures unchanged { OnErr result (self.new ≡ self.old) }
     {
-        let reply = reply_to(alloc, &mut self.session, line, &mut Steps::<L>::new(blank))?;
-        self.reply = reply;
+        let reply = history::reply_to(alloc, &mut self.ring, line, &mut Steps::<L>::new(blank))?;
+        self.reply = KeptReply::Line(reply);
         self.text = None;
         Ok(())
+    }
+
+    /// Undoes the last edit that wasn't undone. The reply stays.
+    pub fn undo(&mut self, alloc: Global) -> Result<(), RingRefusal>
+        ensures undone { OnOk result (undone self.old ≡ Some self.new) }
+        ensures nothing { result ≡ Err HoldsNone → undone self.old ≡ None }
+        ensures unchanged { OnErr result (self.new ≡ self.old) }
+    {
+        self.undo_counted::<Brand>(alloc, Blank::new(1))
+    }
+
+    /// The same, and counts on the ledger `L`, which takes no bytes.
+    fn undo_counted<L: Ledger>(&mut self, alloc: Global, blank: Blank) -> Result<(), RingRefusal>
+        requires name { blank.name ≡ L.name }
+        requires parts { blank.parts ≡ L.parts }
+        requires some { 0 < blank.parts }
+        ensures undone { OnOk result (undone self.old ≡ Some self.new) }
+        ensures nothing { result ≡ Err HoldsNone → undone self.old ≡ None }
+        ensures unchanged { OnErr result (self.new ≡ self.old) }
+    {
+        self.ring.undo(alloc, &mut Steps::<L>::new(blank))
+    }
+
+    /// Makes the edit again that was undone last. The reply stays.
+    pub fn redo(&mut self, alloc: Global) -> Result<(), RingRefusal>
+        ensures redone { OnOk result (redone self.old ≡ Some self.new) }
+        ensures nothing { result ≡ Err HoldsNone → redone self.old ≡ None }
+        ensures unchanged { OnErr result (self.new ≡ self.old) }
+    {
+        self.redo_counted::<Brand>(alloc, Blank::new(1))
+    }
+
+    /// The same, and counts on the ledger `L`, which takes no bytes.
+    fn redo_counted<L: Ledger>(&mut self, alloc: Global, blank: Blank) -> Result<(), RingRefusal>
+        requires name { blank.name ≡ L.name }
+        requires parts { blank.parts ≡ L.parts }
+        requires some { 0 < blank.parts }
+        ensures redone { OnOk result (redone self.old ≡ Some self.new) }
+        ensures nothing { result ≡ Err HoldsNone → redone self.old ≡ None }
+        ensures unchanged { OnErr result (self.new ≡ self.old) }
+    {
+        self.ring.redo(alloc, &mut Steps::<L>::new(blank))
     }
 
     /// Keeps the boxes and marks of the page as the reply.
@@ -110,8 +168,24 @@ impl Desk {
         ensures shown { OnOk result (self.new ≡ shown self.old) }
         ensures unchanged { OnErr result (self.new ≡ self.old) }
     {
-        let placed = self.session.show(alloc)?;
-        self.reply = Reply::Shown(placed);
+        let reply = history::show(alloc, &mut self.ring)?;
+        self.reply = KeptReply::Line(reply);
+        self.text = None;
+        Ok(())
+    }
+
+    /// Keeps what is asked for on the page as the reply, or tells why there is no answer.
+    pub fn ask(&mut self, alloc: Global, query: Query) -> Result<(), QueryRefusal>
+        ensures answered { OnOk result (IsAnswered query self.old self.new) }
+        ensures refused { IfErr result (IsCause (answer_to query (session_in self.old.kept))) }
+        ensures unchanged { OnErr result (self.new ≡ self.old) }
+    {
+        let placed = match self.ring.show(alloc) {
+            Ok(placed) => placed,
+            Err(Memory) => return Err(QueryRefusal::Memory),
+        };
+        let answer = answer_over(alloc, &self.ring.base().session, &placed, query)?;
+        self.reply = KeptReply::Page(answer);
         self.text = None;
         Ok(())
     }
@@ -121,7 +195,7 @@ impl Desk {
         ensures { Tells (seen (Some self.old) out.old len.old) (seen (Some self.new) out.new len.new) result }
     {
         if self.text.is_none() {
-            match text_of_reply(alloc, &self.reply, self.session.metrics()) {
+            match text_of(alloc, &self.reply, self.ring.metrics()) {
                 Ok(text) => self.text = Some(text),
                 Err(Memory) => return Answer::Memory,
             }
@@ -134,17 +208,17 @@ impl Desk {
 
     /// The element that a point of the page lies in, if it lies in one.
     pub fn element_at(&mut self, alloc: Global, x: i64, y: i64) -> Result<Option<NodeId>, Memory>
-        ensures found { IfOk result (λ found. found ≡ element_at x y self.old.session) }
+        ensures found { IfOk result (λ found. found ≡ element_at x y (session_in self.old.kept)) }
         ensures unchanged { self.new ≡ self.old }
     {
-        let placed = self.session.show(alloc)?;
+        let placed = self.ring.show(alloc)?;
         Ok(hit(&placed, x, y))
     }
 
     /// The box of the tree's root.
     pub fn root_box(&self) -> MathBox
-        ensures { result ≡ root_box self.now.session }
+        ensures { result ≡ root_box (session_in self.now.kept) }
     {
-        self.session.root_box()
+        self.ring.base().session.root_box()
     }
 }

@@ -1,9 +1,9 @@
 ghost use Rattle.std.specs.Prelude.{◌≡◌, ◌<◌, [], length, IfOk};
 ghost use Rattle.doc_io.specs.Causes.{Writes};
 ghost use Rattle.font_metrics.specs.Metrics.{MetricsValue};
-ghost use Rattle.commands.specs.Replies.{IsReplyOfFont, text_of_reply};
+ghost use Rattle.embed.specs.Desks.{IsOfFont, text_of};
 
-use commands::Reply;
+use crate::kept_reply::KeptReply;
 use doc_io::{Failed, Sink};
 use fixed_units::{List, Memory};
 use font_metrics::Metrics;
@@ -43,10 +43,10 @@ impl Sink for Growing {
     }
 }
 
-/// The text of a reply.
-pub fn text_of_reply(alloc: Global, reply: &Reply, metrics: &Metrics) -> Result<List<u8>, Memory>
-    requires { IsReplyOfFont metrics.now reply.now }
-    ensures { IfOk result (λ text. text ≡ text_of_reply metrics.now reply.now) }
+/// The bytes of a reply.
+pub fn text_of(alloc: Global, reply: &KeptReply, metrics: &Metrics) -> Result<List<u8>, Memory>
+    requires { IsOfFont metrics.now reply.now }
+    ensures { IfOk result (λ text. text ≡ text_of metrics.now reply.now) }
 {
     let mut sink = Growing {
         text: List::make(alloc),

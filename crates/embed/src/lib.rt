@@ -1,15 +1,15 @@
 //! The engine for other programs: sessions that a C program holds from call to call, in a static
 //! library. `include/mathlay.h` is what a C program reads.
 //!
-//! A handle is closed, or it keeps a desk: a session and the reply to the last call. No call has a
-//! condition: a closed handle, one that is open already, a line that is too long, a buffer that is
-//! too short are told, and lose nothing.
+//! A handle is closed, or it keeps a desk: a session whose edits can be undone, and the reply to the
+//! last call. No call has a condition: a closed handle, one that is open already, a line that is too
+//! long, a buffer that is too short are told, and lose nothing.
 //!
-//! - Models: the lines of docs/FORMATS.md, and their replies.
+//! - Models: the lines of docs/FORMATS.md, and their replies, as `history` answers them.
 //! - Proved: what each call makes of the session that the handle keeps, and of the caller's buffer,
 //!   and when it gives each of its answers (`specs/Calls.antt`).
 //! - Not proved: what the C program owes, which stands in the header.
-//! - Knows nothing of: files, fonts, how a line is answered.
+//! - Knows nothing of: files, fonts, how a line is answered, how an edit is undone, what is painted.
 //! - Change a call: its definition in `specs/Calls.antt`, then its function here, then the header.
 #![tactic(auto)]
 
@@ -20,12 +20,15 @@ mod desk; // Desk
 mod frame; // Frame
 mod growing; // a sink in memory
 mod handle; // Handle
+mod kept_reply; // KeptReply
 
 ghost use Rattle.std.specs.Prelude.{◌≡◌, None};
-ghost use Rattle.embed.specs.Calls.{Answers, Hits, Lines, Measures, Opens, Shows, Tells, seen};
+ghost use Rattle.queries.specs.declared.query.Query.TheVariants.{Paint, Select};
+ghost use Rattle.embed.specs.Calls.{Answers, Asks, Goes, Hits, Lines, Measures, Misses, Opens, Shows, Tells, seen};
+ghost use Rattle.embed.specs.Desks.{redone, undone};
 
 pub use answer::Answer;
-use calls::{answered, hit_at, measured, opened, shown, told};
+use calls::{answered, hit_at, measured, opened, painted, redone, selected, shown, told, undone};
 pub use frame::Frame;
 pub use handle::Handle;
 use std::alloc::Global;
@@ -57,12 +60,53 @@ pub extern "C" fn mathlay_line(alloc: Global, handle: &mut Handle, line: &[u8]) 
     answered(alloc, handle, line).number()
 }
 
+/// Undoes the last edit that wasn't undone. The last reply stays.
+#[unsafe(no_mangle)]
+pub extern "C" fn mathlay_undo(alloc: Global, handle: &mut Handle) -> u32
+    ensures { Answers (Goes undone handle.old.kept handle.new.kept) result }
+{
+    undone(alloc, handle).number()
+}
+
+/// Makes the edit again that was undone last. The last reply stays.
+#[unsafe(no_mangle)]
+pub extern "C" fn mathlay_redo(alloc: Global, handle: &mut Handle) -> u32
+    ensures { Answers (Goes redone handle.old.kept handle.new.kept) result }
+{
+    redone(alloc, handle).number()
+}
+
 /// Keeps the lines of the page's boxes and marks as the reply.
 #[unsafe(no_mangle)]
 pub extern "C" fn mathlay_show(alloc: Global, handle: &mut Handle) -> u32
     ensures { Answers (Shows handle.old.kept handle.new.kept) result }
 {
     shown(alloc, handle).number()
+}
+
+/// Keeps a picture of the page, as SVG, as the reply.
+#[unsafe(no_mangle)]
+pub extern "C" fn mathlay_paint(alloc: Global, handle: &mut Handle) -> u32
+    ensures { Answers (Asks Paint handle.old.kept handle.new.kept) result }
+{
+    painted(alloc, handle).number()
+}
+
+/// Keeps the lines of the areas to mark from one element to another as the reply. Where one of them
+/// isn't there, its number is told.
+#[unsafe(no_mangle)]
+pub extern "C" fn mathlay_select(
+    alloc: Global,
+    handle: &mut Handle,
+    first: u32,
+    second: u32,
+    missing: &mut u32,
+) -> u32
+    ensures { Answers (λ answer.
+        Asks (Select (record { 0 = first }) (record { 0 = second })) handle.old.kept handle.new.kept answer
+        × Misses missing.old missing.new answer) result }
+{
+    selected(alloc, handle, first, second, missing).number()
 }
 
 /// Copies the last reply to the front of a buffer, and tells how long it is. Where the buffer is too

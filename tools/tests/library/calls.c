@@ -144,17 +144,18 @@ static void open_one(desk *d) {
 static bytes line_of(void) {
     static const char *const forms[] = {
         "{\"op\":\"text\",\"node\":%d,\"text\":\"%d\"}", "{\"op\":\"remove\",\"node\":%d}", "{\"op\":\"show\"}", " \t",
+        "{\"op\":\"undo\"}", "{\"op\":\"redo\"}",
         "{\"op\":\"attr\",\"node\":%d,\"name\":\"mathsize\",\"value\":\"%dem\"}", "{\"op\":\"none\"}",
         "{\"op\":\"insert\",\"node\":%d,\"index\":%d,\"element\":{\"name\":\"msqrt\",\"children\":[{\"name\":\"mi\",\"text\":\"x\"}]}}"};
-    int form = (int)draw(10);
+    int form = (int)draw(12);
     bytes line = {NULL, 0};
-    if (form < 7) {
+    if (form < 9) {
         char text[256];
         line.len = (size_t)snprintf(text, sizeof text, forms[form], (int)draw(50), (int)draw(4));
         line.at = malloc(line.len + 1);
         if (line.at) memcpy(line.at, text, line.len);
     } else {
-        line.len = form == 9 && !draw(10) ? LONGEST + 1 : draw(64);
+        line.len = form == 11 && !draw(10) ? LONGEST + 1 : draw(64);
         line.at = malloc(line.len + 1);
         if (line.at) for (size_t i = 0; i < line.len; i++) line.at[i] = (uint8_t)draw(256);
     }
@@ -162,10 +163,13 @@ static bytes line_of(void) {
     return line;
 }
 
-static void ask(desk *d, int shows) {
-    bytes line = shows ? (bytes){NULL, 0} : line_of();
+enum asks { LINE, SHOW, PAINT };
+
+static void ask(desk *d, enum asks what) {
+    bytes line = what == LINE ? line_of() : (bytes){NULL, 0};
     arm();
-    uint32_t answer = disarmed(shows ? mathlay_show(&d->handle) : mathlay_line(&d->handle, line.at, line.len));
+    uint32_t answer = disarmed(what == SHOW ? mathlay_show(&d->handle) : what == PAINT ? mathlay_paint(&d->handle)
+                                                                                : mathlay_line(&d->handle, line.at, line.len));
     if (!d->is_open) WANT(answer == MATHLAY_NOT_OPEN);
     else if (answer == MATHLAY_DONE) WANT(line.len <= LONGEST), take_reply(d);
     else {
@@ -173,6 +177,42 @@ static void ask(desk *d, int shows) {
         has_reply(d);
     }
     free(line.at);
+}
+
+/* What a session shows now. Its reply is that then. */
+static bytes page_of(desk *d) {
+    WANT(mathlay_show(&d->handle) == MATHLAY_DONE);
+    take_reply(d);
+    bytes page = {malloc(d->reply.len + 1), d->reply.len};
+    if (!page.at) exit(2);
+    memcpy(page.at, d->reply.at, page.len);
+    return page;
+}
+
+/* A step through the history, and the way back. */
+static void step(desk *d, int undoes) {
+    bytes before = d->is_open && !draw(4) ? page_of(d) : (bytes){NULL, 0};
+    arm();
+    uint32_t answer = disarmed(undoes ? mathlay_undo(&d->handle) : mathlay_redo(&d->handle));
+    if (!d->is_open) WANT(answer == MATHLAY_NOT_OPEN);
+    else WANT(answer == MATHLAY_DONE || answer == MATHLAY_NOTHING || answer == MATHLAY_MEMORY), has_reply(d);
+    if (before.at) {
+        if (answer == MATHLAY_DONE) WANT((undoes ? mathlay_redo(&d->handle) : mathlay_undo(&d->handle)) == MATHLAY_DONE);
+        bytes after = page_of(d);
+        WANT(after.len == before.len && !memcmp(after.at, before.at, after.len));
+        free(after.at);
+    }
+    free(before.at);
+}
+
+static void mark(desk *d) {
+    uint32_t first = (uint32_t)draw(40), second = (uint32_t)draw(40), missing = 77;
+    arm();
+    uint32_t answer = disarmed(mathlay_select(&d->handle, first, second, &missing));
+    WANT(answer == MATHLAY_NODE ? missing == first || missing == second : missing == 77);
+    if (!d->is_open) WANT(answer == MATHLAY_NOT_OPEN);
+    else if (answer == MATHLAY_DONE) take_reply(d);
+    else WANT(answer == MATHLAY_NODE || answer == MATHLAY_MEMORY), has_reply(d);
 }
 
 static void tell(desk *d) {
@@ -223,10 +263,13 @@ int main(int count, char **words) {
     for (tree_count = 0; tree_count < count - 4; tree_count++) trees[tree_count] = file_of(words[4 + tree_count]);
     for (long calls = strtol(words[2], NULL, 10); call < calls; call++) {
         desk *d = &desks[draw(SESSIONS)], *other = &desks[draw(SESSIONS)];
-        uint64_t what = draw(64);
+        uint64_t what = draw(80);
         if (what < 6 || (what < 20 && !d->is_open)) open_one(d);
-        else if (what < 34) ask(d, 0);
-        else if (what < 40) ask(d, 1);
+        else if (what < 34) ask(d, LINE);
+        else if (what < 40) ask(d, SHOW);
+        else if (what >= 76) ask(d, PAINT);
+        else if (what >= 72) mark(d);
+        else if (what >= 64) step(d, what < 69);
         else if (what < 48) tell(d);
         else if (what < 54) measure(d);
         else if (what < 61) hit(d);

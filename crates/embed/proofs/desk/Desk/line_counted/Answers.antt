@@ -1,9 +1,11 @@
-use Rattle.embed.proofs.Metrics.{reply_stays}
+use Rattle.commands.specs.HistorySteps.{ring_of}
+use Rattle.embed.proofs.Stepping.{line_done, line_fits}
 use Rattle.embed.proofs.desk.Desk.line_counted.Goals as goal
 
 pub invariant_of-self-2 : goal.invariant_of-self-2
-invariant_of-self-2 g c = (
-  reply_stays c.self.inside.session.held c.reply_to.new.session.held c.args.line.now c.in_ok-reply.reply
-      c.in_ok-reply.ensures.session c.in_ok-reply.ensures.glyphs,
-  tt,
-)
+invariant_of-self-2 g c =
+    (line_fits (ring_of c.self.inside.ring) (ring_of c.reply_to.new.ring) c.args.line.now c.in_ok-reply.reply c.self.inside.reply c.in_ok-reply.ensures.made, tt)
+
+pub returns-clause-taken : goal.returns-clause-taken
+returns-clause-taken g c =
+    rw (← c.self.view_is) (line_done (ring_of c.self.inside.ring) (ring_of c.reply_to.new.ring) c.args.line.now c.in_ok-reply.reply c.self.inside.reply c.in_ok-reply.ensures.made)
