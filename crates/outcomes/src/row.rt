@@ -105,7 +105,7 @@ pub fn along<V: View>(
     start: i64,
     y: i64,
 ) -> Result<List<Offset>, Memory>
-    requires offsets { All (IsWithin (2 ^ 50)) row.now.offsets }
+    requires offsets { All (IsWithin (2 ^ 61)) row.now.offsets }
     requires start { IsWithin (2 ^ 62) start }
     ensures { IfOk result (λ offsets. offsets ≡ along e.now row.now start y) }
 {
@@ -122,9 +122,9 @@ pub fn along<V: View>(
 
 /// How far from the row's start a child stands.
 fn offset_at(row: &Row, index: usize) -> i64
-    requires { All (IsWithin (2 ^ 50)) row.now.offsets }
+    requires { All (IsWithin (2 ^ 61)) row.now.offsets }
     ensures value { result ≡ slice_index_or row.now.offsets index (pos 0) }
-    ensures within { IsWithin (2 ^ 50) result }
+    ensures within { IsWithin (2 ^ 61) result }
 {
     match row.offsets.as_slice().get(index) {
         Some(offset) => *offset,

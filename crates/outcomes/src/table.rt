@@ -3,19 +3,21 @@ ghost use Rattle.std.specs.List.{All};
 ghost use Rattle.fixed_units.specs.Boxes.{IsStored, farthest};
 ghost use Rattle.fixed_units.specs.Numbers.{IsWithin};
 ghost use Rattle.fixed_units.specs.Sums.{list_to};
+ghost use Rattle.math_tree.specs.declared.kind.Kind.TheVariants.{Mtable};
 ghost use Rattle.layout_model.specs.Elements.{frames_of, offset};
 ghost use Rattle.layout_model.specs.Equations.{cells_placed, row_at, table_outcome, table_row_outcome, widths_of};
 
 use crate::element::Element;
 use crate::row::along;
+use crate::spanning::{spanned, spans_of, table_columns, table_rows};
 use embellished::View;
 use fixed_units::{List, MathBox, Memory};
 use layout_model::{Offset, Outcome, Stretch};
-use math_tables::{row_of_cells, table_finish, total_width};
+use math_tables::{row_of_cells, row_of_slots, table_finish, total_width};
 use row_stretch::Row;
 use std::alloc::Global;
 
-/// A row of a table: its cells in the middle of their columns (MathML Core 3.5.2).
+/// A row of a table: its cells in the middle of their columns or slots (MathML Core 3.5.2).
 pub fn table_row_outcome<V: View>(alloc: Global, e: &Element<V>) -> Result<Outcome, Memory>
     ensures { IfOk result (λ outcome. outcome ≡ table_row_outcome e.now) }
 {
@@ -23,10 +25,12 @@ pub fn table_row_outcome<V: View>(alloc: Global, e: &Element<V>) -> Result<Outco
     let widths = widths(alloc, cells.as_slice())?;
     let row = cells_placed(alloc, e, &cells, &widths)?;
     let offsets = along(alloc, e, &row, 0, 0)?;
-    Ok(e.outcome_with(row.frame, widths, offsets, List::make(alloc)))
+    let spans = spans_of(alloc, e)?;
+    let frame = spanned(spans.as_slice(), row.frame);
+    Ok(e.outcome_with(frame, widths, spans, offsets, List::make(alloc)))
 }
 
-/// The cells of a row in their columns; without columns, each in one as wide as itself.
+/// The cells of a row in their columns or slots; without them, each in a column as wide as itself.
 #[tactic(auto, unfolding(layout_model::specs::Equations::cells_placed))]
 fn cells_placed<V: View>(
     alloc: Global,
@@ -39,26 +43,35 @@ fn cells_placed<V: View>(
     requires widths { widths.now ≡ widths_of e.now }
     requires widths_fit { All (IsWithin farthest) widths.now }
     ensures value { IfOk result (λ row. row ≡ cells_placed e.now) }
-    ensures within { IfOk result (λ row. All (IsWithin (2 ^ 50)) row.offsets) }
+    ensures within { IfOk result (λ row. All (IsWithin (2 ^ 61)) row.offsets) }
 {
     let _count = e.count();
-    if let Stretch::Columns(columns) = &e.context().stretch {
-        if let Some((total, columns)) = columns.as_slice().split_first() {
-            let mut own = List::make(alloc);
-            own.push_all(columns)?;
-            return row_of_cells(alloc, cells, &own, *total);
+    match &e.context().stretch {
+        Stretch::Columns(columns) => {
+            if let Some((total, columns)) = columns.as_slice().split_first() {
+                let mut own = List::make(alloc);
+                own.push_all(columns)?;
+                return row_of_cells(alloc, cells, &own, *total);
+            }
         }
+        Stretch::Slots(numbers) => {
+            if let Some((total, slots)) = numbers.as_slice().split_first() {
+                return row_of_slots(alloc, cells, slots, *total);
+            }
+        }
+        _ => {}
     }
     row_of_cells(alloc, cells, widths, total_width(widths.as_slice()))
 }
 
 /// A table: its rows one under the other, round the axis (MathML Core 3.5.1).
 pub fn table_outcome<V: View>(alloc: Global, e: &Element<V>) -> Result<Outcome, Memory>
+    requires { e.now.seen.facts.laid ≡ Mtable }
     ensures { IfOk result (λ outcome. outcome ≡ table_outcome e.now) }
 {
     let count = e.count();
-    let rows = frames(alloc, e)?;
-    let widths = e.columns(alloc)?;
+    let rows = table_rows(alloc, e)?;
+    let widths = table_columns(alloc, e)?;
     let table = table_finish(alloc, &rows, &widths, e.size(), e.metrics())?;
     let places = lines(alloc, count, table.1.as_slice())?;
     Ok(e.outcome(alloc, table.0, places, List::make(alloc)))
@@ -90,7 +103,7 @@ fn line(below: &[i64], index: usize) -> i64
 }
 
 /// The boxes of the children in flow.
-fn frames<V: View>(alloc: Global, e: &Element<V>) -> Result<List<MathBox>, Memory>
+pub fn frames<V: View>(alloc: Global, e: &Element<V>) -> Result<List<MathBox>, Memory>
     ensures value { IfOk result (λ frames. frames ≡ frames_of e.now) }
     ensures stored { IfOk result (λ frames. All IsStored frames) }
 {
