@@ -1,4 +1,4 @@
-use Rattle.std.proofs.Common.{◌≡◌, ◌∙◌, sym, ap, ◌<◌, length, get_or, arith, w64, to_z, of_z, pos, ◌+ℤ◌, ◌-ℤ◌, lit<}
+use Rattle.std.proofs.Common.{◌≡◌, ◌∙◌, sym, ap, get_or, arith, w64, to_z, of_z, pos, ◌+ℤ◌, ◌-ℤ◌, lit<}
 use Rattle.std.proofs.lemmas.Int.{to_z-of_z}
 use Rattle.fixed_units.specs.Boxes.{empty_box}
 use Rattle.fixed_units.specs.Numbers.{halved}
@@ -6,7 +6,7 @@ use Rattle.fixed_units.proofs.Signed.{signed}
 use Rattle.fixed_units.proofs.Sums.{list_to-zero, list_to-add_one}
 use Rattle.fixed_units.proofs.Within.{difference_in, half_in, fits_i64}
 use Rattle.math_tables.specs.Placing.{cell_x_of}
-use Rattle.math_tables.proofs.Places.{start_of-zero, start_of-add_one, start_of_in, width_in, cell_x_of-is, cell_in}
+use Rattle.math_tables.proofs.Places.{start_of-zero, start_of-add_one, start_of_in, cell_x_of-is, cell_in}
 use Rattle.math_tables.proofs.placing.cell_offsets.Goals as goal
 
 pub loop-place-init : goal.loop-place-init

@@ -1,8 +1,7 @@
-use Rattle.std.proofs.Common.{◌≡◌, ◌∙◌, sym, ap, subst, ◌^◌, List, [], ◌∷◌, ◌++◌, get_or, ℤ, w64, to_z, of_z, lit<}
+use Rattle.std.proofs.Common.{◌≡◌, ◌∙◌, sym, ap, subst, ◌^◌, List, [], ◌∷◌, ◌++◌, ℤ, w64, lit<}
 use Rattle.std.specs.List.{All}
 use Rattle.std.proofs.lemmas.Int.{to_z-of_z}
 use Rattle.std.proofs.lemmas.List.Elements.{All-append, All-cons, All-nil}
-use Rattle.fixed_units.specs.Boxes.{empty_box}
 use Rattle.fixed_units.specs.Numbers.{IsWithin}
 use Rattle.fixed_units.specs.Sums.{list_to}
 use Rattle.fixed_units.proofs.Sums.{list_to-zero, list_to-add_one}

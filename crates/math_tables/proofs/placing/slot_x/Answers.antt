@@ -2,7 +2,7 @@ use Rattle.std.proofs.Common.{◌≡◌, ◌∙◌, ap, ◌*◌, ◌+◌, arith,
 use Rattle.std.proofs.lemmas.Int.{to_z-of_z}
 use Rattle.fixed_units.specs.Numbers.{halved}
 use Rattle.fixed_units.proofs.Signed.{signed}
-use Rattle.fixed_units.proofs.Within.{difference_in, half_in, sum_in, fits_i64}
+use Rattle.fixed_units.proofs.Within.{difference_in, half_in, fits_i64}
 use Rattle.math_tables.specs.Placing.{width_at}
 use Rattle.math_tables.proofs.placing.slot_x.Goals as goal
 
