@@ -50,9 +50,10 @@ pub record AreSpans (answer : Answer) : Type 0 where
   pub each : (answer.spans ≡ []) ⊎ (length answer.spans ≡ length answer.cells)
   pub limits : All IsSpan answer.spans
 
--- answers can be stored, and they are of no more cells than a tree has elements
+-- answers can be stored, and there are no more of them, and of no more cells, than a tree has elements
 pub record AreAnswers (answers : List Answer) : Type 0 where
   pub fit : AllPass answer_fits answers
+  pub count : length answers ≤ 65_536
   pub few : cell_count answers ≤ 65_536
   pub spans : All AreSpans answers
 

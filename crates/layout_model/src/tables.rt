@@ -1,5 +1,5 @@
-ghost use Rattle.std.specs.Prelude.{◌≡◌, map, slice_index_or, IfOk};
-ghost use Rattle.layout_model.specs.Tables.{cells_of_row, cells_of_rows, has_spans, single};
+ghost use Rattle.std.specs.Prelude.{◌≡◌, ◌<◌, length, map, slice_index_or, IfOk};
+ghost use Rattle.layout_model.specs.Tables.{cell_of_row, cells_of_row, cells_of_rows, has_spans, single};
 
 use crate::outcome::Answer;
 use crate::reply::Answered;
@@ -20,10 +20,7 @@ pub fn has_spans<A: Answered>(rows: &[A]) -> bool
 }
 
 /// The cells of the rows of a table, by the answers of these.
-pub fn cells_of_rows<A: Answered>(
-    alloc: Global,
-    rows: &[A],
-) -> Result<List<List<SpanCell>>, Memory>
+pub fn cells_of_rows<A: Answered>(alloc: Global, rows: &[A]) -> Result<List<List<SpanCell>>, Memory>
     ensures { IfOk result (λ cells. cells ≡ cells_of_rows (map A.told rows.now)) }
 {
     let mut cells = List::with_room(alloc, rows.len())?;
@@ -38,14 +35,21 @@ fn cells_of_row(alloc: Global, row: &Answer) -> Result<List<SpanCell>, Memory>
     ensures { IfOk result (λ cells. cells ≡ cells_of_row row.now) }
 {
     let mut cells = List::with_room(alloc, row.cells.len())?;
-    for (place, width) in row.cells.as_slice().iter().enumerate() {
-        let span = span_at(row.spans.as_slice(), place);
-        cells.push(SpanCell {
-            width: *width,
-            span,
-        })?;
+    for place in 0..row.cells.len() {
+        cells.push(cell_of_row(row, place))?;
     }
     Ok(cells)
+}
+
+/// The cell at a place of a row.
+fn cell_of_row(row: &Answer, place: usize) -> SpanCell
+    requires { place < length row.now.cells }
+    ensures { result ≡ cell_of_row row.now place }
+{
+    SpanCell {
+        width: row.cells.as_slice()[place],
+        span: span_at(row.spans.as_slice(), place),
+    }
 }
 
 /// What the cell at a place spans: its own place alone, where that isn't told.
