@@ -1,4 +1,4 @@
-ghost use Rattle.std.specs.Prelude.{◌≡◌, ◌<◌, ◌≤◌, ◌^◌, ◌-◌, pos, ◌≤ℤ◌, length, map, take, ◌∷◌, IfOk};
+ghost use Rattle.std.specs.Prelude.{◌≡◌, ◌<◌, ◌≤◌, ◌^◌, ◌-◌, pos, ◌≤ℤ◌, length, map, take, [], ◌∷◌, slice_index_or, IfOk};
 ghost use Rattle.std.specs.List.{All};
 ghost use Rattle.fixed_units.specs.Numbers.{IsWithin};
 ghost use Rattle.embellished.specs.Seen.{seen_of};
@@ -62,7 +62,10 @@ pub fn rows_asked<V: View, A: Answered>(
 #[derive(Debug, Drop)]
 pub enum Grid {
     /// No cell spans: the width of the whole table, and that of each column.
-    Plain { total: i64, widths: List<i64> },
+    Plain {
+        total: i64,
+        widths: List<i64>,
+    },
     /// A cell spans: the cells of the rows, the first column of each, and where each column begins and
     /// the last one ends.
     Spanning {
@@ -187,9 +190,20 @@ fn slots_at(
     ensures { IfOk result (λ slots.
         slots ≡ Slots (slots_by starts.now (cells_of_row_at cells.now index) (firsts_at firsts.now index))) }
 {
-    let numbers = match (cells.as_slice().get(index), firsts.as_slice().get(index)) {
-        (Some(cells), Some(firsts)) => slots_from(alloc, cells, firsts, starts)?,
-        _ => slots_from(alloc, &List::make(alloc), &List::make(alloc), starts)?,
-    };
-    Ok(Stretch::Slots(numbers))
+    let no_cells = List::make(alloc);
+    let no_firsts = List::make(alloc);
+    let cells = row_at(cells, index, &no_cells);
+    let firsts = row_at(firsts, index, &no_firsts);
+    Ok(Stretch::Slots(slots_from(alloc, cells, firsts, starts)?))
+}
+
+/// The row at a place; past the last one, `none`.
+fn row_at<'a, T>(rows: &'a List<List<T>>, index: usize, none: &'a List<T>) -> &'a List<T>
+    requires { none.now ≡ [] }
+    ensures { result.now ≡ slice_index_or rows.now index [] }
+{
+    match rows.as_slice().get(index) {
+        Some(row) => row,
+        None => none,
+    }
 }

@@ -3,8 +3,10 @@ mod Cornered
 mod Exactly
 mod FontSizes
 mod Kids
+mod LastOfTable
 mod Lasts
 mod Leaves
 mod Lists
 mod Roots
 mod RowBounds
+mod SpannedTables

@@ -103,6 +103,7 @@ fn spanned_columns<V: View>(alloc: Global, e: &Element<V>) -> Result<List<i64>, 
     ensures few { IfOk result (λ widths. length widths ≤ most_columns) }
     ensures within { IfOk result (All IsColumn) }
 {
+    let _count = e.count();
     let cells = cells_of_rows(alloc, e.answers())?;
     let firsts = first_columns(alloc, &cells)?;
     span_columns(alloc, &cells, &firsts)
@@ -126,8 +127,10 @@ fn plain_columns<V: View>(alloc: Global, e: &Element<V>) -> Result<List<i64>, Me
 pub fn table_rows<V: View>(alloc: Global, e: &Element<V>) -> Result<List<MathBox>, Memory>
     requires { e.now.seen.facts.laid ≡ Mtable }
     ensures value { IfOk result (λ rows. rows ≡ tables.table_rows e.now.kids) }
+    ensures few { IfOk result (λ rows. length rows ≤ 65_536) }
     ensures within { IfOk result (All HasHeights) }
 {
+    let _count = e.count();
     if has_spans(e.answers()) {
         spanned_rows(alloc, e)
     } else {
@@ -141,6 +144,7 @@ fn spanned_rows<V: View>(alloc: Global, e: &Element<V>) -> Result<List<MathBox>,
     ensures value { IfOk result (λ rows. rows ≡ list_to (length e.now.kids) (tables.spanned_row e.now.kids)) }
     ensures within { IfOk result (All HasHeights) }
 {
+    let _count = e.count();
     let cells = cells_of_rows(alloc, e.answers())?;
     let own = heights(alloc, e)?;
     let heights = span_heights(alloc, &cells, &own)?;

@@ -3,6 +3,7 @@ ghost use Rattle.std.specs.List.{All};
 ghost use Rattle.fixed_units.specs.Boxes.{IsStored, farthest};
 ghost use Rattle.fixed_units.specs.Numbers.{IsWithin};
 ghost use Rattle.fixed_units.specs.Sums.{list_to};
+ghost use Rattle.math_tables.specs.Placing.{row_of_cells_of, table_width_of};
 ghost use Rattle.math_tree.specs.declared.kind.Kind.TheVariants.{Mtable};
 ghost use Rattle.layout_model.specs.Elements.{frames_of, offset};
 ghost use Rattle.layout_model.specs.Equations.{cells_placed, row_at, table_outcome, table_row_outcome, widths_of};
@@ -47,20 +48,45 @@ fn cells_placed<V: View>(
 {
     let _count = e.count();
     match &e.context().stretch {
-        Stretch::Columns(columns) => {
-            if let Some((total, columns)) = columns.as_slice().split_first() {
-                let mut own = List::make(alloc);
-                own.push_all(columns)?;
-                return row_of_cells(alloc, cells, &own, *total);
-            }
-        }
-        Stretch::Slots(numbers) => {
-            if let Some((total, slots)) = numbers.as_slice().split_first() {
-                return row_of_slots(alloc, cells, slots, *total);
-            }
-        }
-        _ => {}
+        Stretch::Columns(numbers) => match numbers.as_slice().split_first() {
+            Some((total, columns)) => in_columns(alloc, cells, columns, *total),
+            None => alone(alloc, cells, widths),
+        },
+        Stretch::Slots(numbers) => match numbers.as_slice().split_first() {
+            Some((total, slots)) => row_of_slots(alloc, cells, slots, *total),
+            None => alone(alloc, cells, widths),
+        },
+        _ => alone(alloc, cells, widths),
     }
+}
+
+/// Cells in columns of these widths.
+fn in_columns(
+    alloc: Global,
+    cells: &List<MathBox>,
+    columns: &[i64],
+    total: i64,
+) -> Result<Row, Memory>
+    requires few { length cells.now ≤ 65_536 }
+    requires stored { All IsStored cells.now }
+    requires columns_fit { All (IsWithin farthest) columns.now }
+    ensures value { IfOk result (λ row. row ≡ row_of_cells_of cells.now columns.now total) }
+    ensures within { IfOk result (λ row. All (IsWithin (2 ^ 61)) row.offsets) }
+{
+    let mut widths = List::make(alloc);
+    widths.push_all(columns)?;
+    row_of_cells(alloc, cells, &widths, total)
+}
+
+/// Cells of these widths, each in a column as wide as itself.
+fn alone(alloc: Global, cells: &List<MathBox>, widths: &List<i64>) -> Result<Row, Memory>
+    requires few { length cells.now ≤ 65_536 }
+    requires each { length widths.now ≤ 65_536 }
+    requires stored { All IsStored cells.now }
+    requires widths_fit { All (IsWithin farthest) widths.now }
+    ensures value { IfOk result (λ row. row ≡ row_of_cells_of cells.now widths.now (table_width_of widths.now)) }
+    ensures within { IfOk result (λ row. All (IsWithin (2 ^ 61)) row.offsets) }
+{
     row_of_cells(alloc, cells, widths, total_width(widths.as_slice()))
 }
 
