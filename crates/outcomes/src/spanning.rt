@@ -89,6 +89,7 @@ pub fn table_columns<V: View>(alloc: Global, e: &Element<V>) -> Result<List<i64>
     ensures few { IfOk result (λ widths. length widths ≤ most_columns) }
     ensures within { IfOk result (All IsColumn) }
 {
+    let _count = e.count();
     if has_spans(e.answers()) {
         spanned_columns(alloc, e)
     } else {
@@ -111,9 +112,7 @@ fn spanned_columns<V: View>(alloc: Global, e: &Element<V>) -> Result<List<i64>, 
 
 /// Those of one in which no cell does.
 fn plain_columns<V: View>(alloc: Global, e: &Element<V>) -> Result<List<i64>, Memory>
-    ensures value { IfOk result (λ widths. widths ≡ tables.columns_over e.now.kids) }
-    ensures few { IfOk result (λ widths. length widths ≤ most_columns) }
-    ensures within { IfOk result (All IsColumn) }
+    ensures { IfOk result (λ widths. widths ≡ tables.columns_over e.now.kids) }
 {
     let mut cells = List::with_room(alloc, e.count())?;
     for row in e.answers() {
