@@ -29,6 +29,18 @@ first_columns-requires-clause-spans g c =
     let cells = c.in_ok-cells.ensures {u = tt} ∙ ap cells_of_rows c.answers.ensures in
     subst (All (All HasSpan)) (sym cells) (rows_span kids c.count-count.ensures.whole.spans)
 
+pub span_columns-requires-clause-few_cells : goal.span_columns-requires-clause-few_cells
+span_columns-requires-clause-few_cells g c =
+    let kids = c.args.e.now.kids in
+    let cells = c.in_ok-cells.ensures {u = tt} ∙ ap cells_of_rows c.answers.ensures in
+    omega (arith, ap span_cell_count cells, rows_count kids, c.count-count.ensures.whole.table c.requires)
+
+pub span_columns-requires-clause-spans : goal.span_columns-requires-clause-spans
+span_columns-requires-clause-spans g c =
+    let kids = c.args.e.now.kids in
+    let cells = c.in_ok-cells.ensures {u = tt} ∙ ap cells_of_rows c.answers.ensures in
+    subst (All (All HasSpan)) (sym cells) (rows_span kids c.count-count.ensures.whole.spans)
+
 pub span_columns-requires-clause-stored : goal.span_columns-requires-clause-stored
 span_columns-requires-clause-stored g c =
     let kids = c.args.e.now.kids in

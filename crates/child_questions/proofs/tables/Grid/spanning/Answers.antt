@@ -26,6 +26,16 @@ first_columns-requires-clause-spans g c =
     let rows = map (g.A.Answered.told) c.args.rows.now in
     subst (All (All HasSpan)) (sym (c.in_ok-cells.ensures {u = tt})) (rows_span rows c.requires.spans)
 
+pub span_columns-requires-clause-few_cells : goal.span_columns-requires-clause-few_cells
+span_columns-requires-clause-few_cells g c =
+    let rows = map (g.A.Answered.told) c.args.rows.now in
+    omega (arith, ap span_cell_count (c.in_ok-cells.ensures {u = tt}), rows_count rows, c.requires.few)
+
+pub span_columns-requires-clause-spans : goal.span_columns-requires-clause-spans
+span_columns-requires-clause-spans g c =
+    let rows = map (g.A.Answered.told) c.args.rows.now in
+    subst (All (All HasSpan)) (sym (c.in_ok-cells.ensures {u = tt})) (rows_span rows c.requires.spans)
+
 pub span_columns-requires-clause-stored : goal.span_columns-requires-clause-stored
 span_columns-requires-clause-stored g c =
     let rows = map (g.A.Answered.told) c.args.rows.now in
