@@ -1,15 +1,19 @@
-use Rattle.std.proofs.Common.{◌≡◌, ◌∙◌, sym, ap, subst, arith, ◌^◌, length, All, map, take, List, [], ◌∷◌, ℕ, ℤ}
+use Rattle.std.proofs.Common.{◌≡◌, ◌∙◌, sym, ap, subst, arith, lit<, ◌^◌, length, All, map, take, List, [], ◌∷◌, ℕ, ℤ, w64, to_z, of_z}
 use Rattle.std.proofs.lemmas.Result.{IfOk-weaker}
 use Rattle.fixed_units.specs.Numbers.{IsWithin}
 use Rattle.span_tables.specs.Laws.{cells_at as cells_of_row_at, firsts_at}
 use Rattle.span_tables.specs.Slots.{slots_by}
 use Rattle.span_tables.proofs.SlotBounds.{columns_few, columns_within}
 use Rattle.span_tables.proofs.Starts.{length-starts_of, starts_in}
-use Rattle.layout_model.specs.Tables.{cells_at, cells_of_rows, columns_at, spanned_columns, stretch_at}
+use Rattle.std.proofs.lemmas.Int.{to_z-of_z}
+use Rattle.fixed_units.proofs.Within.{fits_i64, widened}
+use Rattle.math_tables.specs.Placing.{table_width_of}
+use Rattle.math_tables.proofs.Places.{start_of_in}
+use Rattle.layout_model.specs.Tables.{cells_at, cells_of_rows, columns_at, columns_over, spanned_columns, stretch_at}
 use Rattle.layout_model.specs.declared.context.Stretch.{Stretch}
 use Rattle.layout_model.specs.declared.context.Stretch.TheVariants.{Columns, Slots}
-use Rattle.layout_model.proofs.Ranges.{answers_stored}
-use Rattle.layout_model.proofs.TableCells.{rows_count, rows_span, rows_stored}
+use Rattle.layout_model.proofs.Ranges.{answers_stored, columns_few, columns_in}
+use Rattle.layout_model.proofs.TableCells.{each_few, rows_count, rows_span, rows_stored}
 use Rattle.child_questions.proofs.Grids.{spanning_inside, stretch-plain, stretch-spanning, tells_plain, tells_spanning}
 use Rattle.child_questions.proofs.tables.Grid.stretch_at.Goals as goal
 
@@ -47,7 +51,13 @@ pub returns-in-Plain : goal.returns-in-Plain
 returns-in-Plain g c =
     let rows = map (g.A.Answered.told) c.args.rows.now in
     let t = tells_plain rows c.in-Plain.total c.in-Plain.widths (sym c.requires.known ∙ c.in-Plain.is) in
+    let widths = columns_over rows in
+    let fit = c.requires.answers in
+    let few = columns_few 65_536 rows (each_few 65_536 rows fit.few) in
+    let within = widened (2 ^ 58) (start_of_in widths (length widths) (columns_in rows fit.fit)) (omega (arith, few)) in
+    let total : to_z w64 (of_z w64 c.in-Plain.total) ≡ table_width_of widths =
+    to_z-of_z w64 c.in-Plain.total (fits_i64 (subst (IsWithin (2 ^ 58)) (sym t.total_is) within) (lit< tt)) ∙ t.total_is in
     IfOk-weaker c.columns_at.result _ (λ (stretch : Stretch). stretch ≡ stretch_at rows c.args.index)
     (λ stretch e. e
-    ∙ (λ i. Columns (t.total_is i ∷ take (c.cells_at.ensures i) (t.widths_are i)))
+    ∙ (λ i. Columns (total i ∷ take (c.cells_at.ensures i) (t.widths_are i)))
     ∙ sym (stretch-plain rows c.args.index t.none)) c.columns_at.ensures
