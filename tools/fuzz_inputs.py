@@ -57,18 +57,19 @@ ODD_TEXTS = ["", " ", "\t\n", "  a  b ", "a\u000bb", "\u00a0", "e\u0301", "=\u03
 LENGTHS = ["0", "-0", "1px", "2em", "-1em", ".5ex", "3.pt", "1e3px", "50%", "200%", "-20%", "0.1in", "1PC", "2q", "1cm", "+3mm", " 4px ", "1 px", "999999999em", "9999999999px", "1048576px", "1024px", "1025px", "1073741824px", "1048575.9999999px", "0.0000001px", "-0.000001px", "", "auto", "2", "px", "16px", "65536em", "1000ex", "40em", "0px", "0%", "10px", "100px"]
 TRUTHS = ["true", "false", "TRUE", "False", "1", "", " true", "tru\u212a"]
 LEVELS = ["0", "1", "2", "+1", "-1", "+2", "15", "16", "999", "1000", "+", "-", "", " 1", "007", "-15", "+999", "3"]
+SPANS = ["1", "2", "2", "2", "3", "3", "4", "002", "0", "00", "64", "65", "999", "9999", "10000", "+2", "-1", " 2", "2.0", "", "two", "\u0662"]
 VALUES = {
     "mathsize": LENGTHS, "lspace": LENGTHS, "rspace": LENGTHS, "minsize": LENGTHS, "maxsize": LENGTHS, "width": LENGTHS, "height": LENGTHS,
     "depth": LENGTHS, "voffset": LENGTHS, "linethickness": LENGTHS, "scriptlevel": LEVELS, "displaystyle": TRUTHS, "stretchy": TRUTHS,
     "symmetric": TRUTHS, "largeop": TRUTHS, "movablelimits": TRUTHS, "accent": TRUTHS, "accentunder": TRUTHS,
     "form": ["prefix", "infix", "postfix", "PREFIX", "none", ""], "mathvariant": ["normal", "NORMAL", "italic", "bold"], "display": ["block", "BLOCK", "inline"],
-    "dir": ["ltr", "rtl", "rtl", "RtL", "LTR", "", " rtl", "auto"], "data-x:y.z_1": ["", "é", "x" * 50],
+    "columnspan": SPANS, "rowspan": SPANS, "dir": ["ltr", "rtl", "rtl", "RtL", "LTR", "", " rtl", "auto"], "data-x:y.z_1": ["", "é", "x" * 50],
 }
 # Which attributes are likely on which elements; all of them may stand on any.
 LIKELY = {
     "mo": ["form", "stretchy", "symmetric", "largeop", "movablelimits", "lspace", "rspace", "minsize", "maxsize"], "mi": ["mathvariant"], "mfrac": ["linethickness"],
     "mspace": ["width", "height", "depth"], "mpadded": ["width", "height", "depth", "lspace", "voffset"], "munder": ["accentunder"], "mover": ["accent"],
-    "munderover": ["accent", "accentunder"], "mrow": ["dir"], "msqrt": ["dir"], "msubsup": ["dir"], "mtr": ["dir"],
+    "munderover": ["accent", "accentunder"], "mrow": ["dir"], "msqrt": ["dir"], "msubsup": ["dir"], "mtr": ["dir"], "mtd": ["columnspan", "rowspan"],
     "mstyle": ["dir", "displaystyle", "scriptlevel", "mathsize"], "math": ["display", "displaystyle", "mathsize"],
 }
 CHILDREN = {"mfrac": 2, "mroot": 2, "msub": 2, "msup": 2, "munder": 2, "mover": 2, "msubsup": 3, "munderover": 3}
@@ -401,6 +402,30 @@ def direction_line(random, count):
     return json_bytes(random, line)
 
 
+def tables(random):
+    """Tables whose cells span columns and rows, and edits of them."""
+    chance = random.choice([0.1, 0.3, 0.7])
+
+    def cell():
+        made = element(random, 2, "mtd")
+        made["attributes"] = {name: random.choice(SPANS) for name in ("columnspan", "rowspan") if random.random() < chance}
+        if random.random() < 0.6:
+            made["children"] = [{"name": "mspace", "attributes": {name: random.choice(LENGTHS) for name in ("width", "height", "depth")}}]
+        return made
+
+    rows = [{"name": "mtr", "children": [cell() for _ in range(random.randrange(6))]} for _ in range(random.randrange(7))]
+    if random.random() < 0.1:
+        rows.append(element(random, 2))
+    table = {"name": random.choice(["mtable"] * 8 + ["mrow"]), "children": rows}
+    root = json_bytes(random, {"name": "math", "children": [table]})
+    if random.random() < 0.5:
+        return Case(["layout", "m", "t"], {"m": metrics(random), "t": root})
+    count = len(re.findall(rb'"name"', root))
+    lines = [{"op": "attr", "node": random.randrange(1, count + 1), "name": random.choice(["columnspan", "rowspan"]), "value": random.choice([*SPANS, None])} for _ in range(5)]
+    text = b"".join(json_bytes(random, each) + b"\n" + (edit_line(random, count) + b"\n" if random.random() < 0.3 else b"") for each in lines)
+    return Case(["edit", "m", "t", "s"], {"m": metrics(random), "t": root, "s": text + b'{"op":"show"}\n'})
+
+
 def tree_bytes(random):
     """Real trees with changed bytes."""
     base = random.choice(REAL["tree"]) if random.random() < 0.5 else tree(random)
@@ -550,7 +575,7 @@ def generated(random):
 
 KINDS = {
     each.__name__: each
-    for each in (formulas, borders, samples, edits, histories, long_histories, kerns, directions, pictures, pointers, selections, metrics_bytes, tree_bytes, script_bytes, nested, wide, words, generated)
+    for each in (formulas, borders, samples, edits, histories, long_histories, kerns, directions, pictures, pointers, selections, tables, metrics_bytes, tree_bytes, script_bytes, nested, wide, words, generated)
 }
 # How often a kind comes among others; one that takes long comes only where it is named.
-WEIGHTS = {"formulas": 8, "borders": 3, "samples": 2, "edits": 6, "histories": 4, "long_histories": 0, "kerns": 3, "directions": 3, "pictures": 2, "pointers": 2, "selections": 2, "metrics_bytes": 4, "tree_bytes": 4, "script_bytes": 3, "nested": 2, "wide": 1, "words": 2, "generated": 1}
+WEIGHTS = {"formulas": 8, "borders": 3, "samples": 2, "edits": 6, "histories": 4, "long_histories": 0, "kerns": 3, "directions": 3, "pictures": 2, "pointers": 2, "selections": 2, "tables": 4, "metrics_bytes": 4, "tree_bytes": 4, "script_bytes": 3, "nested": 2, "wide": 1, "words": 2, "generated": 1}

@@ -27,7 +27,7 @@ EFFECTS = {
     "mo": {"mathvariant", "form", "stretchy", "symmetric", "largeop", "movablelimits", "lspace", "rspace", "minsize", "maxsize",
            "accent", "fence", "separator"},
     "mspace": {"width", "height", "depth"}, "mpadded": {"width", "height", "depth", "lspace", "voffset"},
-    "mfrac": {"linethickness", "bevelled"}, "munder": {"accentunder"}, "mover": {"accent"}, "munderover": {"accent", "accentunder"},
+    "mtd": {"columnspan", "rowspan"}, "mfrac": {"linethickness", "bevelled"}, "munder": {"accentunder"}, "mover": {"accent"}, "munderover": {"accent", "accentunder"},
     "menclose": {"notation"}, "mfenced": {"open", "close", "separators"}, "maction": {"actiontype"}, "mglyph": {"alt"},
 }
 # What says nothing about how a formula looks, and so is passed over without a word.
@@ -36,6 +36,7 @@ SILENT = {"id", "class", "href", "xref", "alttext", "altimg", "altimg-width", "a
           "xmlns", "type"}
 SILENT_STARTS = ("data-", "aria-", "on")
 ROWS = {"mstack", "mlongdiv", "msgroup", "msrow", "mscarries", "mscarry", "msline", "maligngroup", "malignmark"}
+COLUMNS = re.compile(r"[0-9]{1,4}")
 STRETCHES_PAST = re.compile(r"\s*[+-]")
 PSEUDO_UNITS = re.compile(r"width|height|depth|%")
 DECLARATION = re.compile(r"\s*([\w-]+)\s*:\s*([^;]+?)\s*(?:;|$)")
@@ -215,10 +216,10 @@ class Converter:
         """The labels of rows stand in a column behind the others."""
         rows = [kid for kid in kids_of(node) if kid.name in ("mtr", "mlabeledtr")]
         if any(row.name == "mlabeledtr" for row in rows):
-            count = max(len(kids_of(row)) - (row.name == "mlabeledtr") for row in rows)
+            count = max(columns_of(cells_of(row)) for row in rows)
             for row in rows:
                 if row.name == "mlabeledtr" and (cells := kids_of(row)):
-                    empty = [Node(row.place, "mtd", {}, []) for _ in range(count - len(cells) + 1)]
+                    empty = [Node(row.place, "mtd", {}, []) for _ in range(count - columns_of(cells[1:]))]
                     row.name, row.children = "mtr", [*cells[1:], *empty, cells[0]]
         return node
 
@@ -239,6 +240,16 @@ class Converter:
             if name not in node.attributes and kid.name == "mo" and kid.attributes.get("accent", "").strip().lower() == "true":
                 node.attributes[name] = "true"
         return node
+
+
+def cells_of(row):
+    """The cells of a row of a table, without its label."""
+    return kids_of(row)[row.name == "mlabeledtr" :]
+
+
+def columns_of(cells):
+    """How many columns cells cover, as the program counts them."""
+    return sum(min(int(text), 64) or 1 if COLUMNS.fullmatch(text := cell.attributes.get("columnspan", "")) else 1 for cell in cells)
 
 
 def kids_of(node):

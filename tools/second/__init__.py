@@ -17,7 +17,7 @@ docstring says otherwise, x grows to the right and y downward.
 | styles | depth, style and font size |
 | glyphs, shaping, targets | glyphs, variants and assemblies |
 | tokens, operators, spaces | leaves |
-| rows, padding, fraction, radicals, scripts, limits, multiscripts, tables | the equations of elements with children |
+| rows, padding, fraction, radicals, scripts, limits, multiscripts, tables, spans | the equations of elements with children |
 | questions, equations, layout | what an element asks of its children, which equation it has, the layout of a tree |
 | placing | where everything stands, and the lines of output |
 | painting, pointing | the paint list and its SVG; what a pointer meets, and what is selected |

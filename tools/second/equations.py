@@ -11,13 +11,14 @@ from .metrics import BOTTOM_LEFT, BOTTOM_RIGHT, INLINE, TOP_LEFT, TOP_RIGHT
 from .multiscripts import Pair, multi
 from .operators import operator
 from .padding import BORDER, cell_box, cell_start, error_box, padded_box, padded_rise, padded_start
-from .questions import COLUMNS, base_properties, has_moved_limits, kid_axes, pull_of
+from .questions import COLUMNS, SLOTS, base_properties, cells_of_rows, has_moved_limits, kid_axes, pull_of
 from .radicals import root_with_index, square_root
 from .rows import RowKid, mirrored, mirrored_row, row_of
 from .scripts import Corner, Corners, with_sub, with_sub_and_sup, with_sup
 from .spaces import space
+from .spans import cell_of, column_widths, deepened, first_columns, row_height
 from .styles import child_style, font_size
-from .tables import baselines, columns_of, row_of_cells, table_box
+from .tables import baselines, columns_of, row_of_cells, row_of_slots, table_box
 from .tokens import Leaf, token, token_glyph
 from .words import truth_of
 
@@ -26,14 +27,15 @@ ROOT_ID = 1
 
 @dataclass(frozen=True)
 class Layout:
-    """An element as it is laid out: its box and the spaces round it, the widths of its cells, where its children in flow begin,
-    its own marks, and the layouts of these children."""
+    """An element as it is laid out: its box and the spaces round it, the widths of its cells, what they span where one does, where
+    its children in flow begin, its own marks, and the layouts of these children."""
 
     node: object
     box: Box
     before: int
     after: int
     cells: tuple
+    spans: tuple
     offsets: tuple
     marks: tuple
     kids: tuple
@@ -93,14 +95,14 @@ class Element:
         surd_x, rule_x = self.turned(surd.x, rule.x - surd.x, root.box), self.turned(rule.x, rule.width, root.box)
         return surd._replace(x=surd_x), rule._replace(x=rule_x)
 
-    def outcome(self, box, offsets, marks=(), cells=()):
+    def outcome(self, box, offsets, marks=(), cells=(), spans=()):
         """An element with this box. Round an embellished one stand the spaces of the child that leads to its core."""
         lead = self.kids[lead_place(self.facts)] if self.facts.core else None
         before, after = (lead.before, lead.after) if lead else (0, 0)
-        return Layout(self.node, box, before, after, tuple(cells), tuple(offsets), tuple(marks), tuple(self.kids))
+        return Layout(self.node, box, before, after, tuple(cells), tuple(spans), tuple(offsets), tuple(marks), tuple(self.kids))
 
     def leaf(self, leaf):
-        return Layout(self.node, leaf.box, leaf.before, leaf.after, (), (), leaf.marks, ())
+        return Layout(self.node, leaf.box, leaf.before, leaf.after, (), (), (), leaf.marks, ())
 
 
 def outcome_of(metrics, node, context, kids):
@@ -261,16 +263,35 @@ def under_over_outcome(element):
 
 
 def table_row_outcome(element):
-    """The cells in their columns; without columns, each in one as wide as itself."""
+    """The cells in their columns or slots; without either, each in a column as wide as itself."""
     own, stretch = [box.width for box in element.boxes], element.context.stretch
-    total, widths = stretch[1:] if stretch and stretch[0] == COLUMNS else (sum(own), own)
-    row = row_of_cells(element.boxes, widths, total)
-    return element.outcome(row.box, element.turned_places(along(row), row.box), cells=own)
+    if stretch and stretch[0] == SLOTS:
+        row = row_of_slots(element.boxes, stretch[2], stretch[1])
+    else:
+        total, widths = stretch[1:] if stretch and stretch[0] == COLUMNS else (sum(own), own)
+        row = row_of_cells(element.boxes, widths, total)
+    places = element.turned_places(along(row), row.box)
+    spans = spans_of(element)
+    if not spans:
+        return element.outcome(row.box, places, cells=own)
+    ascent, descent = row_height(spans)
+    return element.outcome(row.box._replace(ascent=ascent, descent=descent), places, cells=own, spans=spans)
+
+
+def spans_of(element):
+    """What the cells of a row span, where one of them does; else nothing."""
+    cells = [cell_of(kid.node.attributes, kid.box) for kid in element.kids]
+    return cells if any(cell.spans() for cell in cells) else []
 
 
 def table_outcome(element):
     metrics, boxes, size = element.metrics, element.boxes, element.size
     widths = columns_of([kid.cells for kid in element.kids])
+    if any(kid.spans for kid in element.kids):
+        rows = cells_of_rows(element.kids)
+        widths = column_widths(rows, first_columns(rows))
+        heights = deepened(rows, [(box.ascent, box.descent) for box in boxes])
+        boxes = [box._replace(ascent=ascent, descent=descent) for box, (ascent, descent) in zip(boxes, heights)]
     return element.outcome(table_box(metrics, boxes, widths, size), [(0, y) for y in baselines(metrics, boxes, size)])
 
 

@@ -1,7 +1,7 @@
 """What an element asks of its children in flow, in two waves (MathML Core 3).
 
-What stretches an element is None, `(BLOCK, ascent, descent)` or `(INLINE, width)` as a pull is, or `(COLUMNS, total, widths)` for a
-row of a table. A question is a pair: the place of a child, counted from 0, and its context.
+What stretches an element is None, `(BLOCK, ascent, descent)` or `(INLINE, width)` as a pull is, or for a row of a table
+`(COLUMNS, total, widths)`, or `(SLOTS, total, starts_and_widths)` where a cell of the table spans. A question is a pair: the place of a child, counted from 0, and its context.
 """
 
 from typing import NamedTuple
@@ -10,10 +10,11 @@ from .facts import facts_of
 from .forms import form_at, properties_of, stretch_axis
 from .rows import first_of_row, second_of_row
 from .limits import first_of_limits, second_of_limits
+from .spans import Cell, column_widths, first_columns, slots
 from .styles import Style, child_style
 from .tables import columns_of
 
-COLUMNS = "columns"
+COLUMNS, SLOTS = "columns", "slots"
 
 # How elements ask their children.
 NOTHING, PLAINLY, FOR_THE_BASE, AS_ROW, AS_LIMITS, AS_TABLE = "nothing", "plainly", "for the base", "as row", "as limits", "as table"
@@ -36,8 +37,8 @@ class Context(NamedTuple):
 
 
 def pull_of(stretch):
-    """The pull on a row, a base or an operator: columns pull none of them."""
-    return None if stretch is None or stretch[0] == COLUMNS else stretch
+    """The pull on a row, a base or an operator: columns and slots pull none of them."""
+    return None if stretch is None or stretch[0] in (COLUMNS, SLOTS) else stretch
 
 
 def asking_of(metrics, facts, context):
@@ -88,9 +89,28 @@ def second_questions(metrics, node, context, answers):
     elif asking == AS_LIMITS:
         asked = second_of_limits(kid_axes(metrics, facts, context.form), own, [answer.box for answer in answers])
     elif asking == AS_TABLE:
-        widths = columns_of([row.cells for row in answers])
-        asked = [(place, (COLUMNS, sum(widths), tuple(widths[: len(row.cells)]))) for place, row in enumerate(answers)]
+        asked = list(enumerate(stretches_of_rows(answers)))
     return questions(metrics, node, context, asked)
+
+
+def stretches_of_rows(answers):
+    """The columns, or where some cell spans the slots, with which each row of a table is asked again."""
+    if any(row.spans for row in answers):
+        rows = cells_of_rows(answers)
+        firsts = first_columns(rows)
+        widths = column_widths(rows, firsts)
+        return [stretch_of_slots(*slots(row, its, widths)) for row, its in zip(rows, firsts)]
+    widths = columns_of([row.cells for row in answers])
+    return [(COLUMNS, sum(widths), tuple(widths[: len(row.cells)])) for row in answers]
+
+
+def stretch_of_slots(total, *rooms):
+    return SLOTS, total, rooms
+
+
+def cells_of_rows(answers):
+    """The cells of each row of a table, which tells what they span only where one does."""
+    return [row.spans or tuple(map(Cell, row.cells)) for row in answers]
 
 
 def questions(metrics, node, context, asked):

@@ -20,6 +20,12 @@ def row_of_cells(cells, widths, total):
     return Row(all_joined(cells).of_width(total), offsets)
 
 
+def row_of_slots(cells, rooms, total):
+    """Cells, each in the middle of its slot; of each slot `rooms` has where it begins, and then how wide it is."""
+    offsets = [start + halved(width - cell.width) for start, width, cell in zip(rooms[::2], rooms[1::2], cells)]
+    return Row(all_joined(cells).of_width(total), offsets)
+
+
 def table_box(metrics, rows, widths, size):
     """Half of the height of all rows lies above the axis."""
     height, width = height_of(rows), sum(widths)

@@ -78,8 +78,8 @@ class Modern(InFolder):
         self.assertEqual(made["attributes"], {"accent": "false", "accentunder": "true"})
 
     def test_what_has_no_effect_is_told_once_for_each_kind(self):
-        cells = '<mtable columnalign="left"><mtr>' + '<mtd columnspan="2" id="x" data-y="1"><mi>a</mi></mtd>' * 3 + "</mtr></mtable>"
-        self.tree(cells, "f:1:7: `columnalign` on <mtable> has no effect", "`columnspan` on <mtd> has no effect (3 times; this is the first)")
+        cells = '<mtable columnalign="left"><mtr>' + '<mtd columnspan="2" rowalign="top" id="x" data-y="1"><mi>a</mi></mtd>' * 3 + "</mtr></mtable>"
+        self.tree(cells, "f:1:7: `columnalign` on <mtable> has no effect", "`rowalign` on <mtd> has no effect (3 times; this is the first)")
         self.tree("<mstack><mn>1</mn></mstack><mi>x<malignmark/></mi><mi><mglyph alt='y'/></mi>", "<mstack> is laid out as a row",
                   "<malignmark> has no effect", "<mglyph> is shown as its `alt`")
 

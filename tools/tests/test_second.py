@@ -1,5 +1,6 @@
 """The second engine on the samples and on a small script, and what it says of words and files that are none."""
 
+import json
 import subprocess
 import sys
 import tempfile
@@ -103,6 +104,24 @@ class SecondEngine(unittest.TestCase):
         script = b'{"op":"attr","node":1,"name":"dir","value":"rtl"}\n{"op":"show"}\n'
         written = run("edit", "m", "t", "s", m=sample, t=tree, s=script)[1]
         self.assertTrue(written.startswith(b"ok\nshown\nbox 1 math 0 0 17472 14400 4800 10880 128\nbox 2 mn 9280 0 "))
+
+    def test_cells_that_span(self):
+        sample = (TOP / "crates" / "run_cases" / "data" / "sample.metrics").read_bytes()
+
+        def cell(content, **attributes):
+            return {"name": "mtd", "attributes": attributes, "children": [content]}
+
+        def boxes(*rows):
+            table = {"name": "mtable", "children": [{"name": "mtr", "children": row} for row in rows]}
+            written = run("layout", "m", "t", m=sample, t=json.dumps({"name": "math", "children": [table]}).encode())[1]
+            return {int(words[1]): tuple(map(int, words[3:8])) for words in (line.split(b" ") for line in written.split(b"\n")) if words[0] == b"box"}
+
+        one = cell({"name": "mn", "text": "1"})
+        wide = boxes([cell({"name": "mspace", "attributes": {"width": "50.001px"}}, columnspan="2")], [one, one])
+        self.assertEqual((wide[2][2:], wide[7][0], wide[9][0]), ((64309, 21888, 13696), 5427, 37582))
+        deep = boxes([cell({"name": "mspace", "attributes": {"depth": "40px"}}, rowspan="2"), one], [one])
+        self.assertEqual((deep[2][2:], deep[9][0]), ((34408, 35872, 27680), 13108))
+        self.assertEqual(boxes([one], [one, one]), boxes([cell(one["children"][0], rowspan="0", columnspan="00")], [one, one]))
 
     def test_every_sample_is_laid_out_with_its_own_font(self):
         font = read_metrics(FONT)

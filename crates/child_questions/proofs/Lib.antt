@@ -1,3 +1,3 @@
-mod Told
+mod Grids
 pub mod Unstretched
 mod Worked

@@ -1,13 +1,17 @@
-ghost use Rattle.std.specs.Prelude.{◌≡◌, ◌<◌, ◌≤◌, ◌^◌, pos, ◌≤ℤ◌, length, map, take, ◌∷◌, IfOk};
+ghost use Rattle.std.specs.Prelude.{◌≡◌, ◌<◌, ◌≤◌, ◌^◌, ◌-◌, pos, ◌≤ℤ◌, length, map, take, [], ◌∷◌, slice_index_or, IfOk};
 ghost use Rattle.std.specs.List.{All};
+ghost use Rattle.fixed_units.specs.Numbers.{IsWithin};
 ghost use Rattle.embellished.specs.Seen.{seen_of};
-ghost use Rattle.math_tables.specs.Placing.{table_width_of};
+ghost use Rattle.span_tables.specs.Laws.{cells_at as cells_of_row_at, firsts_at};
+ghost use Rattle.span_tables.specs.Slots.{AreInside, slots_by};
 ghost use Rattle.style_scope.specs.Sizes.{IsStyle, size_of};
 ghost use Rattle.layout_model.specs.Answers.{questions_in};
-ghost use Rattle.layout_model.specs.Questions.{columns_over, rows_asked};
-ghost use Rattle.layout_model.specs.Questions as spec;
-ghost use Rattle.layout_model.specs.declared.context.Stretch.TheVariants.{Columns};
+ghost use Rattle.layout_model.specs.Questions.{rows_asked};
+ghost use Rattle.layout_model.specs.Tables.{columns_over, stretch_at};
+ghost use Rattle.layout_model.specs.Tables as spec;
+ghost use Rattle.layout_model.specs.declared.context.Stretch.TheVariants.{Columns, Slots};
 ghost use Rattle.layout_model.specs.Fits.{AreAnswers, HasStyle};
+ghost use Rattle.child_questions.specs.Grids.{grid_of, plain_grid_of, spanning_grid_of};
 ghost use Rattle.child_questions.specs.Surveys.{survey_of};
 
 use crate::children::kid_context;
@@ -15,8 +19,9 @@ use crate::survey::Survey;
 use embellished::View;
 use fixed_units::{List, Memory};
 use font_metrics::Metrics;
-use layout_model::{Answered, Context, Question, Reply, Stretch};
+use layout_model::{Answered, Context, Question, Reply, Stretch, cells_of_rows, has_spans};
 use math_tables::{columns, total_width};
+use span_tables::{SpanCell, column_starts, first_columns, slots_from, span_columns};
 use std::alloc::Global;
 
 /// Asks each row of a table with the columns of the whole table, over the answers of all rows. None has
@@ -38,12 +43,11 @@ pub fn rows_asked<V: View, A: Answered>(
         questions_in asked ≡ rows_asked metrics.now (seen_of (V.element parent.now)) context.now (map A.told rows.now)) }
 {
     let rows = rows.as_slice();
-    let widths = columns_over(alloc, rows)?;
-    let total = total_width(widths.as_slice());
+    let grid = Grid::of(alloc, rows)?;
     let mut asks = List::with_room(alloc, parent.kids())?;
     for index in 0..parent.kids() {
-        let columns = columns_at(alloc, total, &widths, cells_at(rows, index))?;
-        let context = kid_context(parent, survey, context, metrics, index, columns);
+        let stretch = grid.stretch_at(alloc, rows, index)?;
+        let context = kid_context(parent, survey, context, metrics, index, stretch);
         let question = Question {
             kid: index as u32,
             context,
@@ -51,6 +55,86 @@ pub fn rows_asked<V: View, A: Answered>(
         asks.push(Reply::to_come(alloc, question))?;
     }
     Ok(asks)
+}
+
+/// Where the columns of a table are, over the answers of its rows: what all its rows are asked with
+/// comes from it.
+#[derive(Debug, Drop)]
+pub enum Grid {
+    /// No cell spans: the width of the whole table, and that of each column.
+    Plain {
+        total: i64,
+        widths: List<i64>,
+    },
+    /// A cell spans: the cells of the rows, the first column of each, and where each column begins and
+    /// the last one ends.
+    Spanning {
+        cells: List<List<SpanCell>>,
+        firsts: List<List<u32>>,
+        starts: List<i64>,
+    },
+}
+
+impl Grid {
+    /// That of a table, over the answers of its rows.
+    fn of<A: Answered>(alloc: Global, rows: &[A]) -> Result<Grid, Memory>
+        requires { AreAnswers (map A.told rows.now) }
+        ensures { IfOk result (λ grid. grid ≡ grid_of (map A.told rows.now)) }
+    {
+        if has_spans(rows) {
+            Grid::spanning(alloc, rows)
+        } else {
+            Grid::plain(alloc, rows)
+        }
+    }
+
+    fn plain<A: Answered>(alloc: Global, rows: &[A]) -> Result<Grid, Memory>
+        requires { AreAnswers (map A.told rows.now) }
+        ensures { IfOk result (λ grid. grid ≡ plain_grid_of (map A.told rows.now)) }
+    {
+        let widths = columns_over(alloc, rows)?;
+        let total = total_width(widths.as_slice());
+        Ok(Grid::Plain { total, widths })
+    }
+
+    fn spanning<A: Answered>(alloc: Global, rows: &[A]) -> Result<Grid, Memory>
+        requires { AreAnswers (map A.told rows.now) }
+        ensures { IfOk result (λ grid. grid ≡ spanning_grid_of (map A.told rows.now)) }
+    {
+        let cells = cells_of_rows(alloc, rows)?;
+        let firsts = first_columns(alloc, &cells)?;
+        let widths = span_columns(alloc, &cells, &firsts)?;
+        let starts = column_starts(alloc, &widths)?;
+        Ok(Grid::Spanning {
+            cells,
+            firsts,
+            starts,
+        })
+    }
+
+    /// What the row at a place is asked with.
+    #[tactic(auto, unfolding(layout_model::specs::Tables::stretch_at))]
+    fn stretch_at<A: Answered>(
+        &self,
+        alloc: Global,
+        rows: &[A],
+        index: usize,
+    ) -> Result<Stretch, Memory>
+        requires known { self.now ≡ grid_of (map A.told rows.now) }
+        requires answers { AreAnswers (map A.told rows.now) }
+        ensures { IfOk result (λ stretch. stretch ≡ stretch_at (map A.told rows.now) index) }
+    {
+        match self {
+            Grid::Plain { total, widths } => {
+                columns_at(alloc, *total, widths, cells_at(rows, index))
+            }
+            Grid::Spanning {
+                cells,
+                firsts,
+                starts,
+            } => slots_at(alloc, cells, firsts, starts, index),
+        }
+    }
 }
 
 /// The columns of a table, over the answers of its rows.
@@ -89,4 +173,37 @@ fn columns_at(
     numbers.push(total)?;
     numbers.push_all(&widths[..cells.min(widths.len())])?;
     Ok(Stretch::Columns(numbers))
+}
+
+/// What the row at a place is asked with where a cell of the table spans: the width of the whole
+/// table, and the slots of its own cells.
+fn slots_at(
+    alloc: Global,
+    cells: &List<List<SpanCell>>,
+    firsts: &List<List<u32>>,
+    starts: &List<i64>,
+    index: usize,
+) -> Result<Stretch, Memory>
+    requires some { 1 ≤ length starts.now }
+    requires within { All (IsWithin (2 ^ 58)) starts.now }
+    requires inside { AreInside (length starts.now - 1) (cells_of_row_at cells.now index) (firsts_at firsts.now index) }
+    ensures { IfOk result (λ slots.
+        slots ≡ Slots (slots_by starts.now (cells_of_row_at cells.now index) (firsts_at firsts.now index))) }
+{
+    let no_cells = List::make(alloc);
+    let no_firsts = List::make(alloc);
+    let cells = row_at(cells, index, &no_cells);
+    let firsts = row_at(firsts, index, &no_firsts);
+    Ok(Stretch::Slots(slots_from(alloc, cells, firsts, starts)?))
+}
+
+/// The row at a place; past the last one, `none`.
+fn row_at<'a, T>(rows: &'a List<List<T>>, index: usize, none: &'a List<T>) -> &'a List<T>
+    requires { none.now ≡ [] }
+    ensures { result.now ≡ slice_index_or rows.now index [] }
+{
+    match rows.as_slice().get(index) {
+        Some(row) => row,
+        None => none,
+    }
 }

@@ -29,7 +29,10 @@ use Rattle.layout_model.proofs.Made.{answer_of_child}
 use Rattle.layout_model.proofs.Places.{first_below}
 use Rattle.layout_model.proofs.Replies.{answer_there, answers_set, as_many, asked_within, question_there, question_was, questions_set}
 use Rattle.layout_model.proofs.Children.{few_children, in_flow}
+use Rattle.layout_model.specs.Waves.{times_asked}
+use Rattle.layout_model.proofs.Counted.{each_wave}
 use Rattle.layout_model.proofs.Fits.{answers_are as answers_are_stored, fonts_are}
+use Rattle.layout_model.proofs.Together.{AreApart}
 use Rattle.layout_model.proofs.Waves.{all_fit, broken}
 use Rattle.layout_model.proofs.Whole.{ones_false, range_waves}
 use Rattle.child_questions.proofs.Unstretched.{one_wave}
@@ -221,7 +224,13 @@ module _ (m : MetricsValue) (node : Node) (memo : Memo) (context : Context) (bef
         }
 
         pub stored_again : element_count node ≤ 65_536 → AreAnswers one
-        stored_again few = subst AreAnswers (sym told_again) (answers_are_stored m node few asks fits_again)
+        stored_again few =
+            let ones : first m (seen_of node) context ≡ asks = sym first_is in
+            let apart : AreApart (length (seen_of node).kids) asks = record {
+              below = subst (All (IsBelow (length (seen_of node).kids))) ones (first_below m (seen_of node) context);
+              once = λ kid. subst (λ (list : List Question). times_asked kid list ≤ 1) ones (each_wave m (seen_of node) context [] kid).0;
+            } in
+            subst AreAnswers (sym told_again) (answers_are_stored m node few asks apart fits_again)
 
         pub sized_again : element_count node ≤ 65_536 → All (HasFont m) asks
         sized_again few =

@@ -44,7 +44,7 @@ all_at P (x ∷ xs) h = (h 0 x refl, all_at P xs (λ i. h (suc i)))
 
 pub no_answers : (answers : List Answer) → answers ≡ [] → AreAnswers answers
 no_answers answers e =
-    let none : AreAnswers [] = record { fit = All-nil _; few = All-nil _ } in
+    let none : AreAnswers [] = record { fit = All-nil _; count = omega arith; few = omega arith; spans = All-nil _ } in
     subst AreAnswers (sym e) none
 
 -- ---- what is kept is in range

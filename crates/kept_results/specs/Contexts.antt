@@ -11,7 +11,7 @@ use Rattle.layout_model.specs.declared.context.Question.{Question}
 
 -- an element may be laid out in a context: its style keeps the bounds of styles, what stretches can
 -- be stored, and only an operator is stretched, along its own axis, and only a row of a table has
--- columns
+-- columns or slots
 pub record Suits (m : MetricsValue) (node : Node) (context : Context) : Type 0 where
   pub style : IsStyle context.style
   pub stretch : IsStretch context.stretch

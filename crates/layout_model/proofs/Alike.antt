@@ -12,7 +12,7 @@ use Rattle.fixed_units.specs.declared.pull.Pull.{Pull}
 use Rattle.fixed_units.specs.declared.pull.Pull.TheVariants.{Free, Block, Inline}
 use Rattle.font_metrics.specs.Metrics.{MetricsValue}
 use Rattle.math_tree.specs.declared.kind.Kind.{Kind}
-use Rattle.math_tree.specs.declared.kind.Kind.TheVariants.{Mfrac, Mmultiscripts, Mo, Mover, Msub, Msubsup, Msup, Mtable, Munder, Munderover}
+use Rattle.math_tree.specs.declared.kind.Kind.TheVariants.{Mfrac, Mmultiscripts, Mo, Mover, Msub, Msubsup, Msup, Mtable, Mtr, Munder, Munderover}
 use Rattle.math_tree.specs.declared.node.Node.{Node}
 use Rattle.op_dictionary.specs.declared.operator.Axis.{Axis}
 use Rattle.op_dictionary.specs.declared.operator.Axis.TheVariants.{Block as Upwards, Inline as Along}
@@ -32,13 +32,15 @@ use Rattle.row_stretch.specs.declared.parts.KidPull.{KidPull}
 use Rattle.row_stretch.proofs.Counts.{no_kid}
 use Rattle.layout_model.specs.Contexts.{kid_axis, kid_context, kid_pull, pull_of, stretch_of}
 use Rattle.layout_model.specs.Questions.{asked, asked_all, asked_as, asking, asking_of, first, first_asks, has_moved_limits, kid_pulls, row_asked, second, second_as}
+use Rattle.span_tables.specs.Laws.{slots_at}
+use Rattle.layout_model.specs.Tables.{cells_of_rows, columns_at, has_spans, stretch_at}
 use Rattle.layout_model.specs.Waves.{AlikeLaw, HandedLaw, IsPlain, MayAsk, MayBeAsked, MayCarry, PlainLaw, StretchesIn, both_waves, is_stretched}
 use Rattle.layout_model.specs.declared.asking.Asking.{Asking}
 use Rattle.layout_model.specs.declared.asking.Asking.TheVariants.{Nothing, Plainly, ForTheBase, AsRow, AsLimits, AsTable}
 use Rattle.layout_model.specs.declared.context.Context.{Context}
 use Rattle.layout_model.specs.declared.context.Question.{Question}
 use Rattle.layout_model.specs.declared.context.Stretch.{Stretch}
-use Rattle.layout_model.specs.declared.context.Stretch.TheVariants.{None as Unstretched, Block as Upright, Inline as Sideways, Columns}
+use Rattle.layout_model.specs.declared.context.Stretch.TheVariants.{None as Unstretched, Block as Upright, Inline as Sideways, Columns, Slots}
 use Rattle.layout_model.specs.declared.outcome.Answer.{Answer}
 use Rattle.layout_model.proofs.Carried.{AskCarried, IsCarried, IsFor, IsHanded, axis_of, carries, first_carried, hands_down, is_pulled, kid_at, second_carried}
 use Rattle.layout_model.proofs.Counted.{core_of_stretching, table_is}
@@ -56,6 +58,7 @@ unstretched_is Unstretched e = refl
 unstretched_is (Upright ascent descent) e = absurd (true≢false e)
 unstretched_is (Sideways width) e = absurd (true≢false e)
 unstretched_is (Columns widths) e = absurd (true≢false e)
+unstretched_is (Slots numbers) e = absurd (true≢false e)
 
 -- what holds at each place of a list over places
 all_listed : {A : Type 0} (P : A → Type 0) (n : ℕ) (f : ℕ → A) → ((i : ℕ) → P (f i)) → All P (list_to n f)
@@ -289,6 +292,7 @@ module _ (m : MetricsValue) (node : Node) (context : Context) (may : MayBeAsked 
   handed kid at h (Upright ascent descent) may' = base_stretches m node context kid at (led_by_asking m seen context h) Upwards may'
   handed kid at h (Sideways width) may' = base_stretches m node context kid at (led_by_asking m seen context h) Along may'
   handed kid at h (Columns widths) may' = tt
+  handed kid at h (Slots numbers) may' = tt
 
   along_own : (place : ℕ) (kid : Kid) → slice_get seen.kids place ≡ Some kid → place < length seen.kids
       → (pull : Pull) → IsFor (kid_at (kid_pulls m seen context) place) pull → MayCarry m kid.facts (form_at seen place context.form) (stretch_of pull)
@@ -326,12 +330,21 @@ module _ (m : MetricsValue) (node : Node) (context : Context) (may : MayBeAsked 
     asked_so : (asks : List Question) → All (IsQuestionCarried m seen context (asking m seen context)) asks → All (HasPlace m seen context) asks → All (MayAsk m seen) asks
     asked_so asks h p k d l = carried_is_asked (get_or asks k d) (h k d l) (p k d l)
 
-    -- the rows of a table are asked with its columns
+    -- the rows of a table are asked with its columns or slots
+    row_may : (own : Facts) (form : Form) (place : ℕ) → own.laid ≡ Mtr → MayCarry m own form (stretch_at one place)
+    unfolding stretch_at
+    row_may own form place is = by (has_spans one)
+      where
+        by : (b : Bool) → MayCarry m own form (cond b (Slots (slots_at (cells_of_rows one) place)) (columns_at one place))
+        by true = is
+        by false = is
+
     row_is_asked : asking m seen context ≡ AsTable → (place : ℕ) → MayAsk m seen (row_asked m seen context one place)
     unfolding seen_of
     row_is_asked e place kid at =
         let rows = (tabular node).rows (table_is m seen context e) place kid (slice_get_within seen.kids place kid at) in
-        sym (ap laid_kid (get_or_from_slice_get seen.kids place kid kid at)) ∙ rows
+        row_may kid.facts (form_at seen place context.form) place
+        (sym (ap laid_kid (get_or_from_slice_get seen.kids place kid kid at)) ∙ rows)
 
     others : (how : Asking) → asking m seen context ≡ how → (how ≡ AsTable → ⊥) → All (MayAsk m seen) (second_as how m seen context one)
     others how e none =

@@ -22,17 +22,18 @@ use Rattle.op_dictionary.specs.declared.operator.Axis.{Axis}
 use Rattle.op_dictionary.specs.declared.operator.Axis.TheVariants.{Block as Upwards, Inline as Along}
 use Rattle.scripts.specs.Questions.{first_limit_asks_of, rest, second_limit_asks_of, widest_of}
 use Rattle.layout_model.specs.Contexts.{pull_of, stretch_of}
-use Rattle.layout_model.specs.Fits.{IsStretch}
-use Rattle.layout_model.specs.Questions.{asked, asking, cells_at, columns_over, first, first_asks, kid_pulls, row_asked, second, second_as, second_asks, unstretched}
+use Rattle.layout_model.specs.Fits.{AreAnswers, IsStretch}
+use Rattle.layout_model.specs.Questions.{asked, asking, first, first_asks, kid_pulls, row_asked, second, second_as, second_asks, unstretched}
 use Rattle.layout_model.specs.Range.{answer_fits}
 use Rattle.layout_model.specs.declared.asking.Asking.{Asking}
 use Rattle.layout_model.specs.declared.asking.Asking.TheVariants.{Nothing, Plainly, ForTheBase, AsRow, AsLimits, AsTable}
 use Rattle.layout_model.specs.declared.context.Context.{Context}
 use Rattle.layout_model.specs.declared.context.Question.{Question}
 use Rattle.layout_model.specs.declared.context.Stretch.{Stretch}
-use Rattle.layout_model.specs.declared.context.Stretch.TheVariants.{None as Unstretched, Block as Upright, Inline as Sideways, Columns}
+use Rattle.layout_model.specs.declared.context.Stretch.TheVariants.{None as Unstretched, Block as Upright, Inline as Sideways, Columns, Slots}
 use Rattle.layout_model.specs.declared.outcome.Answer.{Answer}
-use Rattle.layout_model.proofs.Ranges.{answers_stored, columns_in}
+use Rattle.layout_model.proofs.Ranges.{answers_stored}
+use Rattle.layout_model.proofs.TableCells.{row_stretch_stored}
 
 -- ---- pulls
 
@@ -54,6 +55,7 @@ pull_stored Unstretched h = tt
 pull_stored (Upright ascent descent) h = h
 pull_stored (Sideways width) h = h
 pull_stored (Columns widths) h = tt
+pull_stored (Slots numbers) h = tt
 
 pub stretch_stored : (pull : Pull) → IsPulled pull → IsStretch (stretch_of pull)
 unfolding stretch_of
@@ -171,12 +173,6 @@ second_asks_stored AsTable kids own frames all = All-nil IsAskStored
 abbrev pub IsQuestionStored : Question → Type 0
 IsQuestionStored question = IsStretch question.context.stretch
 
-taken_in : (n : ℕ) (widths : List ℤ) → All (IsWithin farthest) widths → All (IsWithin farthest) (take n widths)
-taken_in zero widths all = All-nil (IsWithin farthest)
-taken_in (suc n) [] all = All-nil (IsWithin farthest)
-taken_in (suc n) (width ∷ widths) all =
-    All-cons (IsWithin farthest) width (take n widths) (All-head (IsWithin farthest) width widths all) (taken_in n widths (All-tail (IsWithin farthest) width widths all))
-
 frames_stored : (answers : List Answer) → AllPass answer_fits answers → All IsStored (map (λ (answer : Answer). answer.frame) answers)
 frames_stored answers fit = All-map IsStored (λ (answer : Answer). answer.frame) answers (λ k d l. (answers_stored answers fit k d l).frame)
 
@@ -188,22 +184,22 @@ module _ (m : MetricsValue) (seen : Seen) (context : Context) where
   unfolding first
   first_stored h = asked_stored _ (first_asks_stored (asking m seen context) (kid_pulls m seen context) _ (pull_stored context.stretch h))
 
-  rows_stored : (rows : List Answer) → AllPass answer_fits rows → (n : ℕ) → All IsQuestionStored (list_to n (row_asked m seen context rows))
+  rows_stored : (rows : List Answer) → AreAnswers rows → (n : ℕ) → All IsQuestionStored (list_to n (row_asked m seen context rows))
   unfolding list_to
   rows_stored rows fit zero = All-nil IsQuestionStored
   rows_stored rows fit (suc n) =
       All-append IsQuestionStored (list_to n (row_asked m seen context rows)) (row_asked m seen context rows n ∷ [])
       (rows_stored rows fit n)
-      (All-cons IsQuestionStored (row_asked m seen context rows n) [] (taken_in (length (cells_at rows n)) (columns_over rows) (columns_in rows fit)) (All-nil IsQuestionStored))
+      (All-cons IsQuestionStored (row_asked m seen context rows n) [] (row_stretch_stored rows fit n) (All-nil IsQuestionStored))
 
-  second_as_stored : (how : Asking) (answers : List Answer) → AllPass answer_fits answers → All IsQuestionStored (second_as how m seen context answers)
+  second_as_stored : (how : Asking) (answers : List Answer) → AreAnswers answers → All IsQuestionStored (second_as how m seen context answers)
   second_as_stored AsTable answers fit = rows_stored answers fit (length seen.kids)
-  second_as_stored Nothing answers fit = asked_stored _ (second_asks_stored Nothing (kid_pulls m seen context) _ _ (frames_stored answers fit))
-  second_as_stored Plainly answers fit = asked_stored _ (second_asks_stored Plainly (kid_pulls m seen context) _ _ (frames_stored answers fit))
-  second_as_stored ForTheBase answers fit = asked_stored _ (second_asks_stored ForTheBase (kid_pulls m seen context) _ _ (frames_stored answers fit))
-  second_as_stored AsRow answers fit = asked_stored _ (second_asks_stored AsRow (kid_pulls m seen context) _ _ (frames_stored answers fit))
-  second_as_stored AsLimits answers fit = asked_stored _ (second_asks_stored AsLimits (kid_pulls m seen context) _ _ (frames_stored answers fit))
+  second_as_stored Nothing answers fit = asked_stored _ (second_asks_stored Nothing (kid_pulls m seen context) _ _ (frames_stored answers fit.fit))
+  second_as_stored Plainly answers fit = asked_stored _ (second_asks_stored Plainly (kid_pulls m seen context) _ _ (frames_stored answers fit.fit))
+  second_as_stored ForTheBase answers fit = asked_stored _ (second_asks_stored ForTheBase (kid_pulls m seen context) _ _ (frames_stored answers fit.fit))
+  second_as_stored AsRow answers fit = asked_stored _ (second_asks_stored AsRow (kid_pulls m seen context) _ _ (frames_stored answers fit.fit))
+  second_as_stored AsLimits answers fit = asked_stored _ (second_asks_stored AsLimits (kid_pulls m seen context) _ _ (frames_stored answers fit.fit))
 
-  pub second_stored : (answers : List Answer) → AllPass answer_fits answers → All IsQuestionStored (second m seen context answers)
+  pub second_stored : (answers : List Answer) → AreAnswers answers → All IsQuestionStored (second m seen context answers)
   unfolding second
   second_stored answers fit = second_as_stored (asking m seen context) answers fit

@@ -44,7 +44,7 @@ use Rattle.layout_model.specs.declared.asking.Asking.TheVariants.{Nothing, Plain
 use Rattle.layout_model.specs.declared.context.Context.{Context}
 use Rattle.layout_model.specs.declared.context.Question.{Question}
 use Rattle.layout_model.specs.declared.context.Stretch.{Stretch}
-use Rattle.layout_model.specs.declared.context.Stretch.TheVariants.{None as Unstretched, Block as Upright, Inline as Sideways, Columns}
+use Rattle.layout_model.specs.declared.context.Stretch.TheVariants.{None as Unstretched, Block as Upright, Inline as Sideways, Columns, Slots}
 use Rattle.layout_model.specs.declared.outcome.Answer.{Answer}
 use Rattle.layout_model.proofs.Places.{as_many_pulls}
 
@@ -368,6 +368,7 @@ module _ (m : MetricsValue) (node : Node) (one : List Answer) (kid : ℕ) (l : k
   unfolding pull_of
   by_stretch context Unstretched e may h = by_row context (row_is (facts node).laid h)
   by_stretch context (Columns widths) e may h = by_row context may
+  by_stretch context (Slots numbers) e may h = by_row context may
   by_stretch context (Upright ascent descent) e may h = by_pull context Upwards may (subst (λ (s : Stretch). IsPulled (pull_of s)) (sym e) tt)
   by_stretch context (Sideways width) e may h = by_pull context Along may (subst (λ (s : Stretch). IsPulled (pull_of s)) (sym e) tt)
 

@@ -48,6 +48,7 @@ use Rattle.token_boxes.specs.Token.{glyph_of, inks_of, leaf_of, lone_letter, mar
 use Rattle.token_boxes.specs.declared.leaf.Drawn.{Drawn}
 use Rattle.token_boxes.specs.declared.leaf.Leaf.{Leaf}
 use Rattle.layout_model.specs.Direction.{turned_mark}
+use Rattle.span_tables.specs.declared.cells.CellSpan.{CellSpan}
 use Rattle.layout_model.specs.Elements.{Element, font, frame_at, outcome_with, row_in}
 use Rattle.layout_model.specs.Equations.{fraction_outcome, marks_if, multi_outcome, operator_outcome, operator_with, outcome_by, over_outcome, root_outcome, space_outcome, square_root_outcome, sub_outcome, sub_sup_outcome, sup_outcome, thickness_of, token_outcome, under_outcome, under_over_outcome}
 use Rattle.layout_model.specs.Questions.{has_moved_limits}
@@ -309,31 +310,31 @@ module _ (e : Element) (taken : IsTaken e.metrics) where
   scripts_drawn = refl
 
   -- elements that draw nothing themselves
-  nothing : (frame : MathBox) (cells : List ℤ) (offsets : List Offset) → IsOutcome e (outcome_with e frame cells offsets [])
+  nothing : (frame : MathBox) (cells : List ℤ) (spans : List CellSpan) (offsets : List Offset) → IsOutcome e (outcome_with e frame cells spans offsets [])
   unfolding outcome_with draws_of_font
-  nothing frame cells offsets = refl
+  nothing frame cells spans offsets = refl
 
   pub drawn : (kind : Kind) → IsOutcome e (outcome_by kind e)
   unfolding outcome_by
-  drawn Merror = nothing _ _ _
+  drawn Merror = nothing _ _ _ _
   drawn Mfrac = fraction_drawn
   drawn Mi = leaf_drawn
   drawn Mmultiscripts = scripts_drawn
   drawn Mn = leaf_drawn
   drawn Mo = operator_drawn
-  drawn Mover = one_of (has_moved_limits e.metrics e.seen e.context) (sup_outcome e) (over_outcome e) (nothing _ _ _) (nothing _ _ _)
-  drawn Mpadded = nothing _ _ _
+  drawn Mover = one_of (has_moved_limits e.metrics e.seen e.context) (sup_outcome e) (over_outcome e) (nothing _ _ _ _) (nothing _ _ _ _)
+  drawn Mpadded = nothing _ _ _ _
   drawn Mroot = root_drawn
   drawn Ms = leaf_drawn
   drawn Mspace = space_drawn
   drawn Msqrt = square_root_drawn
-  drawn Msub = nothing _ _ _
-  drawn Msubsup = nothing _ _ _
-  drawn Msup = nothing _ _ _
-  drawn Mtable = nothing _ _ _
-  drawn Mtd = nothing _ _ _
+  drawn Msub = nothing _ _ _ _
+  drawn Msubsup = nothing _ _ _ _
+  drawn Msup = nothing _ _ _ _
+  drawn Mtable = nothing _ _ _ _
+  drawn Mtd = nothing _ _ _ _
   drawn Mtext = leaf_drawn
-  drawn Mtr = nothing _ _ _
-  drawn Munder = one_of (has_moved_limits e.metrics e.seen e.context) (sub_outcome e) (under_outcome e) (nothing _ _ _) (nothing _ _ _)
-  drawn Munderover = one_of (has_moved_limits e.metrics e.seen e.context) (sub_sup_outcome e) (under_over_outcome e) (nothing _ _ _) (nothing _ _ _)
-  drawn other = nothing _ _ _
+  drawn Mtr = nothing _ _ _ _
+  drawn Munder = one_of (has_moved_limits e.metrics e.seen e.context) (sub_outcome e) (under_outcome e) (nothing _ _ _ _) (nothing _ _ _ _)
+  drawn Munderover = one_of (has_moved_limits e.metrics e.seen e.context) (sub_sup_outcome e) (under_over_outcome e) (nothing _ _ _ _) (nothing _ _ _ _)
+  drawn other = nothing _ _ _ _

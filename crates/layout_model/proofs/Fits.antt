@@ -1,22 +1,22 @@
 -- Answers of layouts that can be stored can be stored, and each is made at a font size in range.
-use Rattle.std.proofs.Common.{◌≡◌, ◌∙◌, refl, sym, ap, ℕ, ◌≤◌, arith, true, ◌&&◌, List, [], ◌∷◌, length, map, All, get_or, Option, Some, None, slice_get}
+use Rattle.std.proofs.Common.{◌≡◌, ◌∙◌, refl, sym, ap, ℕ, ◌+◌, ◌≤◌, arith, true, ◌&&◌, List, [], ◌∷◌, length, map, All, get_or, Option, Some, None, slice_get, inl}
 use Rattle.std.proofs.lemmas.Bool.{and_parts}
-use Rattle.std.proofs.lemmas.List.Elements.{All-cons, All-map, All-nil}
+use Rattle.std.proofs.lemmas.List.{length-map}
+use Rattle.std.proofs.lemmas.List.Elements.{All-cons, All-head, All-map, All-nil, All-tail}
 use Rattle.std.proofs.lemmas.List.Folds.{list_all-append}
-use Rattle.std.proofs.lemmas.Option.{none-some, same_Some, slice_get-get_or, slice_get-map}
+use Rattle.std.proofs.lemmas.List.Sums.{sum_by-cons}
+use Rattle.std.proofs.lemmas.Option.{none-some, slice_get-get_or}
 use Rattle.std.specs.List.{flat_map, list_all}
 use Rattle.std.specs.Option.{option_map, option_map_or}
 use Rattle.fixed_units.specs.Boxes.{is_stored}
 use Rattle.font_metrics.specs.Metrics.{MetricsValue}
 use Rattle.math_tree.specs.Trees.{element_count}
 use Rattle.math_tree.specs.declared.node.Node.{Node}
-use Rattle.math_tree.specs.declared.node.Node.TheViews.{out-Node}
-use Rattle.math_tree.proofs.Counts.{elements_are, one_of}
-use Rattle.embellished.specs.Seen.{Child, flow_children, flow_nodes, seen_of}
-use Rattle.embellished.proofs.InFlow.{among}
+use Rattle.embellished.specs.Seen.{flow_nodes, seen_of}
 use Rattle.style_scope.specs.Sizes.{size_of}
 use Rattle.layout_model.specs.Answers.{no_answer}
-use Rattle.layout_model.specs.Fits.{AreAnswers, HasFont}
+use Rattle.span_tables.specs.Bounds.{IsSpan}
+use Rattle.layout_model.specs.Fits.{AreAnswers, AreSpans, HasFont, cell_count}
 use Rattle.layout_model.specs.Laws.{answer_of, visits_below}
 use Rattle.layout_model.specs.Layout.{in_range, lay, questions, visit_fits, visits}
 use Rattle.layout_model.specs.Questions.{IsBelow}
@@ -27,7 +27,9 @@ use Rattle.layout_model.specs.declared.outcome.Answer.{Answer}
 use Rattle.layout_model.specs.declared.outcome.Outcome.{Outcome}
 use Rattle.layout_model.proofs.Cells.{lay_cells}
 use Rattle.layout_model.proofs.Trees.{visits_are}
-use Rattle.layout_model.proofs.Children.{as_many_nodes, few_children, few_in_flow}
+use Rattle.layout_model.proofs.Children.{as_many_nodes}
+use Rattle.layout_model.proofs.Spans.{lay_spans}
+use Rattle.layout_model.proofs.Together.{AreApart, asked_together, asked_weight, weighed, weighed_first, with_kids}
 use Rattle.layout_model.proofs.Waves.{all_fit}
 
 module _ (m : MetricsValue) where
@@ -81,31 +83,58 @@ module _ (m : MetricsValue) where
         by None e = refl
         by (Some kid) e = answer_in (lay m kid question.context) (own_fits kid question.context e)
 
-    child_count : (index : ℕ) (kid : Node) → slice_get (flow_nodes node) index ≡ Some kid → element_count kid ≤ 65_536
-    child_count index kid at = by (slice_get (flow_children node) index) refl (sym (slice_get-map (λ (child : Child). child.node) (flow_children node) index) ∙ at)
-      where
-        by : (found : Option Child) → slice_get (flow_children node) index ≡ found → option_map (λ (child : Child). child.node) found ≡ Some kid → element_count kid ≤ 65_536
-        by None e is = absurd (none-some kid is)
-        by (Some child) e is =
-            let all = among node index child e in
-            let same : element_count child.node ≡ element_count kid = ap element_count (same_Some child.node kid is) in
-            omega (arith, few, elements_are node, one_of (out-Node node).children child.place child.node all, same)
-
-    cells_few : (question : Question) → length (answer_of m node question).cells ≤ 65_536
+    -- a row has no more cells than children in flow
+    row_weighs : (question : Question) → IsBelow (length (seen_of node).kids) question
+        → length (answer_of m node question).cells + 1 ≤ weighed with_kids 0 (flow_nodes node) question.kid
     unfolding answer_of
-    cells_few question = by (slice_get (flow_nodes node) question.kid) refl
+    row_weighs question below = by (slice_get (flow_nodes node) question.kid) refl
       where
         by : (found : Option Node) → slice_get (flow_nodes node) question.kid ≡ found
-            → length (option_map_or (λ (kid : Node). (lay m kid question.context).answer) found no_answer).cells ≤ 65_536
-        by None e = omega arith
-        by (Some kid) e =
-            omega (arith, lay_cells m kid question.context, few_in_flow kid, few_children kid, child_count question.kid kid e)
+            → length (option_map_or (λ (kid : Node). (lay m kid question.context).answer) found no_answer).cells + 1
+            ≤ weighed with_kids 0 (flow_nodes node) question.kid
+        by None is =
+            let within = slice_get-get_or (flow_nodes node) question.kid node (omega (arith, below, as_many_nodes node)) in
+            absurd (none-some (get_or (flow_nodes node) question.kid node) (sym is ∙ within))
+        by (Some kid) is =
+            omega (arith, lay_cells m kid question.context, weighed_first with_kids (flow_nodes node) question.kid kid is)
 
-    pub answers_are : (asks : List Question) → all_fit m node asks ≡ true → AreAnswers (map (answer_of m node) asks)
-    answers_are asks e = record {
-      fit = All-map (λ answer. answer_fits answer ≡ true) (answer_of m node) asks (λ k d l. answer_passes _ (each_fits asks e k d l));
-      few = All-map (λ (answer : Answer). length answer.cells ≤ 65_536) (answer_of m node) asks (λ k d l. cells_few _);
-    }
+    rows_weigh : (asks : List Question) → All (IsBelow (length (seen_of node).kids)) asks
+        → cell_count (map (answer_of m node) asks) + length asks ≤ asked_weight with_kids 0 (flow_nodes node) asks
+    rows_weigh [] below = omega arith
+    rows_weigh (question ∷ asks) below =
+        let cells : cell_count (map (answer_of m node) (question ∷ asks)) ≡ length (answer_of m node question).cells + cell_count (map (answer_of m node) asks) =
+        sum_by-cons (λ (answer : Answer). length answer.cells) (answer_of m node question) (map (answer_of m node) asks) in
+        let weight : asked_weight with_kids 0 (flow_nodes node) (question ∷ asks)
+        ≡ weighed with_kids 0 (flow_nodes node) question.kid + asked_weight with_kids 0 (flow_nodes node) asks =
+        sum_by-cons (λ (q : Question). weighed with_kids 0 (flow_nodes node) q.kid) question asks in
+        omega (
+          arith,
+          cells,
+          weight,
+          row_weighs question (All-head (IsBelow (length (seen_of node).kids)) question asks below),
+          rows_weigh asks (All-tail (IsBelow (length (seen_of node).kids)) question asks below),
+        )
+
+    spans_are : (question : Question) → AreSpans (answer_of m node question)
+    unfolding answer_of
+    spans_are question = by (slice_get (flow_nodes node) question.kid)
+      where
+        by : (found : Option Node) → AreSpans (option_map_or (λ (kid : Node). (lay m kid question.context).answer) found no_answer)
+        by None = record { each = inl refl; limits = All-nil IsSpan }
+        by (Some kid) = lay_spans m kid question.context
+
+    -- where no child is asked twice, they and their cells are no more than there are elements
+    pub answers_are : (asks : List Question) → AreApart (length (seen_of node).kids) asks → all_fit m node asks ≡ true
+        → AreAnswers (map (answer_of m node) asks)
+    answers_are asks apart e =
+        let all = rows_weigh asks apart.below in
+        let most = asked_together node asks apart.once in
+        record {
+          fit = All-map (λ answer. answer_fits answer ≡ true) (answer_of m node) asks (λ k d l. answer_passes _ (each_fits asks e k d l));
+          count = omega (arith, all, most, few, length-map asks (answer_of m node));
+          few = omega (arith, all, most, few);
+          spans = All-map AreSpans (answer_of m node) asks (λ k d l. spans_are _);
+        }
 
     -- what goes to a child is asked at a font size in range
     font_passes : (question : Question) → IsBelow (length (seen_of node).kids) question → PassBelow question → HasFont m question

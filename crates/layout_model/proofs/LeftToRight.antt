@@ -46,6 +46,7 @@ use Rattle.layout_model.specs.LeftToRight.{IsNotTurned, LeftToRightLaw, forward,
 use Rattle.layout_model.specs.Made.{Asks, IsMade}
 use Rattle.layout_model.specs.Questions.{first}
 use Rattle.layout_model.specs.Rows.{border, error_of, padded_of, padded_rise, padded_start}
+use Rattle.layout_model.specs.Tables.{spanned, spans_of}
 use Rattle.layout_model.specs.Waves.{both_waves}
 use Rattle.layout_model.specs.declared.context.Context.{Context}
 use Rattle.layout_model.specs.declared.context.Question.{Question}
@@ -94,7 +95,7 @@ module _ (e : Element) (h : e.context.style.rtl ≡ false) where
   cell_is = λ i. outcome e (cell_of e.metrics (row_in e).frame (font e)) (along_is (row_in e) (cell_start_of (font e)) (pos 0) i) []
 
   table_row_is : table_row_outcome e ≡ forward_table_row e
-  table_row_is = λ i. outcome_with e (cells_placed e).frame (widths_of e) (along_is (cells_placed e) (pos 0) (pos 0) i) []
+  table_row_is = λ i. outcome_with e (spanned (spans_of e) (cells_placed e).frame) (widths_of e) (spans_of e) (along_is (cells_placed e) (pos 0) (pos 0) i) []
 
   -- ---- roots
 

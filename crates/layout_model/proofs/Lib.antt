@@ -18,6 +18,10 @@ pub mod Offsets
 pub mod Places
 pub mod Ranges
 pub mod Replies
+pub mod Spans
+pub mod TableCells
+pub mod Together
+pub mod Told
 pub mod Trees
 pub mod TwoContexts
 pub mod Waves

@@ -17,6 +17,7 @@ use Rattle.math_tree.specs.declared.kind.Kind.{Kind}
 use Rattle.math_tree.specs.declared.kind.Kind.TheVariants.{Merror, Mfrac, Mi, Mmultiscripts, Mn, Mo, Mover, Mpadded, Mroot, Ms, Mspace, Msqrt, Msub, Msubsup, Msup, Mtable, Mtd, Mtext, Mtr, Munder, Munderover}
 use Rattle.math_tree.specs.declared.node.Node.{Node}
 use Rattle.math_tree.specs.declared.node.Node.TheViews.{out-Node}
+use Rattle.span_tables.specs.declared.cells.CellSpan.{CellSpan}
 use Rattle.layout_model.specs.Elements.{Element, outcome_with}
 use Rattle.layout_model.specs.Equations.{multi_outcome, operator_outcome, operator_with, outcome_by, over_outcome, space_outcome, sub_outcome, sub_sup_outcome, sup_outcome, token_outcome, under_outcome, under_over_outcome}
 use Rattle.layout_model.specs.Laid.{OffsetsLaw}
@@ -65,21 +66,21 @@ module _ (e : Element) where
   none_are : (o : Outcome) → kids_of o ≡ [] → length e.seen.kids ≡ 0 → AreAll o
   none_are o h n = h ∙ no_places ∙ ap places (sym n)
 
-  two_are : (frame : MathBox) (cells : List ℤ) (f g : Offset) (marks : List Mark) → f.kid ≡ 0 → g.kid ≡ 1 → length e.seen.kids ≡ 2
-      → AreAll (outcome_with e frame cells (f ∷ g ∷ []) marks)
+  two_are : (frame : MathBox) (cells : List ℤ) (spans : List CellSpan) (f g : Offset) (marks : List Mark) → f.kid ≡ 0 → g.kid ≡ 1 → length e.seen.kids ≡ 2
+      → AreAll (outcome_with e frame cells spans (f ∷ g ∷ []) marks)
   unfolding outcome_with
-  two_are frame cells f g marks p q n = ap (λ (a : ℕ). a ∷ g.kid ∷ []) p ∙ ap (λ (b : ℕ). 0 ∷ b ∷ []) q ∙ two_places ∙ ap places (sym n)
+  two_are frame cells spans f g marks p q n = ap (λ (a : ℕ). a ∷ g.kid ∷ []) p ∙ ap (λ (b : ℕ). 0 ∷ b ∷ []) q ∙ two_places ∙ ap places (sym n)
 
-  three_are : (frame : MathBox) (cells : List ℤ) (f g h : Offset) (marks : List Mark) → f.kid ≡ 0 → g.kid ≡ 1 → h.kid ≡ 2 → length e.seen.kids ≡ 3
-      → AreAll (outcome_with e frame cells (f ∷ g ∷ h ∷ []) marks)
+  three_are : (frame : MathBox) (cells : List ℤ) (spans : List CellSpan) (f g h : Offset) (marks : List Mark) → f.kid ≡ 0 → g.kid ≡ 1 → h.kid ≡ 2 → length e.seen.kids ≡ 3
+      → AreAll (outcome_with e frame cells spans (f ∷ g ∷ h ∷ []) marks)
   unfolding outcome_with
-  three_are frame cells f g h marks p q r n =
+  three_are frame cells spans f g h marks p q r n =
       ap (λ (a : ℕ). a ∷ g.kid ∷ h.kid ∷ []) p ∙ ap (λ (b : ℕ). 0 ∷ b ∷ h.kid ∷ []) q ∙ ap (λ (c : ℕ). 0 ∷ 1 ∷ c ∷ []) r ∙ three_places ∙ ap places (sym n)
 
-  all_are : (frame : MathBox) (cells : List ℤ) (f : ℕ → Offset) (marks : List Mark) → ((i : ℕ) → (f i).kid ≡ i)
-      → AreAll (outcome_with e frame cells (list_to (length e.seen.kids) f) marks)
+  all_are : (frame : MathBox) (cells : List ℤ) (spans : List CellSpan) (f : ℕ → Offset) (marks : List Mark) → ((i : ℕ) → (f i).kid ≡ i)
+      → AreAll (outcome_with e frame cells spans (list_to (length e.seen.kids) f) marks)
   unfolding outcome_with
-  all_are frame cells f marks h = listed_places (length e.seen.kids) f h
+  all_are frame cells spans f marks h = listed_places (length e.seen.kids) f h
 
   one_of : (b : Bool) (one two : Outcome) → AreAll one → AreAll two → AreAll (cond b one two)
   one_of true one two h k = h
@@ -103,32 +104,32 @@ module _ (e : Element) where
 
   scripts_are : AreAll (multi_outcome e)
   unfolding multi_outcome
-  scripts_are = all_are _ _ _ _ (λ i. refl)
+  scripts_are = all_are _ _ _ _ _ (λ i. refl)
 
   pub offsets_are : (kind : Kind) → IsCounted kind e.seen → AreAll (outcome_by kind e)
   unfolding outcome_by
-  offsets_are Merror c = all_are _ _ _ _ (λ i. refl)
-  offsets_are Mfrac c = two_are _ _ _ _ _ refl refl c.counted
+  offsets_are Merror c = all_are _ _ _ _ _ (λ i. refl)
+  offsets_are Mfrac c = two_are _ _ _ _ _ _ refl refl c.counted
   offsets_are Mi c = leaf_are (c.childless refl)
   offsets_are Mmultiscripts c = scripts_are
   offsets_are Mn c = leaf_are (c.childless refl)
   offsets_are Mo c = operator_are (c.childless refl)
-  offsets_are Mover c = one_of (has_moved_limits e.metrics e.seen e.context) (sup_outcome e) (over_outcome e) (two_are _ _ _ _ _ refl refl c.counted) (two_are _ _ _ _ _ refl refl c.counted)
-  offsets_are Mpadded c = all_are _ _ _ _ (λ i. refl)
-  offsets_are Mroot c = two_are _ _ _ _ _ refl refl c.counted
+  offsets_are Mover c = one_of (has_moved_limits e.metrics e.seen e.context) (sup_outcome e) (over_outcome e) (two_are _ _ _ _ _ _ refl refl c.counted) (two_are _ _ _ _ _ _ refl refl c.counted)
+  offsets_are Mpadded c = all_are _ _ _ _ _ (λ i. refl)
+  offsets_are Mroot c = two_are _ _ _ _ _ _ refl refl c.counted
   offsets_are Ms c = leaf_are (c.childless refl)
   offsets_are Mspace c = space_are (c.childless refl)
-  offsets_are Msqrt c = all_are _ _ _ _ (λ i. refl)
-  offsets_are Msub c = two_are _ _ _ _ _ refl refl c.counted
-  offsets_are Msubsup c = three_are _ _ _ _ _ _ refl refl refl c.counted
-  offsets_are Msup c = two_are _ _ _ _ _ refl refl c.counted
-  offsets_are Mtable c = all_are _ _ _ _ (λ i. refl)
-  offsets_are Mtd c = all_are _ _ _ _ (λ i. refl)
+  offsets_are Msqrt c = all_are _ _ _ _ _ (λ i. refl)
+  offsets_are Msub c = two_are _ _ _ _ _ _ refl refl c.counted
+  offsets_are Msubsup c = three_are _ _ _ _ _ _ _ refl refl refl c.counted
+  offsets_are Msup c = two_are _ _ _ _ _ _ refl refl c.counted
+  offsets_are Mtable c = all_are _ _ _ _ _ (λ i. refl)
+  offsets_are Mtd c = all_are _ _ _ _ _ (λ i. refl)
   offsets_are Mtext c = leaf_are (c.childless refl)
-  offsets_are Mtr c = all_are _ _ _ _ (λ i. refl)
-  offsets_are Munder c = one_of (has_moved_limits e.metrics e.seen e.context) (sub_outcome e) (under_outcome e) (two_are _ _ _ _ _ refl refl c.counted) (two_are _ _ _ _ _ refl refl c.counted)
-  offsets_are Munderover c = one_of (has_moved_limits e.metrics e.seen e.context) (sub_sup_outcome e) (under_over_outcome e) (three_are _ _ _ _ _ _ refl refl refl c.counted) (three_are _ _ _ _ _ _ refl refl refl c.counted)
-  offsets_are other c = all_are _ _ _ _ (λ i. refl)
+  offsets_are Mtr c = all_are _ _ _ _ _ (λ i. refl)
+  offsets_are Munder c = one_of (has_moved_limits e.metrics e.seen e.context) (sub_outcome e) (under_outcome e) (two_are _ _ _ _ _ _ refl refl c.counted) (two_are _ _ _ _ _ _ refl refl c.counted)
+  offsets_are Munderover c = one_of (has_moved_limits e.metrics e.seen e.context) (sub_sup_outcome e) (under_over_outcome e) (three_are _ _ _ _ _ _ _ refl refl refl c.counted) (three_are _ _ _ _ _ _ _ refl refl refl c.counted)
+  offsets_are other c = all_are _ _ _ _ _ (λ i. refl)
 
 -- ---- of a tree
 

@@ -11,8 +11,10 @@ use Rattle.fixed_units.proofs.Stored.{box_within}
 use Rattle.fixed_units.proofs.Sums.{length-list_to}
 use Rattle.fixed_units.proofs.Within.{max_in, natural_in, widened}
 use Rattle.math_tables.specs.Columns.{column_at, column_count, columns_of, widest}
-use Rattle.layout_model.specs.Questions.{columns_over}
-use Rattle.layout_model.specs.Range.{answer_fits}
+use Rattle.span_tables.specs.Bounds.{IsSpanStored}
+use Rattle.span_tables.specs.declared.cells.CellSpan.{CellSpan}
+use Rattle.layout_model.specs.Range.{answer_fits, span_fits}
+use Rattle.layout_model.specs.Tables.{columns_over}
 use Rattle.layout_model.specs.declared.outcome.Answer.{Answer}
 
 -- ---- numbers and answers
@@ -26,6 +28,7 @@ pub record IsAnswerStored (answer : Answer) : Type 0 where
   pub before : IsWithin farthest answer.before
   pub after : IsWithin farthest answer.after
   pub cells : All (IsWithin farthest) answer.cells
+  pub spans : All IsSpanStored answer.spans
 
 numbers_within : (numbers : List ℤ) → list_all is_stored numbers ≡ true → All (IsWithin farthest) numbers
 numbers_within [] e = All-nil (IsWithin farthest)
@@ -33,10 +36,22 @@ numbers_within (z ∷ numbers) e =
     let parts = and_parts (is_stored z) (list_all is_stored numbers) e in
     All-cons (IsWithin farthest) z numbers (number_within z parts.0) (numbers_within numbers parts.1)
 
+span_stored : (span : CellSpan) → span_fits span ≡ true → IsSpanStored span
+span_stored span e =
+    let parts = and_parts (is_stored span.ascent) (is_stored span.descent) e in
+    record { ascent = number_within span.ascent parts.0; descent = number_within span.descent parts.1 }
+
+spans_stored : (spans : List CellSpan) → list_all span_fits spans ≡ true → All IsSpanStored spans
+spans_stored [] e = All-nil IsSpanStored
+spans_stored (span ∷ spans) e =
+    let parts = and_parts (span_fits span) (list_all span_fits spans) e in
+    All-cons IsSpanStored span spans (span_stored span parts.0) (spans_stored spans parts.1)
+
 pub answer_stored : (answer : Answer) → answer_fits answer ≡ true → IsAnswerStored answer
 unfolding answer_fits
 answer_stored a e =
-    let all = and_parts (is_box_stored a.frame && is_stored a.before && is_stored a.after) (list_all is_stored a.cells) e in
+    let whole = and_parts (is_box_stored a.frame && is_stored a.before && is_stored a.after && list_all is_stored a.cells) (list_all span_fits a.spans) e in
+    let all = and_parts (is_box_stored a.frame && is_stored a.before && is_stored a.after) (list_all is_stored a.cells) whole.0 in
     let last = and_parts (is_box_stored a.frame && is_stored a.before) (is_stored a.after) all.0 in
     let two = and_parts (is_box_stored a.frame) (is_stored a.before) last.0 in
     record {
@@ -44,6 +59,7 @@ answer_stored a e =
       before = number_within a.before two.1;
       after = number_within a.after last.1;
       cells = numbers_within a.cells all.1;
+      spans = spans_stored a.spans whole.1;
     }
 
 pub answers_stored : (answers : List Answer) → AllPass answer_fits answers → All IsAnswerStored answers
@@ -87,13 +103,14 @@ column_in (row ∷ rows) place all =
     cell_in row.cells place (column_at (map cells_of rows) place) (All-head IsAnswerStored row rows all).cells
     (column_in rows place (All-tail IsAnswerStored row rows all))
 
-listed_in : (n : ℕ) (f : ℕ → ℤ) → ((i : ℕ) → IsWithin farthest (f i)) → All (IsWithin farthest) (list_to n f)
+pub all_places : {A : Type 0} (P : A → Type 0) (n : ℕ) (f : ℕ → A) → ((i : ℕ) → P (f i)) → All P (list_to n f)
 unfolding list_to
-listed_in zero f h = All-nil (IsWithin farthest)
-listed_in (suc n) f h = All-append (IsWithin farthest) (list_to n f) (f n ∷ []) (listed_in n f h) (All-cons (IsWithin farthest) (f n) [] (h n) (All-nil (IsWithin farthest)))
+all_places P zero f h = All-nil P
+all_places P (suc n) f h =
+    All-append P (list_to n f) (f n ∷ []) (all_places P n f h) (All-cons P (f n) [] (h n) (All-nil P))
 
 pub columns_in : (rows : List Answer) → AllPass answer_fits rows → All (IsWithin farthest) (columns_over rows)
 unfolding columns_of
 columns_in rows fit =
-    listed_in (column_count (map cells_of rows)) (λ place. widest (column_at (map cells_of rows) place))
+    all_places (IsWithin farthest) (column_count (map cells_of rows)) (λ place. widest (column_at (map cells_of rows) place))
     (λ place. widest_in (column_at (map cells_of rows) place) (column_in rows place (answers_stored rows fit)))

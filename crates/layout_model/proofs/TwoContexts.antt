@@ -30,7 +30,7 @@ use Rattle.layout_model.specs.declared.asking.Asking.TheVariants.{Plainly}
 use Rattle.layout_model.specs.declared.context.Context.{Context}
 use Rattle.layout_model.specs.declared.context.Question.{Question}
 use Rattle.layout_model.specs.declared.context.Stretch.{Stretch}
-use Rattle.layout_model.specs.declared.context.Stretch.TheVariants.{None as Unstretched, Block as Upright, Inline as Sideways, Columns}
+use Rattle.layout_model.specs.declared.context.Stretch.TheVariants.{None as Unstretched, Block as Upright, Inline as Sideways, Columns, Slots}
 use Rattle.layout_model.specs.declared.outcome.Answer.{Answer}
 use Rattle.layout_model.proofs.Alike.{HasPlace, all_placed, flag_is, handed_down, unstretched_is}
 use Rattle.layout_model.proofs.Carried.{axis_of, carries, kid_at}
@@ -112,10 +112,13 @@ same_axis : (m : MetricsValue) (own : Facts) (form : Form) (s t : Stretch) → i
 unfolding pull_of
 same_axis m own form Unstretched t r h k a b = ap (λ (x : Stretch). axis_of (pull_of x)) (a refl)
 same_axis m own form (Columns widths) t r h k a b = absurd (true≢false (sym (ap is_table_row h) ∙ r))
+same_axis m own form (Slots numbers) t r h k a b = absurd (true≢false (sym (ap is_table_row h) ∙ r))
 same_axis m own form (Upright x y) Unstretched r h k a b = ap (λ (s : Stretch). axis_of (pull_of s)) (b refl)
 same_axis m own form (Sideways x) Unstretched r h k a b = ap (λ (s : Stretch). axis_of (pull_of s)) (b refl)
 same_axis m own form (Upright x y) (Columns widths) r h k a b = absurd (true≢false (sym (ap is_table_row k) ∙ r))
 same_axis m own form (Sideways x) (Columns widths) r h k a b = absurd (true≢false (sym (ap is_table_row k) ∙ r))
+same_axis m own form (Upright x y) (Slots numbers) r h k a b = absurd (true≢false (sym (ap is_table_row k) ∙ r))
+same_axis m own form (Sideways x) (Slots numbers) r h k a b = absurd (true≢false (sym (ap is_table_row k) ∙ r))
 same_axis m own form (Upright x y) (Upright z w) r h k a b = refl
 same_axis m own form (Sideways x) (Sideways z) r h k a b = refl
 same_axis m own form (Upright x y) (Sideways z) r h k a b = absurd (only_axis (same_Some Upwards Along (sym h.along ∙ k.along)))

@@ -1,5 +1,5 @@
 -- An element over both waves: its layout, and what is made for it.
-use Rattle.std.proofs.Common.{◌≡◌, ◌∙◌, refl, sym, ap, subst, ◌+◌, arith, Bool, true, false, ◌&&◌, List, ◌++◌, length, map, All}
+use Rattle.std.proofs.Common.{◌≡◌, ◌∙◌, refl, sym, ap, subst, ℕ, ◌+◌, ◌≤◌, arith, Bool, true, false, ◌&&◌, List, [], ◌++◌, length, map, All}
 use Rattle.std.proofs.lemmas.Grind.{flat_map-append}
 use Rattle.std.proofs.lemmas.List.{length-append, length-map}
 use Rattle.std.proofs.lemmas.List.Elements.{All-append}
@@ -20,7 +20,10 @@ use Rattle.layout_model.specs.declared.outcome.Answer.{Answer}
 use Rattle.layout_model.proofs.Asked.{IsQuestionStored, first_stored, second_stored}
 use Rattle.layout_model.proofs.Places.{first_below, second_below}
 use Rattle.layout_model.proofs.Trees.{lay_is, visits_are}
+use Rattle.layout_model.specs.Waves.{times_asked}
+use Rattle.layout_model.proofs.Counted.{each_wave}
 use Rattle.layout_model.proofs.Fits.{range_is}
+use Rattle.layout_model.proofs.Together.{AreApart}
 use Rattle.layout_model.proofs.Waves.{all_fit, count_below}
 
 module _ (m : MetricsValue) (node shown : Node) (context : Context) (e : shown ≡ node) (ones : List Question) (o : ones ≡ first m (seen_of shown) context) where
@@ -29,6 +32,13 @@ module _ (m : MetricsValue) (node shown : Node) (context : Context) (e : shown �
 
   pub ones_below : All (IsBelow (length (seen_of node).kids)) ones
   ones_below = subst (All (IsBelow (length (seen_of node).kids))) (sym ones_are) (first_below m (seen_of node) context)
+
+  ones_once : (kid : ℕ) → times_asked kid ones ≤ 1
+  ones_once kid =
+      subst (λ (asks : List Question). times_asked kid asks ≤ 1) (sym ones_are) (each_wave m (seen_of node) context [] kid).0
+
+  pub ones_apart : AreApart (length (seen_of node).kids) ones
+  ones_apart = record { below = ones_below; once = ones_once }
 
   pub ones_stored : IsStretch context.stretch → All IsQuestionStored ones
   ones_stored h = subst (All IsQuestionStored) (sym ones_are) (first_stored m (seen_of node) context h)
@@ -46,8 +56,16 @@ module _ (m : MetricsValue) (node shown : Node) (context : Context) (e : shown �
     pub twos_below : All (IsBelow (length (seen_of node).kids)) twos
     twos_below = subst (All (IsBelow (length (seen_of node).kids))) (sym (t ∙ ap (λ (n : Node). second m (seen_of n) context one) e)) (second_below m (seen_of node) context one)
 
+    twos_once : (kid : ℕ) → times_asked kid twos ≤ 1
+    twos_once kid =
+        subst (λ (asks : List Question). times_asked kid asks ≤ 1) (sym (t ∙ ap (λ (n : Node). second m (seen_of n) context one) e))
+        (each_wave m (seen_of node) context one kid).1
+
+    pub twos_apart : AreApart (length (seen_of node).kids) twos
+    twos_apart = record { below = twos_below; once = twos_once }
+
     pub twos_stored : AreAnswers one → All IsQuestionStored twos
-    twos_stored h = subst (All IsQuestionStored) (sym (t ∙ ap (λ (n : Node). second m (seen_of n) context one) e)) (second_stored m (seen_of node) context one h.fit)
+    twos_stored h = subst (All IsQuestionStored) (sym (t ∙ ap (λ (n : Node). second m (seen_of n) context one) e)) (second_stored m (seen_of node) context one h)
 
     pub questions_are : questions m (seen_of node) context (answer_of m node) ≡ ones ++ twos
     unfolding questions

@@ -57,6 +57,7 @@ use Rattle.layout_model.specs.Elements.{offset, outcome_with, row_frame, row_in}
 use Rattle.layout_model.specs.Equations.{corner_at, limit_case, outcome_by, space_outcome, thickness_of}
 use Rattle.layout_model.specs.Layout.{Subtree, equation, last_answers, lay, lay_by, over, subtree}
 use Rattle.layout_model.specs.Questions.{asking, asking_of, base_properties, first, first_asks, kid_pulls, second, second_asks}
+use Rattle.layout_model.specs.Tables.{table_columns, table_rows}
 use Rattle.layout_model.specs.declared.context.Context.{Context}
 use Rattle.layout_model.specs.declared.context.Stretch.TheVariants.{None as Unstretched}
 use Rattle.layout_model.specs.declared.outcome.Answer.{Answer}
@@ -155,7 +156,7 @@ box width ascent descent ink_ascent ink_descent accent = record {
 }
 
 abbrev answer : MathBox → ℤ → List ℤ → Answer
-answer frame space cells = record { frame = frame; before = space; after = space; cells = cells }
+answer frame space cells = record { frame = frame; before = space; after = space; cells = cells; spans = [] }
 
 -- the digit 1 at 16 px, at 12 px and at 8 px, x at 16 px, and a space of 10 px above the baseline
 abbrev one : Answer
@@ -230,7 +231,7 @@ limits-sum = refl
 pub table-three_rows : equation sample (element (plain Mtable) (child Mtr ∷ child Mtr ∷ child Mtr ∷ [])) in_text (row ∷ row ∷ row ∷ []) (row ∷ row ∷ row ∷ [])
     ≡ made (box (pos 63900) (pos 45184) (pos 36992) (pos 45184) (pos 36992) (pos 31950)) (pos 0)
     (offset 0 (pos 0) (neg_ℤ (pos 26688)) ∷ offset 1 (pos 0) (pos 704) ∷ offset 2 (pos 0) (pos 28096) ∷ []) []
-unfolding equation last_answers last_answer first second asking asking_of kid_pulls kid_axis stretch_axis pull_of first_asks second_asks asks_from planned outcome_by outcome_with size_of columns_of table_ascent_of baseline_of top_of_row start_of sum_to constant_of scale_of rounded list_to halved
+unfolding equation last_answers last_answer first second asking asking_of kid_pulls kid_axis stretch_axis pull_of first_asks second_asks asks_from planned outcome_by outcome_with size_of table_rows table_columns columns_of table_ascent_of baseline_of top_of_row start_of sum_to constant_of scale_of rounded list_to halved
 table-three_rows = refl
 
 -- ---- a whole tree: a fraction of two spaces

@@ -8,7 +8,7 @@ use Rattle.layout_model.specs.declared.reply.Reply.{Reply}
 
 -- what stands for the answer of a child that wasn't asked: a box of zeros
 abbrev pub no_answer : Answer
-no_answer = record { frame = empty_box; before = pos 0; after = pos 0; cells = [] }
+no_answer = record { frame = empty_box; before = pos 0; after = pos 0; cells = []; spans = [] }
 
 -- the answers to a child, where each question has its answer at the same place
 abbrev pub answers_to : ℕ → List Question → List Answer → List Answer

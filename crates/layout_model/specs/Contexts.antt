@@ -18,16 +18,17 @@ use Rattle.style_scope.specs.declared.style.Place.{Place}
 use Rattle.style_scope.specs.declared.style.Style.{Style}
 use Rattle.layout_model.specs.declared.context.Context.{Context}
 use Rattle.layout_model.specs.declared.context.Stretch.{Stretch}
-use Rattle.layout_model.specs.declared.context.Stretch.TheVariants.{None as Unstretched, Block as Upright, Inline as Sideways, Columns}
+use Rattle.layout_model.specs.declared.context.Stretch.TheVariants.{None as Unstretched, Block as Upright, Inline as Sideways, Columns, Slots}
 
 -- ---- what stretches
 
--- the pull on a row, a base or an operator: columns pull none of them
+-- the pull on a row, a base or an operator: columns and slots pull none of them
 unfoldable pub pull_of : Stretch → Pull
 pull_of Unstretched = Free
 pull_of (Upright ascent descent) = Block ascent descent
 pull_of (Sideways width) = Inline width
 pull_of (Columns widths) = Free
+pull_of (Slots numbers) = Free
 
 unfoldable pub stretch_of : Pull → Stretch
 stretch_of Free = Unstretched

@@ -11,6 +11,7 @@ use Rattle.embellished.specs.Seen.{Seen}
 use Rattle.row_stretch.specs.Equation.{row_of}
 use Rattle.row_stretch.specs.declared.parts.Row.{Row}
 use Rattle.row_stretch.specs.declared.parts.RowKid.{RowKid}
+use Rattle.span_tables.specs.declared.cells.CellSpan.{CellSpan}
 use Rattle.style_scope.specs.Sizes.{size_of}
 use Rattle.layout_model.specs.Answers.{no_answer}
 use Rattle.layout_model.specs.Direction.{turned}
@@ -56,15 +57,15 @@ abbrev pub offset : ℕ → ℤ → ℤ → Offset
 offset kid x y = record { kid = kid; x = x; y = y }
 
 -- an element with this box, its children at these places, and these marks
-unfoldable pub outcome_with : Element → MathBox → List ℤ → List Offset → List Mark → Outcome
-outcome_with e frame cells offsets marks = record {
-  answer = record { frame = frame; before = (spaces_of e).before; after = (spaces_of e).after; cells = cells };
+unfoldable pub outcome_with : Element → MathBox → List ℤ → List CellSpan → List Offset → List Mark → Outcome
+outcome_with e frame cells spans offsets marks = record {
+  answer = record { frame = frame; before = (spaces_of e).before; after = (spaces_of e).after; cells = cells; spans = spans };
   offsets = offsets;
   marks = marks;
 }
 
 abbrev pub outcome : Element → MathBox → List Offset → List Mark → Outcome
-outcome e frame offsets marks = outcome_with e frame [] offsets marks
+outcome e frame offsets marks = outcome_with e frame [] [] offsets marks
 
 -- the child at a place in a box, in the direction of the element
 abbrev pub placed_in : Element → MathBox → ℕ → ℤ → ℤ → Offset

@@ -15,7 +15,7 @@ use Rattle.font_metrics.specs.declared.mark.Mark.{Mark}
 use Rattle.fractions.specs.Placing.{fraction_of}
 use Rattle.fractions.specs.declared.parts.Fraction.{Fraction}
 use Rattle.math_tables.specs.Cells.{cell_of, cell_start_of}
-use Rattle.math_tables.specs.Placing.{row_of_cells_of, row_offsets_of, table_frame_of, table_width_of}
+use Rattle.math_tables.specs.Placing.{row_of_cells_of, row_of_slots_of, row_offsets_of, table_frame_of, table_width_of}
 use Rattle.math_tree.specs.Attributes.{value_of}
 use Rattle.math_tree.specs.declared.kind.Kind.{Kind}
 use Rattle.math_tree.specs.declared.kind.Kind.TheVariants.{Merror, Mfrac, Mi, Mmultiscripts, Mn, Mo, Mover, Mpadded, Mroot, Ms, Mspace, Msqrt, Msub, Msubsup, Msup, Mtable, Mtd, Mtext, Mtr, Munder, Munderover}
@@ -43,10 +43,11 @@ use Rattle.token_boxes.specs.declared.leaf.Leaf.{Leaf}
 use Rattle.layout_model.specs.Contexts.{is_true, kid_axis, kid_style, pull_of}
 use Rattle.layout_model.specs.Direction.{turned, turned_corner, turned_mark, x_of}
 use Rattle.layout_model.specs.Elements.{Element, along, font, frame_at, frames_of, offset, outcome, outcome_with, placed_in, row_frame, row_in}
-use Rattle.layout_model.specs.Questions.{base_properties, columns_over, has_moved_limits}
+use Rattle.layout_model.specs.Questions.{base_properties, has_moved_limits}
 use Rattle.layout_model.specs.Rows.{error_of, border, padded_of, padded_start, padded_rise}
+use Rattle.layout_model.specs.Tables.{spanned, spans_of, table_columns, table_rows}
 use Rattle.layout_model.specs.declared.context.Stretch.{Stretch}
-use Rattle.layout_model.specs.declared.context.Stretch.TheVariants.{Columns}
+use Rattle.layout_model.specs.declared.context.Stretch.TheVariants.{Columns, Slots}
 use Rattle.layout_model.specs.declared.outcome.Offset.{Offset}
 use Rattle.layout_model.specs.declared.outcome.Outcome.{Outcome}
 
@@ -54,7 +55,7 @@ use Rattle.layout_model.specs.declared.outcome.Outcome.{Outcome}
 
 abbrev pub leaf_outcome : Leaf → Outcome
 leaf_outcome leaf = record {
-  answer = record { frame = leaf.frame; before = leaf.before; after = leaf.after; cells = [] };
+  answer = record { frame = leaf.frame; before = leaf.before; after = leaf.after; cells = []; spans = [] };
   offsets = [];
   marks = leaf.marks;
 }
@@ -260,24 +261,28 @@ unless_moved e limits scripts = if has_moved_limits e.metrics e.seen e.context t
 abbrev pub widths_of : Element → List ℤ
 widths_of e = map (λ frame. frame.width) (frames_of e)
 
--- the cells of a row in their columns; without columns, each in one as wide as itself
+-- the cells of a row in their columns or slots; without them, each in a column as wide as itself
 abbrev pub cells_in : Element → Stretch → Row
 cells_in e (Columns (total ∷ widths)) = row_of_cells_of (frames_of e) widths total
+cells_in e (Slots (total ∷ slots)) = row_of_slots_of (frames_of e) slots total
 cells_in e other = row_of_cells_of (frames_of e) (widths_of e) (table_width_of (widths_of e))
 
 unfoldable pub cells_placed : Element → Row
 cells_placed e = cells_in e e.context.stretch
 
 abbrev pub table_row_outcome : Element → Outcome
-table_row_outcome e = outcome_with e (cells_placed e).frame (widths_of e) (along e (cells_placed e) (pos 0) (pos 0)) []
+table_row_outcome e =
+    outcome_with e (spanned (spans_of e) (cells_placed e).frame) (widths_of e) (spans_of e)
+    (along e (cells_placed e) (pos 0) (pos 0)) []
 
 abbrev pub row_at : List ℤ → ℕ → ℤ
 row_at offsets index = slice_index_or offsets index (pos 0)
 
 abbrev pub table_outcome : Element → Outcome
 table_outcome e =
-    let offsets = row_offsets_of e.metrics (frames_of e) (font e) in
-    outcome e (table_frame_of e.metrics (frames_of e) (columns_over e.kids) (font e))
+    let rows = table_rows e.kids in
+    let offsets = row_offsets_of e.metrics rows (font e) in
+    outcome e (table_frame_of e.metrics rows (table_columns e.kids) (font e))
     (list_to (length e.seen.kids) (λ index. offset index (pos 0) (row_at offsets index))) []
 
 -- ---- one arm a kind

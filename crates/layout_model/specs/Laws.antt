@@ -8,6 +8,7 @@ use Rattle.math_tree.specs.declared.node.Node.{Node}
 use Rattle.math_tree.specs.declared.node.Node.TheViews.{out-Node}
 use Rattle.embellished.specs.Seen.{flow_nodes, seen_of}
 use Rattle.layout_model.specs.Answers.{no_answer}
+use Rattle.layout_model.specs.Fits.{AreSpans}
 use Rattle.layout_model.specs.Layout.{Visit, laid, somes, last_context, lay, lay_by, questions, visits}
 use Rattle.layout_model.specs.declared.context.Context.{Context}
 use Rattle.layout_model.specs.declared.context.Question.{Question}
@@ -45,3 +46,7 @@ LaidLaw = (m : MetricsValue) (node : Node) (context : Context) →
       outcome = lay m node context;
       kids = somes (list_to (length (flow_nodes node)) (laid_below m node (questions m (seen_of node) context (answer_of m node))));
     }
+
+-- what cells span is told of all cells of a row or of none, within the limits
+abbrev pub SpansLaw : Type 0
+SpansLaw = (m : MetricsValue) (node : Node) (context : Context) → AreSpans (lay m node context).answer

@@ -33,6 +33,7 @@ use Rattle.layout_model.specs.Layout.{last_answers, lay, root_context}
 use Rattle.layout_model.specs.Made.{IsMade}
 use Rattle.layout_model.specs.Questions.{first, second}
 use Rattle.layout_model.specs.Rows.{border, error_of, padded_of, padded_rise, padded_start}
+use Rattle.layout_model.specs.Tables.{spanned, spans_of}
 use Rattle.layout_model.specs.declared.context.Context.{Context}
 use Rattle.layout_model.specs.declared.context.Question.{Question}
 use Rattle.layout_model.specs.declared.outcome.Answer.{Answer}
@@ -64,7 +65,9 @@ abbrev pub forward_cell : Element → Outcome
 forward_cell e = outcome e (cell_of e.metrics (row_in e).frame (font e)) (forward e (row_in e) (cell_start_of (font e)) (pos 0)) []
 
 abbrev pub forward_table_row : Element → Outcome
-forward_table_row e = outcome_with e (cells_placed e).frame (widths_of e) (forward e (cells_placed e) (pos 0) (pos 0)) []
+forward_table_row e =
+    outcome_with e (spanned (spans_of e) (cells_placed e).frame) (widths_of e) (spans_of e)
+    (forward e (cells_placed e) (pos 0) (pos 0)) []
 
 -- ---- roots
 

@@ -13,4 +13,5 @@ pub mod Made
 pub mod Questions
 pub mod Range
 pub mod Rows
+pub mod Tables
 pub mod Waves

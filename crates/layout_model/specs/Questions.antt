@@ -1,5 +1,5 @@
 -- What an element asks its children, in two waves (MathML Core 3).
-use Rattle.std.specs.Prelude.{ℕ, ◌<◌, ℤ, Bool, true, false, not, ◌&&◌, List, [], ◌∷◌, length, map, take, Option, option_map, slice_get, slice_index_or}
+use Rattle.std.specs.Prelude.{ℕ, ◌<◌, Bool, true, false, not, ◌&&◌, List, [], ◌∷◌, length, map, Option, option_map, slice_get}
 use Rattle.std.specs.Option.{option_and_then, option_map_or}
 use Rattle.fixed_units.specs.Sums.{list_to}
 use Rattle.fixed_units.specs.declared.boxes.MathBox.{MathBox}
@@ -17,16 +17,12 @@ use Rattle.row_stretch.specs.declared.asking.Plan.{Plan}
 use Rattle.row_stretch.specs.declared.parts.Ask.{Ask}
 use Rattle.row_stretch.specs.declared.parts.KidPull.{KidPull}
 use Rattle.scripts.specs.Questions.{first_limit_asks_of, second_limit_asks_of}
-use Rattle.math_tables.specs.Columns.{columns_of}
-use Rattle.math_tables.specs.Placing.{table_width_of}
-use Rattle.layout_model.specs.Answers.{no_answer}
 use Rattle.layout_model.specs.Contexts.{kid_context, kid_pull, pull_of, stretch_of}
+use Rattle.layout_model.specs.Tables.{stretch_at}
 use Rattle.layout_model.specs.declared.asking.Asking.{Asking}
 use Rattle.layout_model.specs.declared.asking.Asking.TheVariants.{Nothing, Plainly, ForTheBase, AsRow, AsLimits, AsTable}
 use Rattle.layout_model.specs.declared.context.Context.{Context}
 use Rattle.layout_model.specs.declared.context.Question.{Question}
-use Rattle.layout_model.specs.declared.context.Stretch.{Stretch}
-use Rattle.layout_model.specs.declared.context.Stretch.TheVariants.{Columns}
 use Rattle.layout_model.specs.declared.outcome.Answer.{Answer}
 
 -- ---- how an element asks
@@ -119,21 +115,9 @@ unfoldable pub first : MetricsValue → Seen → Context → List Question
 first m seen context =
     asked_all m seen context (first_asks (asking m seen context) (kid_pulls m seen context) (pull_of context.stretch))
 
--- the columns of a table, over the answers of its rows
-abbrev pub columns_over : List Answer → List ℤ
-columns_over rows = columns_of (map (λ row. row.cells) rows)
-
-abbrev pub cells_at : List Answer → ℕ → List ℤ
-cells_at rows index = (slice_index_or rows index no_answer).cells
-
--- what a row of a table is asked with: the width of the whole table, and the columns of its own cells
-abbrev pub columns_at : List Answer → ℕ → Stretch
-columns_at rows index =
-    let widths = columns_over rows in
-    Columns (table_width_of widths ∷ take (length (cells_at rows index)) widths)
-
+-- a row of a table is asked with its columns or slots, over the answers of all rows
 abbrev pub row_asked : MetricsValue → Seen → Context → List Answer → ℕ → Question
-row_asked m seen context rows index = record { kid = index; context = kid_context m seen context index (columns_at rows index) }
+row_asked m seen context rows index = record { kid = index; context = kid_context m seen context index (stretch_at rows index) }
 
 abbrev pub rows_asked : MetricsValue → Seen → Context → List Answer → List Question
 rows_asked m seen context rows = list_to (length seen.kids) (row_asked m seen context rows)

@@ -5,6 +5,7 @@ use Rattle.std.specs.List.{list_all}
 use Rattle.fixed_units.specs.Boxes.{is_stored, is_box_stored}
 use Rattle.font_metrics.specs.declared.mark.Mark.{Mark}
 use Rattle.font_metrics.specs.declared.mark.Mark.TheVariants.{Glyph, Rule, Built}
+use Rattle.span_tables.specs.declared.cells.CellSpan.{CellSpan}
 use Rattle.layout_model.specs.declared.outcome.Answer.{Answer}
 use Rattle.layout_model.specs.declared.outcome.Offset.{Offset}
 use Rattle.layout_model.specs.declared.outcome.Outcome.{Outcome}
@@ -12,10 +13,15 @@ use Rattle.layout_model.specs.declared.outcome.Outcome.{Outcome}
 abbrev pub is_font_size : ℤ → Bool
 is_font_size size = int_le (pos 0) size && int_le size (pos (2 ^ 20))
 
--- the box, the spaces round it, and the widths of cells
+-- the heights of a cell
+abbrev pub span_fits : CellSpan → Bool
+span_fits span = is_stored span.ascent && is_stored span.descent
+
+-- the box, the spaces round it, and the widths and heights of cells
 unfoldable pub answer_fits : Answer → Bool
 answer_fits answer =
     is_box_stored answer.frame && is_stored answer.before && is_stored answer.after && list_all is_stored answer.cells
+    && list_all span_fits answer.spans
 
 unfoldable pub offset_fits : Offset → Bool
 offset_fits offset = is_stored offset.x && is_stored offset.y

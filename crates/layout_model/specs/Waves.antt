@@ -19,7 +19,7 @@ use Rattle.layout_model.specs.Questions.{first, second}
 use Rattle.layout_model.specs.declared.context.Context.{Context}
 use Rattle.layout_model.specs.declared.context.Question.{Question}
 use Rattle.layout_model.specs.declared.context.Stretch.{Stretch}
-use Rattle.layout_model.specs.declared.context.Stretch.TheVariants.{None as Unstretched, Block, Inline, Columns}
+use Rattle.layout_model.specs.declared.context.Stretch.TheVariants.{None as Unstretched, Block, Inline, Columns, Slots}
 use Rattle.layout_model.specs.declared.outcome.Answer.{Answer}
 
 -- ---- how often
@@ -43,13 +43,14 @@ pub record StretchesIn (m : MetricsValue) (own : Facts) (form : Form) (axis : Ax
   pub along : stretch_axis own form m.operators ≡ Some axis
   pub by_attribute : IfSome own.core (λ core. unwrap_or core.form form ≡ form)
 
--- what an element may be asked with: a pull, along the axis along which it stretches; columns, where
--- it is a row of a table
+-- what an element may be asked with: a pull, along the axis along which it stretches; columns or slots,
+-- where it is a row of a table
 abbrev pub MayCarry : MetricsValue → Facts → Form → Stretch → Type 0
 MayCarry m own form Unstretched = ⊤
 MayCarry m own form (Block ascent descent) = StretchesIn m own form Upwards
 MayCarry m own form (Inline width) = StretchesIn m own form Along
 MayCarry m own form (Columns widths) = own.laid ≡ Mtr
+MayCarry m own form (Slots numbers) = own.laid ≡ Mtr
 
 -- an element of a tree may be asked so
 abbrev pub MayBeAsked : MetricsValue → Node → Context → Type 0

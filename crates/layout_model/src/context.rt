@@ -22,6 +22,9 @@ pub enum Stretch {
     /// A row of a table to the columns of the table: the width of the whole table, and then that of
     /// the column of each of its cells.
     Columns(List<i64>),
+    /// The same of a table in which a cell spans: the width of the whole table, and then of each cell of
+    /// the row where its slot begins and how wide that is.
+    Slots(List<i64>),
 }
 
 impl Stretch {
@@ -37,13 +40,13 @@ impl Stretch {
         }
     }
 
-    /// What pulls a row, a base or an operator; columns pull none of them.
+    /// What pulls a row, a base or an operator; columns and slots pull none of them.
     #[tactic(auto, unfolding(crate::specs::Contexts::pull_of))]
     pub fn pull(&self) -> Pull
         ensures { result ≡ pull_of self.now }
     {
         match self {
-            Stretch::None | Stretch::Columns(_) => Pull::Free,
+            Stretch::None | Stretch::Columns(_) | Stretch::Slots(_) => Pull::Free,
             Stretch::Block(ascent, descent) => Pull::Block(*ascent, *descent),
             Stretch::Inline(width) => Pull::Inline(*width),
         }
@@ -63,11 +66,14 @@ impl Stretch {
             (Stretch::Columns(widths), Stretch::Columns(others)) => {
                 widths.as_slice() == others.as_slice()
             }
+            (Stretch::Slots(numbers), Stretch::Slots(others)) => {
+                numbers.as_slice() == others.as_slice()
+            }
             _ => false,
         }
     }
 
-    /// The same again. Only columns take memory.
+    /// The same again. Only columns and slots take memory.
     pub fn copy(&self, alloc: Global) -> Result<Stretch, Memory>
         ensures { IfOk result (λ copied. copied ≡ self.now) }
     {
@@ -76,6 +82,7 @@ impl Stretch {
             Stretch::Block(up, down) => Ok(Stretch::Block(*up, *down)),
             Stretch::Inline(width) => Ok(Stretch::Inline(*width)),
             Stretch::Columns(widths) => Ok(Stretch::Columns(widths.copy(alloc)?)),
+            Stretch::Slots(numbers) => Ok(Stretch::Slots(numbers.copy(alloc)?)),
         }
     }
 }
@@ -113,7 +120,7 @@ impl Context {
             && self.stretch.is_same(&other.stretch)
     }
 
-    /// The same again. Only columns take memory.
+    /// The same again. Only columns and slots take memory.
     pub fn copy(&self, alloc: Global) -> Result<Context, Memory>
         ensures { IfOk result (λ copied. copied ≡ self.now) }
     {

@@ -5,7 +5,7 @@
 ghost use Rattle.layout_model.specs.Cornerless.{CornerlessLaw};
 ghost use Rattle.layout_model.specs.Direction.{TwiceLaw};
 ghost use Rattle.layout_model.specs.Laid.{DrawnLaw, LaidKidsLaw, LevelsLaw, OffsetsLaw, StoredLaw};
-ghost use Rattle.layout_model.specs.Laws.{LaidLaw, LayoutLaw, VisitsLaw};
+ghost use Rattle.layout_model.specs.Laws.{LaidLaw, LayoutLaw, SpansLaw, VisitsLaw};
 ghost use Rattle.layout_model.specs.LeftToRight.{LeftToRightLaw};
 ghost use Rattle.layout_model.specs.Made.{MadeLaw, ReadsLaw, TwoContextsLaw};
 ghost use Rattle.layout_model.specs.Waves.{AlikeLaw, AskedLaw, EachWaveLaw, HandedLaw, OnceLaw, PlainLaw};
@@ -13,6 +13,12 @@ ghost use Rattle.layout_model.specs.Waves.{AlikeLaw, AskedLaw, EachWaveLaw, Hand
 /// An element is laid out by its equation, over the layouts of its children in flow.
 pub fn an_element_is_its_equation_over_its_children()
     ensures { LayoutLaw }
+{}
+
+/// The answer of a row tells of all its cells what they span, or of none, and within the limits; that
+/// of another element tells of none.
+pub fn spans_are_told_of_all_cells()
+    ensures { SpansLaw }
 {}
 
 /// Where no glyph has a kern, scripts are laid out without corners: every tree has the boxes that it had
@@ -73,7 +79,7 @@ pub fn who_is_no_operator_is_asked_plainly()
 {}
 
 /// Only operators are asked with a pull, along the axis along which they stretch, and only rows of
-/// tables with columns.
+/// tables with columns or slots.
 pub fn operators_alone_are_stretched()
     ensures { HandedLaw }
 {}

@@ -17,9 +17,11 @@ mod laid; // Laid
 pub mod laws; // what holds of all elements and trees
 mod outcome; // Answer, Offset, Outcome
 mod reply; // Reply
+mod tables; // the cells of a table
 
 pub use asking::Asking;
 pub use context::{Context, Question, Stretch};
 pub use laid::Laid;
 pub use outcome::{Answer, Offset, Outcome};
 pub use reply::{Answered, Reply};
+pub use tables::{cells_of_rows, has_spans};

@@ -3,6 +3,7 @@ ghost use Rattle.layout_model.specs.Answers.{no_answer};
 
 use fixed_units::{List, MathBox, Memory};
 use font_metrics::Mark;
+use span_tables::CellSpan;
 use std::alloc::Global;
 
 /// What the layout of an element tells its parent. Lengths are in units (1/1024 px).
@@ -15,6 +16,8 @@ pub struct Answer {
     pub after: i64,
     /// Of a row of a table the widths of its cells, in order.
     pub cells: List<i64>,
+    /// The same of what they span, where one of them spans more than its own place; else none.
+    pub spans: List<CellSpan>,
 }
 
 impl Answer {
@@ -27,13 +30,14 @@ impl Answer {
 
     /// That of a box, with no space round it, and no cells. It takes no memory.
     pub fn of_box(alloc: Global, frame: MathBox) -> Answer
-        ensures { result ≡ record { frame = frame; before = pos 0; after = pos 0; cells = [] } }
+        ensures { result ≡ record { frame = frame; before = pos 0; after = pos 0; cells = []; spans = [] } }
     {
         Answer {
             frame,
             before: 0,
             after: 0,
             cells: List::make(alloc),
+            spans: List::make(alloc),
         }
     }
 
@@ -46,18 +50,19 @@ impl Answer {
             before: self.before,
             after: self.after,
             cells: copied(alloc, &self.cells)?,
+            spans: copied(alloc, &self.spans)?,
         })
     }
 }
 
-/// The same widths of cells again. Most elements have none.
-fn copied(alloc: Global, cells: &List<i64>) -> Result<List<i64>, Memory>
-    ensures { IfOk result (λ copied. copied ≡ cells.now) }
+/// The same items again. Most elements have no cells.
+fn copied<T: Copy>(alloc: Global, items: &List<T>) -> Result<List<T>, Memory>
+    ensures { IfOk result (λ copied. copied ≡ items.now) }
 {
-    if cells.is_empty() {
+    if items.is_empty() {
         Ok(List::make(alloc))
     } else {
-        cells.copy(alloc)
+        items.copy(alloc)
     }
 }
 

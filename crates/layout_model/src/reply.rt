@@ -46,6 +46,15 @@ impl Answered for Answer {
     }
 }
 
+/// An answer that is held elsewhere.
+impl<'a> Answered for &'a Answer {
+    ghost told = { λ answer. answer.now };
+
+    fn answer(&self) -> &Answer {
+        self
+    }
+}
+
 /// An answer beside its question.
 impl Answered for Reply {
     ghost told = { λ reply. reply.answer };

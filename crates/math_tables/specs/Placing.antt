@@ -1,7 +1,7 @@
 -- Where the cells of a row stand along their columns, and the rows of a table one under the other.
-use Rattle.std.specs.Prelude.{ℕ, ℤ, pos, ◌+ℤ◌, ◌-ℤ◌, List, length, slice_index_or}
+use Rattle.std.specs.Prelude.{ℕ, ◌+◌, ◌*◌, ◌^◌, ℤ, pos, ◌+ℤ◌, ◌-ℤ◌, List, length, slice_index_or}
 use Rattle.fixed_units.specs.Boxes.{empty_box, all_joined}
-use Rattle.fixed_units.specs.Numbers.{halved}
+use Rattle.fixed_units.specs.Numbers.{IsWithin, halved}
 use Rattle.fixed_units.specs.Sums.{sum_to, list_to}
 use Rattle.fixed_units.specs.declared.boxes.MathBox.{MathBox}
 use Rattle.font_metrics.specs.Metrics.{MetricsValue, constant_of}
@@ -34,7 +34,38 @@ row_of_cells_of cells widths total = record {
   offsets = cell_offsets_of cells widths;
 }
 
+-- ---- along a row whose cells have slots
+
+-- where the cell at a place begins: in the middle of its slot. Of each slot the list has where it
+-- begins, and then how wide it is
+unfoldable pub slot_x_of : List MathBox → List ℤ → ℕ → ℤ
+slot_x_of cells slots place =
+    width_at slots (2 * place)
+    +ℤ halved (width_at slots (2 * place + 1) -ℤ (frame_at cells place).width)
+
+abbrev pub slot_offsets_of : List MathBox → List ℤ → List ℤ
+slot_offsets_of cells slots = list_to (length cells) (slot_x_of cells slots)
+
+abbrev pub row_of_slots_of : List MathBox → List ℤ → ℤ → Row
+row_of_slots_of cells slots total = record {
+  frame = record (all_joined cells) { width = total; italic = pos 0; accent = halved total };
+  offsets = slot_offsets_of cells slots;
+}
+
 -- ---- down a table
+
+-- how far a row may reach up and down: cells over several rows may make the last of them deeper than
+-- any box that can be stored
+pub record HasHeights (row : MathBox) : Type 0 where
+  pub ascent : IsWithin (2 ^ 44) row.ascent
+  pub descent : IsWithin (2 ^ 44) row.descent
+
+-- how many columns a table may have, and how wide one may be
+abbrev pub most_columns : ℕ
+most_columns = 2 ^ 22
+
+abbrev pub IsColumn : ℤ → Type 0
+IsColumn width = IsWithin (2 ^ 36) width
 
 abbrev pub height_of : MathBox → ℤ
 height_of row = row.ascent +ℤ row.descent

@@ -1,8 +1,8 @@
 //! Tables: the box of a cell, the widths of columns, and where cells and rows stand.
 //!
 //! `cell` adds the padding of a cell, `columns` gives each column the width of its widest cell,
-//! `row_of_cells` sets the cells of a row in the middle of their columns, and `table_finish` sets the
-//! rows one under the other, round the axis.
+//! `row_of_cells` sets the cells of a row in the middle of their columns, `row_of_slots` in the middle
+//! of slots that are given, and `table_finish` sets the rows one under the other, round the axis.
 //!
 //! - Models: MathML Core 3.5, "Tabular Math", and the padding that its style sheet gives `mtd`; what
 //!   Core leaves to CSS is this project's own.
@@ -16,10 +16,10 @@
 mod cells; // cell
 mod widths; // columns
 pub mod laws; // the middle, side by side, one under the other
-mod placing; // row_of_cells, table_finish
+mod placing; // row_of_cells, row_of_slots, table_finish
 mod totals; // sums over lists
 
 pub use cells::{cell, cell_start};
-pub use placing::{row_of_cells, table_finish};
+pub use placing::{row_of_cells, row_of_slots, table_finish};
 pub use totals::total_width;
 pub use widths::columns;

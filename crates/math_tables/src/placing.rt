@@ -1,8 +1,8 @@
-ghost use Rattle.std.specs.Prelude.{◌≡◌, ◌≤◌, ◌^◌, length, IfOk, pos, ◌≤ℤ◌};
+ghost use Rattle.std.specs.Prelude.{◌≡◌, ◌+◌, ◌*◌, ◌<◌, ◌≤◌, ◌^◌, length, IfOk, pos, ◌+ℤ◌, ◌-ℤ◌, ◌≤ℤ◌};
 ghost use Rattle.std.specs.List.{All};
 ghost use Rattle.fixed_units.specs.Boxes.{IsStored, farthest};
-ghost use Rattle.fixed_units.specs.Numbers.{IsWithin};
-ghost use Rattle.math_tables.specs.Placing.{width_at, cell_offsets_of, row_of_cells_of, baselines_below, row_offsets_of, table_frame_of};
+ghost use Rattle.fixed_units.specs.Numbers.{IsWithin, halved};
+ghost use Rattle.math_tables.specs.Placing.{HasHeights, IsColumn, most_columns, width_at, cell_offsets_of, row_of_cells_of, slot_offsets_of, row_of_slots_of, baselines_below, row_offsets_of, table_frame_of};
 
 use crate::totals::{height, total_height, total_width};
 use fixed_units::{List, MathBox, Memory, half, join_all};
@@ -33,6 +33,72 @@ pub fn row_of_cells(
         },
         offsets,
     })
+}
+
+/// Sets the cells of a row in the middle of their slots. Of each slot `slots` has where it begins, and
+/// then how wide it is. `total` is the width of the table.
+pub fn row_of_slots(
+    alloc: Global,
+    cells: &List<MathBox>,
+    slots: &[i64],
+    total: i64,
+) -> Result<Row, Memory>
+    requires few { length cells.now ≤ 65_536 }
+    requires cells_fit { All IsStored cells.now }
+    requires slots_within { All (IsWithin (2 ^ 60)) slots.now }
+    ensures value { IfOk result (λ row. row ≡ row_of_slots_of cells.now slots.now total) }
+    ensures within { IfOk result (λ row. All (IsWithin (2 ^ 61)) row.offsets) }
+{
+    let offsets = slot_offsets(alloc, cells.as_slice(), slots)?;
+    let all = join_all(cells.as_slice());
+    Ok(Row {
+        frame: MathBox {
+            width: total,
+            italic: 0,
+            accent: half(total),
+            ..all
+        },
+        offsets,
+    })
+}
+
+/// Where cells begin that stand in the middle of slots.
+fn slot_offsets(alloc: Global, cells: &[MathBox], slots: &[i64]) -> Result<List<i64>, Memory>
+    requires few { length cells.now ≤ 65_536 }
+    requires cells_fit { All IsStored cells.now }
+    requires slots_within { All (IsWithin (2 ^ 60)) slots.now }
+    ensures value { IfOk result (λ offsets. offsets ≡ slot_offsets_of cells.now slots.now) }
+    ensures within { IfOk result (All (IsWithin (2 ^ 61))) }
+{
+    let mut offsets = List::make(alloc);
+    for (place, cell) in cells.iter().enumerate() {
+        offsets.push(slot_x(cell, slots, place))?;
+    }
+    Ok(offsets)
+}
+
+/// Where the cell at a place begins: in the middle of its slot.
+fn slot_x(cell: &MathBox, slots: &[i64], place: usize) -> i64
+    requires place_in { place < 65_536 }
+    requires cell_fits { IsStored cell.now }
+    requires slots_within { All (IsWithin (2 ^ 60)) slots.now }
+    ensures value { result ≡ width_at slots.now (2 * place)
+        +ℤ halved (width_at slots.now (2 * place + 1) -ℤ cell.now.width) }
+    ensures within { IsWithin (2 ^ 61) result }
+{
+    number_at(slots, 2 * place) + half(number_at(slots, 2 * place + 1) - cell.width)
+}
+
+/// The number at a place; without one, 0.
+fn number_at(slots: &[i64], place: usize) -> i64
+    requires { All (IsWithin (2 ^ 60)) slots.now }
+    ensures value { result ≡ width_at slots.now place }
+    ensures within { IsWithin (2 ^ 60) result }
+{
+    match slots.get(place) {
+        Some(number) => *number,
+        None => 0,
+    }
 }
 
 /// Where cells begin that stand in the middle of columns of these widths.
@@ -74,9 +140,9 @@ pub fn table_finish(
     metrics: &Metrics,
 ) -> Result<(MathBox, List<i64>), Memory>
     requires few_rows { length rows.now ≤ 65_536 }
-    requires few_columns { length widths.now ≤ 65_536 }
-    requires rows_fit { All IsStored rows.now }
-    requires widths_fit { All (IsWithin farthest) widths.now }
+    requires few_columns { length widths.now ≤ most_columns }
+    requires rows_within { All HasHeights rows.now }
+    requires widths_within { All IsColumn widths.now }
     requires size_low { pos 0 ≤ℤ size }
     requires size_high { size ≤ℤ pos (2 ^ 20) }
     ensures frame { IfOk result (λ table. table.0 ≡ table_frame_of metrics.now rows.now widths.now size) }
@@ -102,8 +168,8 @@ pub fn table_finish(
 /// How far the baselines of rows lie below that of a table with this ascent.
 fn row_offsets(alloc: Global, rows: &[MathBox], ascent: i64) -> Result<List<i64>, Memory>
     requires few { length rows.now ≤ 65_536 }
-    requires fit { All IsStored rows.now }
-    requires ascent_in { IsWithin (2 ^ 48) ascent }
+    requires within { All HasHeights rows.now }
+    requires ascent_in { IsWithin (2 ^ 62) ascent }
     ensures { IfOk result (λ offsets. offsets ≡ baselines_below ascent rows.now) }
 {
     let mut offsets = List::make(alloc);

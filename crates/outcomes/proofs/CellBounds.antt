@@ -9,7 +9,7 @@ use Rattle.fixed_units.proofs.Unions.{empty_box_in}
 use Rattle.fixed_units.proofs.Within.{difference_in, half_in, sum_in, widened}
 use Rattle.math_tables.specs.Columns.{column_at, column_count, columns_of, widest}
 use Rattle.math_tables.specs.Placing.{cell_offsets_of, cell_x_of, start_of, width_at}
-use Rattle.layout_model.specs.Questions.{columns_over}
+use Rattle.layout_model.specs.Tables.{columns_over}
 use Rattle.layout_model.specs.Fits.{IsStretch}
 use Rattle.layout_model.specs.declared.context.Stretch.TheVariants.{Columns}
 use Rattle.layout_model.specs.declared.outcome.Answer.{Answer}
@@ -34,9 +34,10 @@ cell_x_in cells widths place l stored all =
     widened (2 ^ 50) (sum_in start rest) (lit≤ tt)
 
 pub cell_offsets_in : (cells : List MathBox) (widths : List ℤ) → length cells ≤ 65536 → All IsStored cells → All (IsWithin farthest) widths
-    → All (IsWithin (2 ^ 50)) (cell_offsets_of cells widths)
+    → All (IsWithin (2 ^ 61)) (cell_offsets_of cells widths)
 cell_offsets_in cells widths few stored all =
-    All-list_to (IsWithin (2 ^ 50)) (length cells) (cell_x_of cells widths) (λ i l. cell_x_in cells widths i (omega (arith, few, l)) stored all)
+    All-list_to (IsWithin (2 ^ 61)) (length cells) (cell_x_of cells widths)
+    (λ i l. widened (2 ^ 61) (cell_x_in cells widths i (omega (arith, few, l)) stored all) (lit≤ tt))
 
 -- the columns behind the width of all of them, copied into a list of their own
 pub own_in : (own columns told made : List ℤ) (total : ℤ) → own ≡ made ++ columns → made ≡ [] → told ≡ total ∷ columns → IsStretch (Columns told)

@@ -1,10 +1,10 @@
 -- What holds of the answers of an element's children.
-use Rattle.std.proofs.Common.{◌≡◌, ◌∙◌, refl, ap, subst, ℕ, ◌^◌, ◌<◌, ◌≤◌, arith, Bool, true, false, cond, List, ◌++◌, length, map, get_or, All, Option, Some, None, unwrap_or, ℤ, pos}
+use Rattle.std.proofs.Common.{◌≡◌, ◌∙◌, refl, sym, ap, inl, subst, ℕ, ◌^◌, ◌<◌, ◌≤◌, arith, Bool, true, false, cond, List, ◌++◌, length, map, get_or, All, Option, Some, None, unwrap_or, ℤ, pos}
 use Rattle.std.specs.Prelude.{int_le}
 use Rattle.std.specs.Borrow.{Bor}
 use Rattle.std.specs.List.{AllPass}
 use Rattle.std.proofs.lemmas.List.{get_or-map, length-map}
-use Rattle.std.proofs.lemmas.List.Elements.{All-append, All-get_or}
+use Rattle.std.proofs.lemmas.List.Elements.{All-append, All-get_or, All-nil}
 use Rattle.std.proofs.lemmas.Option.{get_or_from_slice_get}
 use Rattle.fixed_units.specs.Boxes.{is_stored}
 use Rattle.fixed_units.specs.Sums.{list_to}
@@ -16,7 +16,8 @@ use Rattle.style_scope.specs.Sizes.{IsSize, font_size_of, in_range_of, size_of}
 use Rattle.style_scope.specs.declared.style.Style.{Style}
 use Rattle.layout_model.specs.Answers.{last_answer, no_answer}
 use Rattle.layout_model.specs.Elements.{Element, row_kid, row_kids}
-use Rattle.layout_model.specs.Fits.{AreAnswers, IsContext}
+use Rattle.span_tables.specs.Bounds.{IsSpan}
+use Rattle.layout_model.specs.Fits.{AreAnswers, AreSpans, IsContext, cell_count}
 use Rattle.layout_model.specs.Layout.{last_answers}
 use Rattle.layout_model.specs.Questions.{first, second}
 use Rattle.layout_model.specs.Contexts.{kid_style}
@@ -26,6 +27,8 @@ use Rattle.layout_model.specs.declared.context.Question.{Question}
 use Rattle.layout_model.specs.declared.outcome.Answer.{Answer}
 use Rattle.layout_model.proofs.Ranges.{IsAnswerStored, answers_stored}
 use Rattle.outcomes.specs.Elements.{IsWhole, answered}
+use Rattle.layout_model.proofs.TableCells.{each_few}
+use Rattle.outcomes.proofs.LastOfTable.{table_answers}
 use Rattle.outcomes.proofs.Lasts.{last_answer-holds}
 use Rattle.outcomes.proofs.Lists.{All-list_to}
 
@@ -69,11 +72,12 @@ all_last : (P : Answer → Type 0) → P no_answer → (n : ℕ) (asks : List Qu
 all_last P none n asks one two a b = All-list_to P n (last_answer asks (one ++ two)) (λ i l. last_answer-holds P none asks (one ++ two) i (All-append P one two a b))
 
 pub whole : (m : MetricsValue) (seen : Seen) (context : Context) (one two : List Answer) (size : ℤ) → IsContext context
-    → AreAnswers one → AreAnswers two → size ≡ size_of m context.style → IsSize size → length seen.kids ≤ 65535
+    → AreAnswers one → AreAnswers two → length one ≡ length (first m seen context) → length two ≡ length (second m seen context one)
+    → size ≡ size_of m context.style → IsSize size → length seen.kids ≤ 65535
     → ((index : ℕ) → index < length seen.kids → is_font_size (size_of m (kid_style m seen context.style index)) ≡ true)
     → IsWhole (answered m seen context one two) size
 unfolding last_answers
-whole m seen context one two size fits one_fits two_fits e s few fonts =
+whole m seen context one two size fits one_fits two_fits ones twos e s few fonts =
     let n = length seen.kids in
     let asks = first m seen context ++ second m seen context one in
     let count = length-list_to n (last_answer asks (one ++ two)) in
@@ -86,7 +90,9 @@ whole m seen context one two size fits one_fits two_fits e s few fonts =
       each = count;
       few = omega (arith, count, few);
       stored = all_last (λ answer. answer_fits answer ≡ true) no_answer_fits n asks one two one_fits.fit two_fits.fit;
-      cells = all_last cells_few (omega arith) n asks one two one_fits.few two_fits.few;
+      cells = all_last cells_few (omega arith) n asks one two (each_few 65536 one one_fits.few) (each_few 65536 two two_fits.few);
+      spans = all_last AreSpans (record { each = inl refl; limits = All-nil IsSpan }) n asks one two one_fits.spans two_fits.spans;
+      table = λ h. subst (λ (kids : List Answer). cell_count kids ≤ 65536) (sym (table_answers m seen context one two h ones twos)) two_fits.few;
     }
 
 -- the answers that count, where the questions are at hand

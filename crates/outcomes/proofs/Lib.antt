@@ -4,6 +4,7 @@ mod Cornered
 mod Exactly
 mod FontSizes
 mod Kids
+mod LastOfTable
 mod Lasts
 mod Leaves
 mod Lists
@@ -11,3 +12,4 @@ mod MirroredRows
 mod Reach
 mod Roots
 mod RowBounds
+mod SpannedTables

@@ -1,5 +1,5 @@
 -- Rows from right to left.
-use Rattle.std.proofs.Common.{◌≡◌, ◌∙◌, ap, subst, sym, lit<, ◌^◌, ℕ, ℤ, pos, ◌+ℤ◌, arith, Bool, true, ◌&&◌, cond, nat_eq, length, slice_index_or, w64, to_z, of_z}
+use Rattle.std.proofs.Common.{◌≡◌, ◌∙◌, ap, subst, sym, lit<, ◌^◌, ℕ, ◌+◌, ℤ, pos, ◌+ℤ◌, arith, Bool, true, ◌&&◌, cond, nat_eq, length, slice_index_or, w64, to_z, of_z}
 use Rattle.std.specs.Int.{w128}
 use Rattle.fixed_units.specs.Boxes.{IsBoxWithin, IsStored, farthest}
 use Rattle.fixed_units.specs.Numbers.{IsWithin}
@@ -13,7 +13,7 @@ use Rattle.layout_model.specs.declared.context.Context.{Context}
 use Rattle.row_stretch.specs.declared.parts.Row.{Row}
 use Rattle.outcomes.proofs.Casts.{told_wide}
 
-mirrored_in : (whole part x : ℤ) → IsWithin (2 ^ 50) whole → IsWithin farthest part → IsWithin (2 ^ 50) x → IsWithin (2 ^ 52) (mirrored whole part x)
+mirrored_in : (whole part x : ℤ) → IsWithin (2 ^ 50) whole → IsWithin farthest part → IsWithin (2 ^ 61) x → IsWithin (2 ^ 61 + 2 ^ 52) (mirrored whole part x)
 unfolding mirrored
 mirrored_in whole part x w p h = record {
   low = omega (arith, signed, w.low, w.high, p.low, p.high, h.low, h.high);
@@ -22,7 +22,7 @@ mirrored_in whole part x w p h = record {
 
 -- where a child stands, reckoned in 128 bits
 module _ (e : Element) (row : Row) (index : ℕ) (context : Context) (frame : MathBox) (x part exact : ℤ)
-    (width : IsWithin (2 ^ 50) row.frame.width) (x_in : IsWithin (2 ^ 50) x) (stored : IsStored frame) (frame_is : frame ≡ frame_at e index)
+    (width : IsWithin (2 ^ 50) row.frame.width) (x_in : IsWithin (2 ^ 61) x) (stored : IsStored frame) (frame_is : frame ≡ frame_at e index)
     (x_is : x ≡ slice_index_or row.offsets index (pos 0)) (context_is : context ≡ e.context) (rtl : context.style.rtl ≡ true)
     (part_is : part ≡ to_z w64 (of_z w64 frame.width))
     (exact_is : exact ≡ mirrored (to_z w64 (of_z w64 row.frame.width)) (to_z w128 (of_z w128 part)) (to_z w64 (of_z w64 x))) where
@@ -31,8 +31,8 @@ module _ (e : Element) (row : Row) (index : ℕ) (context : Context) (frame : Ma
       exact_is
       ∙ (λ i. mirrored (back64 width (lit< tt) i) (told_wide frame.width part (fits_i64 stored.width (lit< tt)) part_is i) (back64 x_in (lit< tt) i))
 
-  pub within_row : IsWithin (2 ^ 52) exact
-  within_row = subst (IsWithin (2 ^ 52)) (sym plainly) (mirrored_in row.frame.width frame.width x width stored.width x_in)
+  pub within_row : IsWithin (2 ^ 61 + 2 ^ 52) exact
+  within_row = subst (IsWithin (2 ^ 61 + 2 ^ 52)) (sym plainly) (mirrored_in row.frame.width frame.width x width stored.width x_in)
 
   pub row_x_is : exact ≡ row_x e row index
   row_x_is =

@@ -53,5 +53,5 @@ module _ (s : Bool) (kids : List RowKid) (few : length kids ≤ 65535) (all : Al
       ink_ascent = joined.ink_ascent;
       ink_descent = joined.ink_descent;
     };
-    offsets = All-list_to (IsWithin (2 ^ 50)) (length kids) (offset_of s kids) (λ i l. widened (2 ^ 50) (offset_in i l) (lit≤ tt));
+    offsets = All-list_to (IsWithin (2 ^ 61)) (length kids) (offset_of s kids) (λ i l. widened (2 ^ 61) (offset_in i l) (lit≤ tt));
   }

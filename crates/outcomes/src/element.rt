@@ -1,4 +1,4 @@
-ghost use Rattle.std.specs.Prelude.{◌≡◌, ◌<◌, ◌≤◌, ◌^◌, pos, ◌≤ℤ◌, length, false, IfOk, Err};
+ghost use Rattle.std.specs.Prelude.{◌≡◌, ◌<◌, ◌≤◌, ◌^◌, pos, ◌≤ℤ◌, length, map, false, IfOk, Err};
 ghost use Rattle.std.specs.List.{All};
 ghost use Rattle.fixed_units.specs.Boxes.{IsStored};
 ghost use Rattle.fixed_units.specs.declared.refusal.LayRefusal.TheVariants.{Range};
@@ -10,7 +10,6 @@ ghost use Rattle.layout_model.specs.Answers.{answers_in, no_answer};
 ghost use Rattle.layout_model.specs.Contexts.{kid_style};
 ghost use Rattle.layout_model.specs.Elements.{font, frame_at, lead_place, outcome, outcome_with, row_kid, row_kids, spaces_of};
 ghost use Rattle.layout_model.specs.Fits.{IsContext, RepliesAll};
-ghost use Rattle.layout_model.specs.Questions.{columns_over};
 ghost use Rattle.layout_model.specs.Range.{is_font_size};
 ghost use Rattle.outcomes.specs.Elements.{IsWhole, answered};
 
@@ -20,9 +19,9 @@ use embellished::{View, fences_of};
 use fixed_units::{LayRefusal, List, MathBox, Memory};
 use font_metrics::{Mark, Metrics};
 use layout_model::{Answer, Context, Offset, Outcome, Reply};
-use math_tables::columns;
 use math_tree::{Attributes, Kind};
 use row_stretch::{RowKid, RowKids};
+use span_tables::CellSpan;
 use std::alloc::Global;
 use std::marker::Model;
 use style_scope::font_size;
@@ -171,15 +170,11 @@ impl<'a, V: View> Element<'a, V> {
         }
     }
 
-    /// Of a table the widths of its columns, over the answers of its rows.
-    pub fn columns(&self, alloc: Global) -> Result<List<i64>, Memory>
-        ensures { IfOk result (λ widths. widths ≡ columns_over self.now.kids) }
+    /// The answers of its children in flow.
+    pub fn answers(&self) -> &[&'a Answer]
+        ensures { map (λ answer. answer.now) result.now ≡ self.now.kids }
     {
-        let mut cells = List::with_room(alloc, self.kids.len())?;
-        for row in self.kids.as_slice() {
-            cells.push(row.cells.copy(alloc)?)?;
-        }
-        columns(alloc, &cells)
+        self.kids.as_slice()
     }
 
     /// Of its children in flow boxes and spaces can be stored, and there are not too many. It does
@@ -233,19 +228,20 @@ impl<'a, V: View> Element<'a, V> {
     ) -> Outcome
         ensures { result ≡ outcome self.now frame offsets marks }
     {
-        self.outcome_with(frame, List::make(alloc), offsets, marks)
+        self.outcome_with(frame, List::make(alloc), List::make(alloc), offsets, marks)
     }
 
-    /// The same of a row of a table, with the widths of its cells.
+    /// The same of a row of a table, with the widths of its cells and what they span.
     #[tactic(auto, unfolding(layout_model::specs::Elements::outcome_with))]
     pub fn outcome_with(
         &self,
         frame: MathBox,
         cells: List<i64>,
+        spans: List<CellSpan>,
         offsets: List<Offset>,
         marks: List<Mark>,
     ) -> Outcome
-        ensures { result ≡ outcome_with self.now frame cells offsets marks }
+        ensures { result ≡ outcome_with self.now frame cells spans offsets marks }
     {
         let spaces = self.spaces();
         Outcome {
@@ -254,6 +250,7 @@ impl<'a, V: View> Element<'a, V> {
                 before: spaces.before,
                 after: spaces.after,
                 cells,
+                spans,
             },
             offsets,
             marks,

@@ -21,6 +21,7 @@ use std::alloc::Global;
 /// The outcome of an element that is laid out as a kind, or one that can't be stored where that can't be.
 #[tactic(auto, using(crate::proofs::Exactly::exactly), unfolding(layout_model::specs::Equations::outcome_by))]
 pub fn outcome_by<V: View>(alloc: Global, laid: Kind, e: &Element<V>) -> Result<Outcome, Memory>
+    requires { laid ≡ e.now.seen.facts.laid }
     ensures { IfOk result (IsOutcome (outcome_by laid e.now)) }
 {
     match laid {

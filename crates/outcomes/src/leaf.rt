@@ -95,6 +95,7 @@ fn leaf_outcome(alloc: Global, leaf: Leaf) -> Outcome
             before: leaf.before,
             after: leaf.after,
             cells: List::make(alloc),
+            spans: List::make(alloc),
         },
         offsets: List::make(alloc),
         marks: leaf.marks,

@@ -31,6 +31,7 @@ mod range; // which outcomes can be stored
 mod root; // a root with an index
 mod row; // rows, errors, square roots and cells
 mod script; // scripts beside a base
+mod spanning; // what cells span, and the columns and rows of a table
 mod table; // tables and their rows
 
 pub use finishing::{finish, finish_replies};

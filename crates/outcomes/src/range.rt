@@ -1,11 +1,12 @@
 ghost use Rattle.std.specs.Prelude.{◌≡◌};
 ghost use Rattle.std.specs.List.{list_all};
 ghost use Rattle.fixed_units.specs.Boxes.{is_stored};
-ghost use Rattle.layout_model.specs.Range.{answer_fits, mark_fits, offset_fits, outcome_fits};
+ghost use Rattle.layout_model.specs.Range.{answer_fits, mark_fits, offset_fits, outcome_fits, span_fits};
 
 use fixed_units::fits as box_fits;
 use font_metrics::Mark;
 use layout_model::{Answer, Offset, Outcome};
+use span_tables::CellSpan;
 
 /// Whether every number of an outcome can be stored: it lies in -2^30 to 2^30 units.
 #[tactic(auto, unfolding(layout_model::specs::Range::outcome_fits))]
@@ -25,12 +26,26 @@ fn answer_fits(answer: &Answer) -> bool
         & is_stored(answer.before)
         & is_stored(answer.after)
         & cells_fit(answer.cells.as_slice())
+        & spans_fit(answer.spans.as_slice())
 }
 
 fn cells_fit(cells: &[i64]) -> bool
     ensures { result ≡ list_all is_stored cells.now }
 {
     cells.iter().all(|cell| is_stored(*cell))
+}
+
+fn spans_fit(spans: &[CellSpan]) -> bool
+    ensures { result ≡ list_all span_fits spans.now }
+{
+    spans.iter().all(|span| span_fits(span))
+}
+
+/// Whether the heights of a cell can be stored.
+fn span_fits(span: &CellSpan) -> bool
+    ensures { result ≡ span_fits span.now }
+{
+    is_stored(span.ascent) & is_stored(span.descent)
 }
 
 fn offsets_fit(offsets: &[Offset]) -> bool

@@ -1,4 +1,4 @@
-ghost use Rattle.std.specs.Prelude.{◌≡◌, ◌^◌, pos, slice_index_or, IfOk};
+ghost use Rattle.std.specs.Prelude.{◌≡◌, ◌+◌, ◌^◌, pos, slice_index_or, IfOk};
 ghost use Rattle.std.specs.List.{All};
 ghost use Rattle.fixed_units.specs.Boxes.{IsBoxWithin};
 ghost use Rattle.fixed_units.specs.Numbers.{IsWithin};
@@ -129,7 +129,7 @@ pub fn along<V: View>(
     y: i64,
 ) -> Result<List<Offset>, Memory>
     requires width { IsWithin (2 ^ 50) row.now.frame.width }
-    requires offsets { All (IsWithin (2 ^ 50)) row.now.offsets }
+    requires offsets { All (IsWithin (2 ^ 61)) row.now.offsets }
     requires start { IsWithin (2 ^ 62) start }
     ensures { IfOk result (λ offsets. offsets ≡ along e.now row.now start y) }
 {
@@ -147,9 +147,9 @@ pub fn along<V: View>(
 /// Where a child begins in a row, in the direction of the element.
 fn row_x<V: View>(e: &Element<V>, row: &Row, index: usize) -> i64
     requires width { IsWithin (2 ^ 50) row.now.frame.width }
-    requires offsets { All (IsWithin (2 ^ 50)) row.now.offsets }
+    requires offsets { All (IsWithin (2 ^ 61)) row.now.offsets }
     ensures value { result ≡ row_x e.now row.now index }
-    ensures within { IsWithin (2 ^ 52) result }
+    ensures within { IsWithin (2 ^ 61 + 2 ^ 52) result }
 {
     let x = offset_at(row, index);
     if !e.context().style.rtl {
@@ -177,9 +177,9 @@ fn row_frame<V: View>(e: &Element<V>, row: &Row) -> MathBox
 
 /// How far from the row's start a child stands from left to right.
 fn offset_at(row: &Row, index: usize) -> i64
-    requires { All (IsWithin (2 ^ 50)) row.now.offsets }
+    requires { All (IsWithin (2 ^ 61)) row.now.offsets }
     ensures value { result ≡ slice_index_or row.now.offsets index (pos 0) }
-    ensures within { IsWithin (2 ^ 50) result }
+    ensures within { IsWithin (2 ^ 61) result }
 {
     match row.offsets.as_slice().get(index) {
         Some(offset) => *offset,

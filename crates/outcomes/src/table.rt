@@ -3,6 +3,8 @@ ghost use Rattle.std.specs.List.{All};
 ghost use Rattle.fixed_units.specs.Boxes.{IsStored, farthest, is_stored};
 ghost use Rattle.fixed_units.specs.Numbers.{IsWithin};
 ghost use Rattle.fixed_units.specs.Sums.{list_to};
+ghost use Rattle.math_tables.specs.Placing.{row_of_cells_of, table_width_of};
+ghost use Rattle.math_tree.specs.declared.kind.Kind.TheVariants.{Mtable};
 ghost use Rattle.layout_model.specs.Elements.{along, frames_of, offset};
 ghost use Rattle.layout_model.specs.Equations.{cells_placed, row_at, table_outcome, table_row_outcome, widths_of};
 ghost use Rattle.outcomes.specs.Outcomes.{IsOutcome};
@@ -10,14 +12,15 @@ ghost use Rattle.outcomes.specs.Outcomes.{IsOutcome};
 use crate::element::Element;
 use crate::range::is_stored;
 use crate::row::along;
+use crate::spanning::{spanned, spans_of, table_columns, table_rows};
 use embellished::View;
 use fixed_units::{List, MathBox, Memory};
 use layout_model::{Offset, Outcome, Stretch};
-use math_tables::{row_of_cells, table_finish, total_width};
+use math_tables::{row_of_cells, row_of_slots, table_finish, total_width};
 use row_stretch::Row;
 use std::alloc::Global;
 
-/// A row of a table: its cells in the middle of their columns (MathML Core 3.5.2).
+/// A row of a table: its cells in the middle of their columns or slots (MathML Core 3.5.2).
 pub fn table_row_outcome<V: View>(alloc: Global, e: &Element<V>) -> Result<Outcome, Memory>
     ensures { IfOk result (IsOutcome (table_row_outcome e.now)) }
 {
@@ -25,12 +28,14 @@ pub fn table_row_outcome<V: View>(alloc: Global, e: &Element<V>) -> Result<Outco
     let widths = widths(alloc, cells.as_slice())?;
     let row = cells_placed(alloc, e, &cells, &widths)?;
     let offsets = cells_along(alloc, e, &row)?;
-    Ok(e.outcome_with(row.frame, widths, offsets, List::make(alloc)))
+    let spans = spans_of(alloc, e)?;
+    let frame = spanned(spans.as_slice(), row.frame);
+    Ok(e.outcome_with(frame, widths, spans, offsets, List::make(alloc)))
 }
 
 /// Where the cells of a row stand; of one that is too wide to be stored none are told.
 fn cells_along<V: View>(alloc: Global, e: &Element<V>, row: &Row) -> Result<List<Offset>, Memory>
-    requires { All (IsWithin (2 ^ 50)) row.now.offsets }
+    requires { All (IsWithin (2 ^ 61)) row.now.offsets }
     ensures { IfOk result (λ offsets. is_stored row.now.frame.width ≡ true →
         offsets ≡ along e.now row.now (pos 0) (pos 0)) }
 {
@@ -40,7 +45,7 @@ fn cells_along<V: View>(alloc: Global, e: &Element<V>, row: &Row) -> Result<List
     along(alloc, e, row, 0, 0)
 }
 
-/// The cells of a row in their columns; without columns, each in one as wide as itself.
+/// The cells of a row in their columns or slots; without them, each in a column as wide as itself.
 #[tactic(auto, unfolding(layout_model::specs::Equations::cells_placed))]
 fn cells_placed<V: View>(
     alloc: Global,
@@ -53,26 +58,60 @@ fn cells_placed<V: View>(
     requires widths { widths.now ≡ widths_of e.now }
     requires widths_fit { All (IsWithin farthest) widths.now }
     ensures value { IfOk result (λ row. row ≡ cells_placed e.now) }
-    ensures within { IfOk result (λ row. All (IsWithin (2 ^ 50)) row.offsets) }
+    ensures within { IfOk result (λ row. All (IsWithin (2 ^ 61)) row.offsets) }
 {
     let _count = e.count();
-    if let Stretch::Columns(columns) = &e.context().stretch {
-        if let Some((total, columns)) = columns.as_slice().split_first() {
-            let mut own = List::make(alloc);
-            own.push_all(columns)?;
-            return row_of_cells(alloc, cells, &own, *total);
-        }
+    match &e.context().stretch {
+        Stretch::Columns(numbers) => match numbers.as_slice().split_first() {
+            Some((total, columns)) => in_columns(alloc, cells, columns, *total),
+            None => alone(alloc, cells, widths),
+        },
+        Stretch::Slots(numbers) => match numbers.as_slice().split_first() {
+            Some((total, slots)) => row_of_slots(alloc, cells, slots, *total),
+            None => alone(alloc, cells, widths),
+        },
+        _ => alone(alloc, cells, widths),
     }
+}
+
+/// Cells in columns of these widths.
+fn in_columns(
+    alloc: Global,
+    cells: &List<MathBox>,
+    columns: &[i64],
+    total: i64,
+) -> Result<Row, Memory>
+    requires few { length cells.now ≤ 65_536 }
+    requires stored { All IsStored cells.now }
+    requires columns_fit { All (IsWithin farthest) columns.now }
+    ensures value { IfOk result (λ row. row ≡ row_of_cells_of cells.now columns.now total) }
+    ensures within { IfOk result (λ row. All (IsWithin (2 ^ 61)) row.offsets) }
+{
+    let mut widths = List::make(alloc);
+    widths.push_all(columns)?;
+    row_of_cells(alloc, cells, &widths, total)
+}
+
+/// Cells of these widths, each in a column as wide as itself.
+fn alone(alloc: Global, cells: &List<MathBox>, widths: &List<i64>) -> Result<Row, Memory>
+    requires few { length cells.now ≤ 65_536 }
+    requires each { length widths.now ≤ 65_536 }
+    requires stored { All IsStored cells.now }
+    requires widths_fit { All (IsWithin farthest) widths.now }
+    ensures value { IfOk result (λ row. row ≡ row_of_cells_of cells.now widths.now (table_width_of widths.now)) }
+    ensures within { IfOk result (λ row. All (IsWithin (2 ^ 61)) row.offsets) }
+{
     row_of_cells(alloc, cells, widths, total_width(widths.as_slice()))
 }
 
 /// A table: its rows one under the other, round the axis (MathML Core 3.5.1).
 pub fn table_outcome<V: View>(alloc: Global, e: &Element<V>) -> Result<Outcome, Memory>
+    requires { e.now.seen.facts.laid ≡ Mtable }
     ensures { IfOk result (λ outcome. outcome ≡ table_outcome e.now) }
 {
     let count = e.count();
-    let rows = frames(alloc, e)?;
-    let widths = e.columns(alloc)?;
+    let rows = table_rows(alloc, e)?;
+    let widths = table_columns(alloc, e)?;
     let table = table_finish(alloc, &rows, &widths, e.size(), e.metrics())?;
     let places = lines(alloc, count, table.1.as_slice())?;
     Ok(e.outcome(alloc, table.0, places, List::make(alloc)))
@@ -104,7 +143,7 @@ fn line(below: &[i64], index: usize) -> i64
 }
 
 /// The boxes of the children in flow.
-fn frames<V: View>(alloc: Global, e: &Element<V>) -> Result<List<MathBox>, Memory>
+pub fn frames<V: View>(alloc: Global, e: &Element<V>) -> Result<List<MathBox>, Memory>
     ensures value { IfOk result (λ frames. frames ≡ frames_of e.now) }
     ensures stored { IfOk result (λ frames. All IsStored frames) }
 {

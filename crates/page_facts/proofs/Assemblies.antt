@@ -51,6 +51,7 @@ use Rattle.token_boxes.specs.Operator.{large, lone_operator, lowered_glyph, oper
 use Rattle.token_boxes.specs.Token.{glyph_of, inks_of, leaf_of, lone_letter, mark_at, marks_of, token_of, word_leaf}
 use Rattle.token_boxes.specs.declared.leaf.Drawn.{Drawn}
 use Rattle.token_boxes.specs.declared.leaf.Leaf.{Leaf}
+use Rattle.span_tables.specs.declared.cells.CellSpan.{CellSpan}
 use Rattle.layout_model.proofs.Drawn.{both_true, listed_pass}
 use Rattle.layout_model.proofs.Trees.{lay_is}
 use Rattle.layout_model.specs.Direction.{turned_mark, x_of}
@@ -332,34 +333,34 @@ module _ (e : Element) (taken : IsTaken e.metrics) (sized : is_font_size (font e
   scripts_drawn = refl
 
   -- elements that draw nothing themselves
-  nothing : (frame : MathBox) (cells : List ℤ) (offsets : List Offset) → IsOutcome (outcome_with e frame cells offsets [])
+  nothing : (frame : MathBox) (cells : List ℤ) (spans : List CellSpan) (offsets : List Offset) → IsOutcome (outcome_with e frame cells spans offsets [])
   unfolding outcome_with draws_small
-  nothing frame cells offsets = refl
+  nothing frame cells spans offsets = refl
 
   drawn : (kind : Kind) → IsOutcome (outcome_by kind e)
   unfolding outcome_by
-  drawn Merror = nothing _ _ _
+  drawn Merror = nothing _ _ _ _
   drawn Mfrac = fraction_drawn
   drawn Mi = leaf_drawn
   drawn Mmultiscripts = scripts_drawn
   drawn Mn = leaf_drawn
   drawn Mo = operator_drawn
-  drawn Mover = one_of (has_moved_limits e.metrics e.seen e.context) (sup_outcome e) (over_outcome e) (nothing _ _ _) (nothing _ _ _)
-  drawn Mpadded = nothing _ _ _
+  drawn Mover = one_of (has_moved_limits e.metrics e.seen e.context) (sup_outcome e) (over_outcome e) (nothing _ _ _ _) (nothing _ _ _ _)
+  drawn Mpadded = nothing _ _ _ _
   drawn Mroot = root_drawn
   drawn Ms = leaf_drawn
   drawn Mspace = space_drawn
   drawn Msqrt = square_root_drawn
-  drawn Msub = nothing _ _ _
-  drawn Msubsup = nothing _ _ _
-  drawn Msup = nothing _ _ _
-  drawn Mtable = nothing _ _ _
-  drawn Mtd = nothing _ _ _
+  drawn Msub = nothing _ _ _ _
+  drawn Msubsup = nothing _ _ _ _
+  drawn Msup = nothing _ _ _ _
+  drawn Mtable = nothing _ _ _ _
+  drawn Mtd = nothing _ _ _ _
   drawn Mtext = leaf_drawn
-  drawn Mtr = nothing _ _ _
-  drawn Munder = one_of (has_moved_limits e.metrics e.seen e.context) (sub_outcome e) (under_outcome e) (nothing _ _ _) (nothing _ _ _)
-  drawn Munderover = one_of (has_moved_limits e.metrics e.seen e.context) (sub_sup_outcome e) (under_over_outcome e) (nothing _ _ _) (nothing _ _ _)
-  drawn other = nothing _ _ _
+  drawn Mtr = nothing _ _ _ _
+  drawn Munder = one_of (has_moved_limits e.metrics e.seen e.context) (sub_outcome e) (under_outcome e) (nothing _ _ _ _) (nothing _ _ _ _)
+  drawn Munderover = one_of (has_moved_limits e.metrics e.seen e.context) (sub_sup_outcome e) (under_over_outcome e) (nothing _ _ _ _) (nothing _ _ _ _)
+  drawn other = nothing _ _ _ _
 
 -- ---- each element of a tree
 

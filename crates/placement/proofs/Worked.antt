@@ -31,7 +31,7 @@ at kid x y = record { kid = kid; x = x; y = y }
 abbrev layer : ℕ → List ℕ → Kind → MathBox → List Offset → List Mark → List Laid → Laid-F Laid
 layer id name kind frame offsets marks kids = record {
   head = record { id = record { 0 = id }; name = name; kind = kind; attributes = []; text = [] };
-  outcome = record { answer = record { frame = frame; before = pos 0; after = pos 0; cells = [] }; offsets = offsets; marks = marks };
+  outcome = record { answer = record { frame = frame; before = pos 0; after = pos 0; cells = []; spans = [] }; offsets = offsets; marks = marks };
   kids = kids;
 }
 

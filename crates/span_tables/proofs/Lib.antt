@@ -15,6 +15,7 @@ pub mod Rowwise
 pub mod Shapes
 pub mod Shares
 pub mod Single
+pub mod SlotBounds
 pub mod Slotted
 pub mod Starts
 pub mod Worked

@@ -1,14 +1,15 @@
 //! What holds of all tables.
 //!
 //! A law is proved where it is a contract, so each function here has one and computes nothing.
-ghost use Rattle.std.specs.Prelude.{◌≡◌, ℕ, ◌+◌, ◌*◌, ◌<◌, ◌≤◌, ◌+ℤ◌, ◌≤ℤ◌, pos, ℤ, List, length, map};
+ghost use Rattle.std.specs.Prelude.{◌≡◌, ℕ, ◌+◌, ◌*◌, ◌^◌, ◌<◌, ◌≤◌, ◌+ℤ◌, ◌≤ℤ◌, pos, ℤ, List, length, map};
 ghost use Rattle.std.specs.List.{All};
 ghost use Rattle.math_tables.specs.Columns.{columns_of};
 ghost use Rattle.math_tables.specs.Placing.{table_width_of};
 ghost use Rattle.span_tables.specs.declared.cells.CellSpan.{CellSpan};
 ghost use Rattle.span_tables.specs.declared.cells.RowHeight.{RowHeight};
 ghost use Rattle.span_tables.specs.declared.cells.SpanCell.{SpanCell};
-ghost use Rattle.span_tables.specs.Bounds.{HasSpan, IsSpanStored, most_columns, cell_count};
+ghost use Rattle.fixed_units.specs.Numbers.{IsWithin};
+ghost use Rattle.span_tables.specs.Bounds.{HasSpan, IsSpanStored, IsStored, most_cells, most_columns, cell_count};
 ghost use Rattle.span_tables.specs.Heights.{row_height_of, span_heights_of, IsHeightStored};
 ghost use Rattle.span_tables.specs.Laws.{StandWhereFree, Fits, FitsBelow, IsSingle, cells_at, cell_at, firsts_at, slots_at, slots_total, slot_width, counted, widths_of};
 ghost use Rattle.span_tables.specs.Slots.{slots_of, AreInside};
@@ -53,6 +54,13 @@ pub fn cells_fit_their_slots()
 pub fn slots_have_the_width_of_the_table()
     ensures { (cells : List SpanCell) (firsts : List ℕ) (widths : List ℤ) →
         slots_total (slots_of cells firsts widths) ≡ table_width_of widths }
+{}
+
+/// Where the cells of a table can be stored, the slots of its rows lie within 2^60 units.
+pub fn slots_lie_within_reach()
+    ensures { (rows : List (List SpanCell)) (row : ℕ) → All (All HasSpan) rows →
+        All (All IsStored) rows → cell_count rows ≤ most_cells →
+        All (IsWithin (2 ^ 60)) (slots_at rows row) }
 {}
 
 /// The heights of a row whose cells can be stored can be stored.

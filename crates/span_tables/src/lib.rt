@@ -17,7 +17,7 @@
 //!   `specs/Standing.antt`, then `src/firsts.rt`.
 #![tactic(auto, using(fixed_units::proofs::Signed::from_bits))]
 
-mod cells; // CellSpan, SpanCell, RowHeight
+mod cells; // CellSpan, SpanCell, RowHeight, and how much a cell may span
 mod firsts; // first_columns
 mod heights; // span_heights
 pub mod laws; // free columns, cells that fit, plain tables
@@ -29,7 +29,7 @@ mod spans; // span_of
 mod standing; // a table's cells in document order
 mod widths; // span_columns
 
-pub use cells::{CellSpan, RowHeight, SpanCell};
+pub use cells::{CellSpan, MOST_COLUMNS, MOST_ROWS, RowHeight, SpanCell};
 pub use firsts::first_columns;
 pub use heights::span_heights;
 pub use own_heights::row_height;

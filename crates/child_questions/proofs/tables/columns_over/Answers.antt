@@ -1,6 +1,6 @@
 use Rattle.std.proofs.Common.{◌∙◌, ap}
 use Rattle.layout_model.specs.declared.outcome.Answer.{Answer}
-use Rattle.child_questions.proofs.Told.{told_next}
+use Rattle.layout_model.proofs.Told.{told_next}
 use Rattle.child_questions.proofs.tables.columns_over.Goals as goal
 
 pub loop-row-preserved : goal.loop-row-preserved

@@ -1,38 +1,20 @@
-use Rattle.std.proofs.Common.{◌≡◌, ◌∙◌, sym, ap, subst, ℕ, [], ◌∷◌, ◌++◌, length, map, take, arith, List, ℤ, w64, to_z, of_z, lit<}
+use Rattle.std.proofs.Common.{◌≡◌, ◌∙◌, sym, ap, subst, ℕ, [], ◌∷◌, ◌++◌, length, map, arith, List}
 use Rattle.std.specs.List.{All}
 use Rattle.std.proofs.lemmas.List.Elements.{All-append, All-cons, All-nil}
 use Rattle.layout_model.specs.Answers.{questions_in}
 use Rattle.layout_model.specs.Fits.{HasStyle}
-use Rattle.std.proofs.lemmas.Int.{to_z-of_z}
-use Rattle.fixed_units.specs.Boxes.{farthest}
-use Rattle.fixed_units.specs.Numbers.{IsWithin}
 use Rattle.fixed_units.proofs.Sums.{list_to-zero, list_to-add_one}
-use Rattle.fixed_units.proofs.Within.{fits_i64}
 use Rattle.embellished.specs.Seen.{seen_of}
 use Rattle.layout_model.specs.Contexts.{kid_context}
-use Rattle.layout_model.specs.Questions.{columns_at, columns_over, row_asked}
+use Rattle.layout_model.specs.Questions.{row_asked}
+use Rattle.layout_model.specs.Tables.{stretch_at}
 use Rattle.layout_model.specs.declared.context.Context.{Context}
 use Rattle.layout_model.specs.declared.context.Question.{Question}
-use Rattle.layout_model.specs.declared.context.Stretch.TheVariants.{Columns}
-use Rattle.math_tables.specs.Placing.{table_width_of}
-use Rattle.layout_model.proofs.Ranges.{columns_few, columns_in}
 use Rattle.layout_model.proofs.Replies.{questions_more}
 use Rattle.child_questions.proofs.tables.rows_asked.Goals as goal
 
 abbrev asked_in : ℕ → Context → Question
 asked_in kid context = record { kid = kid; context = context }
-
-pub total_width-total-requires-clause-few : goal.total_width-total-requires-clause-few
-total_width-total-requires-clause-few g c =
-    let told = map (g.A.Answered.told) in
-    let e = c.as_slice.ensures ∙ c.in_ok-widths.ensures {u = tt} ∙ ap columns_over (ap told c.as_slice-rows.ensures) in
-    omega (arith, ap length e, columns_few 65_536 (told c.args.rows.now) c.requires.answers.few)
-
-pub total_width-total-requires-clause-fit : goal.total_width-total-requires-clause-fit
-total_width-total-requires-clause-fit g c =
-    let told = map (g.A.Answered.told) in
-    let e = c.as_slice.ensures ∙ c.in_ok-widths.ensures {u = tt} ∙ ap columns_over (ap told c.as_slice-rows.ensures) in
-    subst (All (IsWithin farthest)) (sym e) (columns_in (told c.args.rows.now) c.requires.answers.fit)
 
 pub loop-index-init : goal.loop-index-init
 loop-index-init g c =
@@ -49,14 +31,7 @@ loop-index-preserved g c =
     let row = row_asked c.args.metrics.now (seen_of (g.V.View.element c.args.parent.now)) c.args.context.now rows in
     let before = c.loop-index.invariant.value in
     let more = list_to-add_one c.loop-index.index row in
-    let widths : c.in_ok-widths.widths ≡ columns_over rows = c.in_ok-widths.ensures {u = tt} in
-    let total : to_z w64 (of_z w64 c.total_width-total.result) ≡ table_width_of (columns_over rows) =
-    to_z-of_z w64 c.total_width-total.result (fits_i64 c.total_width-total.ensures.within (lit< tt)) ∙ c.total_width-total.ensures.value ∙ ap table_width_of (c.as_slice.ensures ∙ widths) in
-    let stretch : c.in_ok-columns.columns ≡ columns_at rows c.loop-index.index =
-    c.in_ok-columns.ensures {u = tt}
-    ∙ ap (λ (t : ℤ). Columns (t ∷ take c.cells_at.result c.in_ok-widths.widths)) total
-    ∙ ap (λ (w : List ℤ). Columns (table_width_of (columns_over rows) ∷ take c.cells_at.result w)) widths
-    ∙ ap (λ (n : ℕ). Columns (table_width_of (columns_over rows) ∷ take n (columns_over rows))) c.cells_at.ensures in
+    let stretch : c.in_ok-stretch.stretch ≡ stretch_at rows c.loop-index.index = c.in_ok-stretch.ensures {u = tt} in
     let context = c.kid_context-context.ensures.value ∙ ap (kid_context c.args.metrics.now (seen_of (g.V.View.element c.args.parent.now)) c.args.context.now c.loop-index.index) stretch in
     let made : c.to_come.result.question ≡ row c.loop-index.index = c.to_come.ensures.question ∙ ap (asked_in c.loop-index.index) context in
     let pushed = questions_more c.loop-index.asks c.push.new.self c.to_come.result (row c.loop-index.index) (c.in_ok-push.ensures {u = tt}).ok made in

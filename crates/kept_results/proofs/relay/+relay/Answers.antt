@@ -22,7 +22,7 @@ use Rattle.layout_model.proofs.Replies.{answered_there, asked_there, past_all, q
 use Rattle.layout_model.proofs.Children.{among_all, child_of, few_below, few_children, in_flow, item_of, near, smaller}
 use Rattle.layout_model.proofs.Fits.{answers_are, fonts_are, range_is}
 use Rattle.layout_model.proofs.Waves.{all_fit, broken, fit_more}
-use Rattle.layout_model.proofs.Whole.{ones_below, ones_false, range_waves, size_false, twos_below, twos_false}
+use Rattle.layout_model.proofs.Whole.{ones_apart, ones_below, ones_false, range_waves, size_false, twos_apart, twos_below, twos_false}
 use Rattle.kept_results.specs.Contexts.{IsProper}
 use Rattle.kept_results.specs.Kept.{IsKept, IsMissing, NamesKept, is_fresh_from, is_marked}
 use Rattle.kept_results.specs.Looking.{HasAnswer, one_at, own_facts}
@@ -321,7 +321,9 @@ relay_anew-second_wave-requires-clause-answers g t c =
     let m = c.args.metrics.now in
     let node = c.args.node.now in
     let one = (c.in_ok-relay_all.ensures {u = tt}) in
-    subst AreAnswers (sym one.ok) (answers_are m node c.requires.few (questions_in c.in_ok-one.one) one.fit)
+    let ones = questions_in c.in_ok-one.one in
+    let apart = ones_apart m node _ c.args.context.now (c.in_ok-view.ensures {u = tt}) ones (c.in_ok-one.ensures {u = tt}).ok in
+    subst AreAnswers (sym one.ok) (answers_are m node c.requires.few ones apart one.fit)
 
 pub relay_anew-returns-in_err-two-clause-passes : goal.relay_anew-returns-in_err-two-clause-passes
 relay_anew-returns-in_err-two-clause-passes g t c =
@@ -342,7 +344,8 @@ relay_anew-relay_all-requires-2 g t c κs within =
     let o = (c.in_ok-one.ensures {u = tt}) in
     let one = (c.in_ok-relay_all.ensures {u = tt}) in
     let w = (c.in_ok-two.ensures {u = tt}) in
-    let fit = subst AreAnswers (sym one.ok) (answers_are m node c.requires.few (questions_in c.in_ok-one.one) one.fit) in
+    let ones = questions_in c.in_ok-one.one in
+    let fit = subst AreAnswers (sym one.ok) (answers_are m node c.requires.few ones (ones_apart m node _ context shown ones o.ok) one.fit) in
     (omega arith, (search rules, (shown, (one.passed.agrees, (c.requires.few, twos_proper m node _ context shown _ o.ok (answers_in c.relay_all.new.replies) one.ok _ w.value c.requires.context w.styles fit)))))
 
 pub relay_anew-returns-in_err-relay_all-2-clause-passes : goal.relay_anew-returns-in_err-relay_all-2-clause-passes
@@ -387,8 +390,9 @@ relay_anew-finish_replies-requires-clause-replies g t c =
     record {
       one_asked = one.asked ∙ o.ok;
       two_asked = two.asked ∙ w;
-      one_fits = subst AreAnswers (sym one.ok) (answers_are m node c.requires.few (questions_in c.in_ok-one.one) one.fit);
-      two_fits = subst AreAnswers (sym two.ok) (answers_are m node c.requires.few (questions_in c.in_ok-two.two) two.fit);
+      one_fits = subst AreAnswers (sym one.ok) (answers_are m node c.requires.few ones (ones_apart m node _ context shown ones o.ok) one.fit);
+      two_fits = subst AreAnswers (sym two.ok)
+          (answers_are m node c.requires.few twos (twos_apart m node _ context shown ones o.ok (answers_in c.relay_all.new.replies) one.ok twos w) two.fit);
       fonts =
           All-append (HasFont m) (questions_in c.relay_all.new.replies) (questions_in c.relay_all-2.new.replies)
           (subst (All (HasFont m)) (sym one.asked) (fonts_are m node c.requires.few ones below one.fit))

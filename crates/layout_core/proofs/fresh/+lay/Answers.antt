@@ -20,7 +20,7 @@ use Rattle.layout_model.proofs.Fits.{answers_are, fonts_are, range_is}
 use Rattle.layout_core.proofs.Placed.{as_many_places, kept_more, kept_none, told_more}
 use Rattle.layout_model.proofs.Waves.{all_fit, broken, count_more, fit_more}
 use Rattle.layout_core.proofs.LaidWaves.{laid_waves}
-use Rattle.layout_model.proofs.Whole.{and_true, answers_all, fits_true, first_false, lay_waves, ones_below, ones_false, ones_stored, outcome_false, range_waves, size_false, twos_below, twos_false, twos_stored, visits_waves}
+use Rattle.layout_model.proofs.Whole.{and_true, answers_all, fits_true, first_false, lay_waves, ones_apart, ones_below, ones_false, ones_stored, outcome_false, range_waves, size_false, twos_apart, twos_below, twos_false, twos_stored, visits_waves}
 use Rattle.layout_core.proofs.fresh.+lay.Goals as goal
 
 -- ---- one question after another
@@ -157,7 +157,10 @@ lay_element-returns-in_err-one-clause-range g t c = λ e.
 pub lay_element-wave_two-requires-clause-answers : goal.lay_element-wave_two-requires-clause-answers
 lay_element-wave_two-requires-clause-answers g t c =
     let one = (c.in_ok-one.ensures {u = tt}) in
-    subst AreAnswers (sym one.ok) (answers_are c.args.metrics.now c.args.node.now c.requires.few c.in_ok-ones.ones one.fit)
+    let m = c.args.metrics.now in
+    let node = c.args.node.now in
+    let apart = ones_apart m node _ c.args.context.now (c.in_ok-view.ensures {u = tt}) c.in_ok-ones.ones (c.in_ok-ones.ensures {u = tt}).ok in
+    subst AreAnswers (sym one.ok) (answers_are m node c.requires.few c.in_ok-ones.ones apart one.fit)
 
 pub lay_element-ask_all-requires-2 : goal.lay_element-ask_all-requires-2
 lay_element-ask_all-requires-2 g t c κs within =
@@ -167,7 +170,8 @@ lay_element-ask_all-requires-2 g t c κs within =
     let o = (c.in_ok-ones.ensures {u = tt}) in
     let one = (c.in_ok-one.ensures {u = tt}) in
     let two = (c.in_ok-twos.ensures {u = tt}) in
-    let fits = subst AreAnswers (sym one.ok) (answers_are m node c.requires.few c.in_ok-ones.ones one.fit) in
+    let apart = ones_apart m node _ c.args.context.now shown c.in_ok-ones.ones o.ok in
+    let fits = subst AreAnswers (sym one.ok) (answers_are m node c.requires.few c.in_ok-ones.ones apart one.fit) in
     let places = ap length one.slots ∙ as_many_places m node c.in_ok-ones.ones c.in_ok-slots.slots.items
     ∙ ap length (c.in_ok-slots.ensures {u = tt}) ∙ length-replicate c.kids.result _ ∙ c.kids.ensures.count ∙ ap (λ (n : Node). length (seen_of n).kids) shown in (
       omega arith,
@@ -209,8 +213,11 @@ lay_element-finish-requires-clause-answers g t c =
     let below = ones_below m node _ c.args.context.now shown c.in_ok-ones.ones o in
     let above = twos_below m node _ c.args.context.now shown c.in_ok-ones.ones o c.in_ok-one.one one.ok c.in_ok-twos.twos t in
     answers_all m node _ c.args.context.now shown c.in_ok-ones.ones o c.in_ok-one.one one.ok c.in_ok-twos.twos t c.in_ok-two.two two.ok
-    (subst AreAnswers (sym one.ok) (answers_are m node c.requires.few c.in_ok-ones.ones one.fit))
-    (subst AreAnswers (sym two.ok) (answers_are m node c.requires.few c.in_ok-twos.twos two.fit))
+    (subst AreAnswers (sym one.ok)
+    (answers_are m node c.requires.few c.in_ok-ones.ones (ones_apart m node _ c.args.context.now shown c.in_ok-ones.ones o) one.fit))
+    (subst AreAnswers (sym two.ok)
+    (answers_are m node c.requires.few c.in_ok-twos.twos
+    (twos_apart m node _ c.args.context.now shown c.in_ok-ones.ones o c.in_ok-one.one one.ok c.in_ok-twos.twos t) two.fit))
     (fonts_are m node c.requires.few c.in_ok-ones.ones below one.fit)
     (fonts_are m node c.requires.few c.in_ok-twos.twos above two.fit)
 

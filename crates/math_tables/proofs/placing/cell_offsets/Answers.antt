@@ -1,4 +1,4 @@
-use Rattle.std.proofs.Common.{◌≡◌, ◌∙◌, sym, ap, ◌<◌, length, get_or, arith, w64, to_z, of_z, pos, ◌+ℤ◌, ◌-ℤ◌, lit<}
+use Rattle.std.proofs.Common.{◌≡◌, ◌∙◌, sym, ap, get_or, arith, w64, to_z, of_z, pos, ◌+ℤ◌, ◌-ℤ◌, lit<}
 use Rattle.std.proofs.lemmas.Int.{to_z-of_z}
 use Rattle.fixed_units.specs.Boxes.{empty_box}
 use Rattle.fixed_units.specs.Numbers.{halved}
@@ -6,7 +6,7 @@ use Rattle.fixed_units.proofs.Signed.{signed}
 use Rattle.fixed_units.proofs.Sums.{list_to-zero, list_to-add_one}
 use Rattle.fixed_units.proofs.Within.{difference_in, half_in, fits_i64}
 use Rattle.math_tables.specs.Placing.{cell_x_of}
-use Rattle.math_tables.proofs.Places.{start_of-zero, start_of-add_one, start_of_in, width_in, cell_x_of-is, frame_in}
+use Rattle.math_tables.proofs.Places.{start_of-zero, start_of-add_one, start_of_in, cell_x_of-is, cell_in}
 use Rattle.math_tables.proofs.placing.cell_offsets.Goals as goal
 
 pub loop-place-init : goal.loop-place-init
@@ -19,7 +19,7 @@ pub overflow_add-start : goal.overflow_add-start
 overflow_add-start c =
     let before = start_of_in c.args.widths.now c.loop-place.place c.requires.widths_fit in
     let width = c.width_at-width.ensures.within in
-    let cell = (frame_in c.args.cells.now c.loop-place.place c.loop-place-test.true c.requires.cells_fit).width in
+    let cell = (cell_in c.args.cells.now c.loop-place.place c.loop-place-test.true c.requires.cells_fit).width in
     let low = c.half.ensures.low in
     let high = c.half.ensures.high in
     omega (arith, signed)
@@ -38,7 +38,7 @@ loop-place-preserved c =
     let before = start_of_in widths i c.requires.widths_fit in
     let width = c.width_at-width.ensures.within in
     let same = c.width_at-width.ensures.value in
-    let cell = (frame_in cells i c.loop-place-test.true c.requires.cells_fit).width in
+    let cell = (cell_in cells i c.loop-place-test.true c.requires.cells_fit).width in
     let room = difference_in width cell in
     let f = fits_i64 room (lit< tt) in
     let half : c.half.result ≡ halved (get_or widths i (pos 0) -ℤ (get_or cells i empty_box).width) =

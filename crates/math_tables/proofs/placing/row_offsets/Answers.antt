@@ -6,7 +6,7 @@ use Rattle.fixed_units.proofs.Signed.{signed}
 use Rattle.fixed_units.proofs.Sums.{list_to-zero, list_to-add_one}
 use Rattle.fixed_units.proofs.Within.{fits_i64}
 use Rattle.math_tables.specs.Placing.{baseline_of}
-use Rattle.math_tables.proofs.Places.{top_of-zero, top_of-add_one, top_of_in, height_in, baseline_of-is, frame_in}
+use Rattle.math_tables.proofs.Places.{top_of-zero, top_of-add_one, top_of_in, height_in, baseline_of-is, row_in}
 use Rattle.math_tables.proofs.placing.row_offsets.Goals as goal
 
 pub loop-row-init : goal.loop-row-init
@@ -17,21 +17,21 @@ loop-row-init c = record {
 
 pub overflow_add-top : goal.overflow_add-top
 overflow_add-top c =
-    let before = top_of_in c.args.rows.now c.loop-row.row-index (omega arith) c.requires.fit in
-    let row = (frame_in c.args.rows.now c.loop-row.row-index c.loop-row-test.true c.requires.fit).ascent in
+    let before = top_of_in c.args.rows.now c.loop-row.row-index (omega arith) c.requires.within in
+    let row = (row_in c.args.rows.now c.loop-row.row-index c.loop-row-test.true c.requires.within).ascent in
     omega (arith, signed)
 
 pub overflow_sub-top : goal.overflow_sub-top
 overflow_sub-top c =
-    let before = top_of_in c.args.rows.now c.loop-row.row-index (omega arith) c.requires.fit in
-    let row = (frame_in c.args.rows.now c.loop-row.row-index c.loop-row-test.true c.requires.fit).ascent in
+    let before = top_of_in c.args.rows.now c.loop-row.row-index (omega arith) c.requires.within in
+    let row = (row_in c.args.rows.now c.loop-row.row-index c.loop-row-test.true c.requires.within).ascent in
     let ascent = c.requires.ascent_in in
     omega (arith, signed)
 
 pub overflow_add-top-in-loop-row : goal.overflow_add-top-in-loop-row
 overflow_add-top-in-loop-row c =
-    let before = top_of_in c.args.rows.now c.loop-row.row-index (omega arith) c.requires.fit in
-    let row = height_in c.args.rows.now c.loop-row.row-index c.loop-row-test.true c.requires.fit in
+    let before = top_of_in c.args.rows.now c.loop-row.row-index (omega arith) c.requires.within in
+    let row = height_in c.args.rows.now c.loop-row.row-index c.loop-row-test.true c.requires.within in
     omega (arith, signed, c.height-top.ensures)
 
 pub loop-row-preserved : goal.loop-row-preserved
@@ -39,9 +39,9 @@ loop-row-preserved c =
     let rows = c.args.rows.now in
     let i = c.loop-row.row-index in
     let below = to_z w64 (of_z w64 c.args.ascent) in
-    let before = top_of_in rows i (omega arith) c.requires.fit in
-    let height = height_in rows i c.loop-row-test.true c.requires.fit in
-    let row = (frame_in rows i c.loop-row-test.true c.requires.fit).ascent in
+    let before = top_of_in rows i (omega arith) c.requires.within in
+    let height = height_in rows i c.loop-row-test.true c.requires.within in
+    let row = (row_in rows i c.loop-row-test.true c.requires.within).ascent in
     let ascent = c.requires.ascent_in in
     let at : to_z w64 (of_z w64 (to_z w64 (of_z w64 (to_z w64 c.loop-row.top-bits +ℤ to_z w64 (of_z w64 (get_or rows i empty_box).ascent))) -ℤ below))
     ≡ baseline_of below rows i = omega (arith, signed, baseline_of-is below rows i) in

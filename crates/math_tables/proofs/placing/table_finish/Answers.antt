@@ -22,7 +22,7 @@ row_offsets-requires-clause-ascent_in c =
     let g = fits_i64 (half_in height) (lit< tt) in
     let h = fits_i64 c.constant.ensures.within (lit< tt) in
     let i = fits_i64 ascent (lit< tt) in
-    let w = widened (2 ^ 48) ascent (lit≤ tt) in
+    let w = widened (2 ^ 62) ascent (lit≤ tt) in
     grind (arith, to_z-of_z)
 
 pub overflow_sub-descent : goal.overflow_sub-descent

@@ -8,17 +8,17 @@ loop-row-init c = sym (top_of-zero c.args.rows.now)
 
 pub overflow_add-total : goal.overflow_add-total
 overflow_add-total c =
-    let before = top_of_in c.args.rows.now c.loop-row.row-index (omega arith) c.requires.fit in
-    let row = height_in c.args.rows.now c.loop-row.row-index c.loop-row-test.true c.requires.fit in
+    let before = top_of_in c.args.rows.now c.loop-row.row-index (omega arith) c.requires.within in
+    let row = height_in c.args.rows.now c.loop-row.row-index c.loop-row-test.true c.requires.within in
     omega (arith, signed, c.height-total.ensures)
 
 pub loop-row-preserved : goal.loop-row-preserved
 loop-row-preserved c =
-    let before = top_of_in c.args.rows.now c.loop-row.row-index (omega arith) c.requires.fit in
-    let row = height_in c.args.rows.now c.loop-row.row-index c.loop-row-test.true c.requires.fit in
+    let before = top_of_in c.args.rows.now c.loop-row.row-index (omega arith) c.requires.within in
+    let row = height_in c.args.rows.now c.loop-row.row-index c.loop-row-test.true c.requires.within in
     omega (arith, signed, c.height-total.ensures, top_of-add_one c.args.rows.now c.loop-row.row-index)
 
 pub returns-clause-within : goal.returns-clause-within
 returns-clause-within c =
-    let all = top_of_in c.args.rows.now c.loop-row.row-index (omega arith) c.requires.fit in
+    let all = top_of_in c.args.rows.now c.loop-row.row-index (omega arith) c.requires.within in
     record { low = omega (arith, signed); high = omega (arith, signed) }

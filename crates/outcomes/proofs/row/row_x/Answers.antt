@@ -1,4 +1,4 @@
-use Rattle.std.proofs.Common.{◌∙◌, subst, sym, ◌^◌}
+use Rattle.std.proofs.Common.{◌∙◌, subst, sym, ◌+◌, ◌^◌}
 use Rattle.fixed_units.specs.Numbers.{IsWithin}
 use Rattle.outcomes.proofs.Casts.{comes_back, fits_back}
 use Rattle.outcomes.proofs.MirroredRows.{row_x_is, within_row}
@@ -26,4 +26,4 @@ returns-clause-within g c =
     let within = within_row c.args.e.now c.args.row.now c.args.index c.context.result.now c.frame.result c.offset_at-x.result c.from-part.result c.mirrored.result
     c.requires.width c.offset_at-x.ensures.within c.frame.ensures.stored c.frame.ensures.value c.offset_at-x.ensures.value c.context.ensures.value
     c.if-not-context.false c.from-part.ensures c.mirrored.ensures in
-    subst (IsWithin (2 ^ 52)) (sym (comes_back c.mirrored.result within)) within
+    subst (IsWithin (2 ^ 61 + 2 ^ 52)) (sym (comes_back c.mirrored.result within)) within

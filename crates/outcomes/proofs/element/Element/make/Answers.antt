@@ -10,6 +10,7 @@ use Rattle.layout_model.specs.declared.outcome.Answer.{Answer}
 use Rattle.layout_model.proofs.FontSizes.{font_size_found}
 use Rattle.layout_model.proofs.KidFonts.{kid_font}
 use Rattle.layout_model.proofs.Places.{first_below, second_below}
+use Rattle.layout_model.proofs.Replies.{as_many}
 use Rattle.outcomes.specs.Elements.{IsWhole}
 use Rattle.outcomes.proofs.Kids.{last_are, size_found, whole}
 use Rattle.outcomes.proofs.element.Element.make.Goals as goal
@@ -50,6 +51,7 @@ invariant_of-result g c =
     let fonts = kid_font m (g.V.View.element c.args.view.now) context (answers_in c.args.one.now) asked in
     let back : to_z w64 (of_z w64 c.in-Some.size) ≡ c.in-Some.size = back64 (size_in c.in-Some.size found.within.low found.within.high) (lit< tt) in
     let all = whole m seen context (answers_in c.args.one.now) (answers_in c.args.two.now) (to_z w64 (of_z w64 c.in-Some.size)) c.requires.fits c.requires.replies.one_fits c.requires.replies.two_fits
+    (as_many c.args.one.now ∙ ap length c.requires.replies.one_asked) (as_many c.args.two.now ∙ ap length c.requires.replies.two_asked)
     (back ∙ size_found m context.style c.in-Some.size found.value) (subst IsSize (sym back) found.within)
     (omega (arith, c.kids-count.ensures.count, c.kids-count.ensures.few)) fonts in
     let kids = last_are m seen context (questions_in c.args.one.now) (questions_in c.args.two.now) (answers_in c.args.one.now) (answers_in c.args.two.now) _ c.kids-count.result c.requires.replies.one_asked c.requires.replies.two_asked

@@ -1,7 +1,7 @@
 use Rattle.std.proofs.Common.{◌≡◌, map, take}
 use Rattle.layout_model.specs.declared.outcome.Answer.{Answer}
 use Rattle.outcomes.proofs.Kids.{now_of}
-use Rattle.outcomes.proofs.element.Element.columns.Given as goal
+use Rattle.outcomes.proofs.spanning.plain_columns.Given as goal
 
 -- the rows so far
 abbrev pub invariant-loop-row : goal.invariant-loop-row
