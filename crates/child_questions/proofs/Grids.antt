@@ -1,5 +1,5 @@
 -- Which kind of grid a table has, and what its rows are asked with.
-use Rattle.std.proofs.Common.{◌≡◌, ◌∙◌, refl, sym, ap, subst, ℕ, ◌+◌, ◌-◌, ◌≤◌, arith, Bool, true, false, cond, List, length, ℤ}
+use Rattle.std.proofs.Common.{◌≡◌, ◌∙◌, refl, sym, ap, subst, ℕ, ◌-◌, arith, Bool, true, false, cond, List, length, ℤ}
 use Rattle.math_tables.specs.Placing.{table_width_of}
 use Rattle.span_tables.specs.Laws.{cells_at, firsts_at, slots_at}
 use Rattle.span_tables.specs.Slots.{AreInside, slots_by, starts_of}
@@ -8,11 +8,9 @@ use Rattle.span_tables.specs.declared.cells.SpanCell.{SpanCell}
 use Rattle.span_tables.proofs.SlotBounds.{inside_at}
 use Rattle.span_tables.proofs.Starts.{length-starts_of, slots_are}
 use Rattle.layout_model.specs.Tables.{cells_of_rows, columns_at, columns_over, has_spans, spanned_columns, stretch_at}
-use Rattle.layout_model.specs.declared.context.Stretch.{Stretch}
 use Rattle.layout_model.specs.declared.context.Stretch.TheVariants.{Slots}
 use Rattle.layout_model.specs.declared.outcome.Answer.{Answer}
 use Rattle.child_questions.specs.Grids.{grid_of, plain_grid_of, spanning_grid_of}
-use Rattle.child_questions.specs.declared.tables.Grid.{Grid}
 use Rattle.child_questions.specs.declared.tables.Grid.TheVariants.{Plain, Spanning}
 
 -- ---- which kind

@@ -1,6 +1,5 @@
-use Rattle.std.proofs.Common.{◌≡◌, ◌∙◌, sym, ap, subst, arith, ◌^◌, lit<, lit≤, length, All, map, w64, to_z, of_z, ℤ, List}
+use Rattle.std.proofs.Common.{◌≡◌, ◌∙◌, sym, ap, subst, arith, ◌^◌, lit<, lit≤, length, All, map, w64, to_z, of_z}
 use Rattle.std.proofs.lemmas.Int.{to_z-of_z}
-use Rattle.fixed_units.specs.Numbers.{IsWithin}
 use Rattle.fixed_units.proofs.Within.{fits_i64, widened}
 use Rattle.math_tables.specs.Placing.{IsColumn, table_width_of}
 use Rattle.layout_model.specs.Tables.{columns_over}

@@ -1,10 +1,9 @@
-use Rattle.std.proofs.Common.{◌≡◌, ◌∙◌, sym, ap, subst, arith, length, All, map, List, ℕ, ℤ}
+use Rattle.std.proofs.Common.{◌≡◌, ◌∙◌, sym, ap, subst, arith, length, All, map}
 use Rattle.std.proofs.lemmas.List.{length-map}
 use Rattle.span_tables.specs.Bounds.{HasSpan, IsStored, cell_count as span_cell_count}
 use Rattle.span_tables.specs.Slots.{starts_of}
 use Rattle.span_tables.specs.Standing.{first_columns_of}
 use Rattle.span_tables.specs.Widths.{span_columns_of}
-use Rattle.span_tables.specs.declared.cells.SpanCell.{SpanCell}
 use Rattle.layout_model.specs.Tables.{cells_of_row, cells_of_rows, spanned_columns}
 use Rattle.layout_model.proofs.Ranges.{answers_stored}
 use Rattle.layout_model.proofs.TableCells.{rows_count, rows_span, rows_stored}

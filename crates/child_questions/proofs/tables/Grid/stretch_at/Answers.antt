@@ -1,9 +1,7 @@
-use Rattle.std.proofs.Common.{◌≡◌, ◌∙◌, sym, ap, subst, arith, lit<, ◌^◌, length, All, map, take, List, [], ◌∷◌, ℕ, ℤ, w64, to_z, of_z}
+use Rattle.std.proofs.Common.{◌≡◌, ◌∙◌, sym, ap, subst, arith, lit<, ◌^◌, length, All, map, take, List, ◌∷◌, ℤ, w64, to_z, of_z}
 use Rattle.std.proofs.lemmas.Result.{IfOk-weaker}
 use Rattle.fixed_units.specs.Numbers.{IsWithin}
-use Rattle.span_tables.specs.Laws.{cells_at as cells_of_row_at, firsts_at}
-use Rattle.span_tables.specs.Slots.{slots_by}
-use Rattle.span_tables.proofs.SlotBounds.{columns_few, columns_within}
+use Rattle.span_tables.proofs.SlotBounds.{columns_few as spanned_few, columns_within}
 use Rattle.span_tables.proofs.Starts.{length-starts_of, starts_in}
 use Rattle.std.proofs.lemmas.Int.{to_z-of_z}
 use Rattle.fixed_units.proofs.Within.{fits_i64, widened}
@@ -11,7 +9,7 @@ use Rattle.math_tables.specs.Placing.{table_width_of}
 use Rattle.math_tables.proofs.Places.{start_of_in}
 use Rattle.layout_model.specs.Tables.{cells_at, cells_of_rows, columns_at, columns_over, spanned_columns, stretch_at}
 use Rattle.layout_model.specs.declared.context.Stretch.{Stretch}
-use Rattle.layout_model.specs.declared.context.Stretch.TheVariants.{Columns, Slots}
+use Rattle.layout_model.specs.declared.context.Stretch.TheVariants.{Columns}
 use Rattle.layout_model.proofs.Ranges.{answers_stored, columns_few, columns_in}
 use Rattle.layout_model.proofs.TableCells.{each_few, rows_count, rows_span, rows_stored}
 use Rattle.child_questions.proofs.Grids.{spanning_inside, stretch-plain, stretch-spanning, tells_plain, tells_spanning}
@@ -32,7 +30,7 @@ slots_at-requires-clause-within g c =
     let spans = rows_span rows fit.spans in
     subst (All (IsWithin (2 ^ 58))) (sym t.starts_are)
     (starts_in (spanned_columns rows) (columns_within cells spans (rows_stored rows (answers_stored rows fit.fit)))
-    (columns_few cells spans (omega (arith, rows_count rows, fit.few))))
+    (spanned_few cells spans (omega (arith, rows_count rows, fit.few))))
 
 pub slots_at-requires-clause-inside : goal.slots_at-requires-clause-inside
 slots_at-requires-clause-inside g c =
