@@ -23,6 +23,7 @@ loop-index-init g c =
     record {
       value = none ∙ sym (list_to-zero (row_asked c.args.metrics.now (seen_of (g.V.View.element c.args.parent.now)) c.args.context.now rows));
       styles = subst (All HasStyle) (sym none) (All-nil HasStyle);
+      grid = c.in_ok-grid.ensures {u = tt};
     }
 
 pub loop-index-preserved : goal.loop-index-preserved
@@ -39,4 +40,8 @@ loop-index-preserved g c =
       value = pushed ∙ ap (λ (l : List Question). l ++ row c.loop-index.index ∷ []) before ∙ sym more;
       styles = subst (All HasStyle) (sym pushed) (All-append HasStyle (questions_in c.loop-index.asks) _ c.loop-index.invariant.styles
           (All-cons HasStyle _ [] (subst (λ (x : Context). HasStyle (asked_in c.loop-index.index x)) context c.kid_context-context.ensures.style) (All-nil HasStyle)));
+      grid = c.loop-index.invariant.grid;
     }
+
+pub stretch_at-requires-clause-known : goal.stretch_at-requires-clause-known
+stretch_at-requires-clause-known g c = c.loop-index.invariant.grid
