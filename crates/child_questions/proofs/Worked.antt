@@ -1,5 +1,5 @@
 -- Worked figures: which surveys tell that there is no second wave.
-use Rattle.std.proofs.Common.{◌≡◌, refl, List, [], ◌∷◌, Bool, true, false, Option, Some, None}
+use Rattle.std.proofs.Common.{◌≡◌, refl, [], ◌∷◌, true, false, Option, Some, None}
 use Rattle.op_dictionary.specs.declared.operator.Axis.{Axis}
 use Rattle.op_dictionary.specs.declared.operator.Axis.TheVariants.{Block}
 use Rattle.row_stretch.specs.declared.parts.KidPull.{KidPull}

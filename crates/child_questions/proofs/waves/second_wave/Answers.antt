@@ -1,4 +1,4 @@
-use Rattle.std.proofs.Common.{◌≡◌, ◌∙◌, ap, subst, sym, arith, length, map}
+use Rattle.std.proofs.Common.{◌∙◌, ap, subst, sym, arith, length, map}
 use Rattle.std.specs.List.{All}
 use Rattle.std.proofs.lemmas.List.Elements.{All-nil}
 use Rattle.embellished.specs.Seen.{seen_of}

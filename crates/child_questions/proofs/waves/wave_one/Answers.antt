@@ -1,4 +1,4 @@
-use Rattle.std.proofs.Common.{◌≡◌, ◌∙◌, ap, subst, sym}
+use Rattle.std.proofs.Common.{◌∙◌, ap, subst, sym}
 use Rattle.std.specs.List.{All}
 use Rattle.layout_model.specs.Answers.{questions_in}
 use Rattle.layout_model.specs.Fits.{HasStyle}
