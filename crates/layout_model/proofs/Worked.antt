@@ -13,7 +13,7 @@ use Rattle.font_metrics.specs.declared.constants.ConstName.TheVariants.{AxisHeig
 use Rattle.font_metrics.specs.declared.mark.Mark.TheVariants.{Glyph, Rule}
 use Rattle.math_tree.specs.declared.attributes.Attribute.{Attribute}
 use Rattle.math_tree.specs.declared.kind.Kind.{Kind}
-use Rattle.math_tree.specs.declared.kind.Kind.TheVariants.{Math, Mfrac, Mi, Mn, Mo, Mroot, Mspace, Msubsup, Mtable, Mtr, Munder}
+use Rattle.math_tree.specs.declared.kind.Kind.TheVariants.{Math, Mfrac, Mi, Mn, Mo, Mroot, Mspace, Msubsup, Mtable, Mtd, Mtr, Munder}
 use Rattle.math_tree.specs.declared.node.Head.{Head}
 use Rattle.math_tree.specs.declared.node.Node.{Node}
 use Rattle.math_tree.specs.declared.node.Node.TheFolds.{fold-roll-Node}
@@ -44,7 +44,10 @@ use Rattle.scripts.specs.LimitGaps.{below_of, distance_of, extra_of}
 use Rattle.scripts.specs.Limits.{attached_of, lean_of, limits_of, middle_of, spot_in_of, under_limit_of, under_x_of, whole_of}
 use Rattle.scripts.specs.Shifts.{lack_of, moved_apart_of, pair_shifts_of, rise_of, sub_shift_of, sup_shift_of}
 use Rattle.math_tables.specs.Columns.{columns_of}
-use Rattle.math_tables.specs.Placing.{baseline_of, start_of, table_ascent_of, top_of as top_of_row}
+use Rattle.math_tables.specs.Placing.{baseline_of, cell_x_of, slot_x_of, start_of, table_ascent_of, top_of as top_of_row}
+use Rattle.span_tables.specs.Heights.{height_over}
+use Rattle.span_tables.specs.Spans.{written}
+use Rattle.span_tables.specs.Widths.{share_of as span_share_of, width_over}
 use Rattle.style_scope.specs.Rules.{by_direction, by_display, by_level, by_name, by_place, by_size, is_compact_in, is_cramped_in, levels_of}
 use Rattle.style_scope.specs.Sizes.{size_of}
 use Rattle.style_scope.specs.Styles.{by_attributes, child_style_of, initial}
@@ -54,12 +57,13 @@ use Rattle.token_boxes.specs.Space.{side_of, space_of}
 use Rattle.token_boxes.specs.Token.{token_glyph_of}
 use Rattle.layout_model.specs.Contexts.{kid_axis, kid_style, pull_of}
 use Rattle.layout_model.specs.Elements.{offset, outcome_with, row_frame, row_in}
-use Rattle.layout_model.specs.Equations.{corner_at, limit_case, outcome_by, space_outcome, thickness_of}
+use Rattle.layout_model.specs.Equations.{cells_placed, corner_at, limit_case, outcome_by, space_outcome, thickness_of}
 use Rattle.layout_model.specs.Layout.{Subtree, equation, last_answers, lay, lay_by, over, subtree}
 use Rattle.layout_model.specs.Questions.{asking, asking_of, base_properties, first, first_asks, kid_pulls, second, second_asks}
-use Rattle.layout_model.specs.Tables.{table_columns, table_rows}
+use Rattle.layout_model.specs.Tables.{cell_span, spans_of, stretch_at, table_columns, table_rows}
 use Rattle.layout_model.specs.declared.context.Context.{Context}
-use Rattle.layout_model.specs.declared.context.Stretch.TheVariants.{None as Unstretched}
+use Rattle.layout_model.specs.declared.context.Stretch.{Stretch}
+use Rattle.layout_model.specs.declared.context.Stretch.TheVariants.{None as Unstretched, Slots}
 use Rattle.layout_model.specs.declared.outcome.Answer.{Answer}
 use Rattle.layout_model.specs.declared.outcome.Offset.{Offset}
 use Rattle.layout_model.specs.declared.outcome.Outcome.{Outcome}
@@ -113,6 +117,12 @@ sample = record {
 
 abbrev head_of : Kind → Head
 head_of kind = record { id = record { 0 = 1 }; name = []; kind = kind; attributes = []; text = [] }
+
+abbrev given : List ℕ → List ℕ → Attribute
+given name value = record { name = name; value = value }
+
+abbrev head_with : Kind → List Attribute → Head
+head_with kind attributes = record { id = record { 0 = 2 }; name = []; kind = kind; attributes = attributes; text = [] }
 
 abbrev plain : Kind → Facts
 plain kind = record { space_like = false; core = None; laid = kind }
@@ -234,13 +244,63 @@ pub table-three_rows : equation sample (element (plain Mtable) (child Mtr ∷ ch
 unfolding equation last_answers last_answer first second asking asking_of kid_pulls kid_axis stretch_axis pull_of first_asks second_asks asks_from planned outcome_by outcome_with size_of table_rows table_columns columns_of table_ascent_of baseline_of top_of_row start_of sum_to constant_of scale_of rounded list_to halved
 table-three_rows = refl
 
+-- ---- a cell over two columns
+
+abbrev asked_with : Stretch → Context
+asked_with stretch = record { style = initial; form = Infix; stretch = stretch }
+
+-- cells with a space of 50.001 px and with the digit 1
+abbrev wide : Answer
+wide = answer (box (pos 64309) (pos 4096) (pos 4096) (pos 0) (pos 0) (pos 32154)) (pos 0) []
+
+abbrev cell : Answer
+cell = answer (box (pos 21300) (pos 18496) (pos 8896) (pos 10880) (pos 0) (pos 10650)) (pos 0) []
+
+abbrev over_two : Kid
+over_two = record { head = head_with Mtd (given (codes "columnspan") (codes "2") ∷ []); facts = plain Mtd }
+
+-- the row of the wide cell, and the one below it with two cells: at first as wide as these, then as the table
+abbrev upper : Answer
+upper = record {
+  frame = box (pos 64309) (pos 4096) (pos 4096) (pos 0) (pos 0) (pos 32154);
+  before = pos 0;
+  after = pos 0;
+  cells = pos 64309 ∷ [];
+  spans = record { columns = 2; rows = 1; ascent = pos 4096; descent = pos 4096 } ∷ [];
+}
+
+abbrev lower : ℤ → ℤ → Answer
+lower width accent = answer (box width (pos 18496) (pos 8896) (pos 10880) (pos 0) accent) (pos 0) (pos 21300 ∷ pos 21300 ∷ [])
+
+pub row-over_two : equation sample (element (plain Mtr) (over_two ∷ [])) in_text (wide ∷ []) []
+    ≡ record { answer = upper; offsets = offset 0 (pos 0) (pos 0) ∷ []; marks = [] }
+unfolding equation last_answers last_answer first second asking asking_of kid_pulls kid_axis stretch_axis pull_of first_asks second_asks asks_from planned outcome_by outcome_with cells_placed cell_x_of start_of spans_of cell_span written joined sum_to list_to halved
+row-over_two = refl
+
+-- the wide cell lacks 21709, of which the first column gets a unit more
+pub slots-over_two : stretch_at (upper ∷ lower (pos 42600) (pos 21300) ∷ []) 0 ≡ Slots (pos 64309 ∷ pos 0 ∷ pos 64309 ∷ [])
+unfolding stretch_at width_over span_share_of sum_to list_to
+slots-over_two = refl
+
+pub slots-below : stretch_at (upper ∷ lower (pos 42600) (pos 21300) ∷ []) 1
+    ≡ Slots (pos 64309 ∷ pos 0 ∷ pos 32155 ∷ pos 32155 ∷ pos 32154 ∷ [])
+unfolding stretch_at width_over span_share_of sum_to list_to
+slots-below = refl
+
+pub row-below : equation sample (element (plain Mtr) (child Mtd ∷ child Mtd ∷ []))
+    (asked_with (Slots (pos 64309 ∷ pos 0 ∷ pos 32155 ∷ pos 32155 ∷ pos 32154 ∷ []))) (cell ∷ cell ∷ []) []
+    ≡ record { answer = lower (pos 64309) (pos 32154); offsets = offset 0 (pos 5427) (pos 0) ∷ offset 1 (pos 37582) (pos 0) ∷ []; marks = [] }
+unfolding equation last_answers last_answer first second asking asking_of kid_pulls kid_axis stretch_axis pull_of first_asks second_asks asks_from planned outcome_by outcome_with cells_placed slot_x_of spans_of cell_span joined list_to halved
+row-below = refl
+
+pub table-over_two : equation sample (element (plain Mtable) (child Mtr ∷ child Mtr ∷ [])) in_text
+    (upper ∷ lower (pos 42600) (pos 21300) ∷ []) (upper ∷ lower (pos 64309) (pos 32154) ∷ [])
+    ≡ made (box (pos 64309) (pos 21888) (pos 13696) (pos 21888) (pos 13696) (pos 32154)) (pos 0)
+    (offset 0 (pos 0) (neg_ℤ (pos 17792)) ∷ offset 1 (pos 0) (pos 4800) ∷ []) []
+unfolding equation last_answers last_answer first second asking asking_of kid_pulls kid_axis stretch_axis pull_of first_asks second_asks asks_from planned outcome_by outcome_with size_of stretch_at table_rows table_columns width_over span_share_of height_over table_ascent_of baseline_of top_of_row start_of sum_to constant_of scale_of rounded list_to halved
+table-over_two = refl
+
 -- ---- a whole tree: a fraction of two spaces
-
-abbrev given : List ℕ → List ℕ → Attribute
-given name value = record { name = name; value = value }
-
-abbrev head_with : Kind → List Attribute → Head
-head_with kind attributes = record { id = record { 0 = 2 }; name = []; kind = kind; attributes = attributes; text = [] }
 
 abbrev top : Head
 top = head_with Mspace (given (codes "height") (codes "8px") ∷ given (codes "width") (codes "6px") ∷ [])
