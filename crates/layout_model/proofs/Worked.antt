@@ -56,6 +56,7 @@ use Rattle.token_boxes.specs.Lengths.{absolute_in}
 use Rattle.token_boxes.specs.Space.{side_of, space_of}
 use Rattle.token_boxes.specs.Token.{token_glyph_of}
 use Rattle.layout_model.specs.Contexts.{kid_axis, kid_style, pull_of}
+use Rattle.layout_model.specs.Direction.{mirrored}
 use Rattle.layout_model.specs.Elements.{offset, outcome_with, row_frame, row_in}
 use Rattle.layout_model.specs.Equations.{cells_placed, corner_at, limit_case, outcome_by, space_outcome, thickness_of}
 use Rattle.layout_model.specs.Layout.{Subtree, equation, last_answers, lay, lay_by, over, subtree}
@@ -256,8 +257,8 @@ wide = answer (box (pos 64309) (pos 4096) (pos 4096) (pos 0) (pos 0) (pos 32154)
 abbrev cell : Answer
 cell = answer (box (pos 21300) (pos 18496) (pos 8896) (pos 10880) (pos 0) (pos 10650)) (pos 0) []
 
-abbrev over_two : Kid
-over_two = record { head = head_with Mtd (given (codes "columnspan") (codes "2") ∷ []); facts = plain Mtd }
+abbrev spanning : List ℕ → Kid
+spanning name = record { head = head_with Mtd (given name (codes "2") ∷ []); facts = plain Mtd }
 
 -- the row of the wide cell, and the one below it with two cells: at first as wide as these, then as the table
 abbrev upper : Answer
@@ -272,7 +273,7 @@ upper = record {
 abbrev lower : ℤ → ℤ → Answer
 lower width accent = answer (box width (pos 18496) (pos 8896) (pos 10880) (pos 0) accent) (pos 0) (pos 21300 ∷ pos 21300 ∷ [])
 
-pub row-over_two : equation sample (element (plain Mtr) (over_two ∷ [])) in_text (wide ∷ []) []
+pub row-over_two : equation sample (element (plain Mtr) (spanning (codes "columnspan") ∷ [])) in_text (wide ∷ []) []
     ≡ record { answer = upper; offsets = offset 0 (pos 0) (pos 0) ∷ []; marks = [] }
 unfolding equation last_answers last_answer first second asking asking_of kid_pulls kid_axis stretch_axis pull_of first_asks second_asks asks_from planned outcome_by outcome_with cells_placed cell_x_of start_of spans_of cell_span written joined sum_to list_to halved
 row-over_two = refl
@@ -293,12 +294,58 @@ pub row-below : equation sample (element (plain Mtr) (child Mtd ∷ child Mtd �
 unfolding equation last_answers last_answer first second asking asking_of kid_pulls kid_axis stretch_axis pull_of first_asks second_asks asks_from planned outcome_by outcome_with cells_placed slot_x_of spans_of cell_span joined list_to halved
 row-below = refl
 
+-- from right to left its cells change places
+pub row-below_from_right : equation sample (element (plain Mtr) (child Mtd ∷ child Mtd ∷ []))
+    (record (asked_with (Slots (pos 64309 ∷ pos 0 ∷ pos 32155 ∷ pos 32155 ∷ pos 32154 ∷ []))) { style = record initial { rtl = true } }) (cell ∷ cell ∷ []) []
+    ≡ record { answer = lower (pos 64309) (pos 32154); offsets = offset 0 (pos 37582) (pos 0) ∷ offset 1 (pos 5427) (pos 0) ∷ []; marks = [] }
+unfolding equation last_answers last_answer first second asking asking_of kid_pulls kid_axis stretch_axis pull_of first_asks second_asks asks_from planned outcome_by outcome_with cells_placed slot_x_of spans_of cell_span joined mirrored list_to halved
+row-below_from_right = refl
+
 pub table-over_two : equation sample (element (plain Mtable) (child Mtr ∷ child Mtr ∷ [])) in_text
     (upper ∷ lower (pos 42600) (pos 21300) ∷ []) (upper ∷ lower (pos 64309) (pos 32154) ∷ [])
     ≡ made (box (pos 64309) (pos 21888) (pos 13696) (pos 21888) (pos 13696) (pos 32154)) (pos 0)
     (offset 0 (pos 0) (neg_ℤ (pos 17792)) ∷ offset 1 (pos 0) (pos 4800) ∷ []) []
 unfolding equation last_answers last_answer first second asking asking_of kid_pulls kid_axis stretch_axis pull_of first_asks second_asks asks_from planned outcome_by outcome_with size_of stretch_at table_rows table_columns width_over span_share_of height_over table_ascent_of baseline_of top_of_row start_of sum_to constant_of scale_of rounded list_to halved
 table-over_two = refl
+
+-- ---- a cell over two rows
+
+-- a cell with a space of 40 px below the baseline
+abbrev deep : Answer
+deep = answer (box (pos 13108) (pos 4096) (pos 45056) (pos 0) (pos 40960) (pos 6554)) (pos 0) []
+
+-- its row, in which it counts upward alone, and the row below it
+abbrev beside : Answer
+beside = record {
+  frame = box (pos 34408) (pos 18496) (pos 8896) (pos 10880) (pos 40960) (pos 17204);
+  before = pos 0;
+  after = pos 0;
+  cells = pos 13108 ∷ pos 21300 ∷ [];
+  spans =
+      record { columns = 1; rows = 2; ascent = pos 4096; descent = pos 45056 }
+      ∷ record { columns = 1; rows = 1; ascent = pos 18496; descent = pos 8896 } ∷ [];
+}
+
+abbrev last : ℤ → ℤ → Answer
+last width accent = answer (box width (pos 18496) (pos 8896) (pos 10880) (pos 0) accent) (pos 0) (pos 21300 ∷ [])
+
+pub row-over_two_rows : equation sample (element (plain Mtr) (spanning (codes "rowspan") ∷ child Mtd ∷ [])) in_text (deep ∷ cell ∷ []) []
+    ≡ record { answer = beside; offsets = offset 0 (pos 0) (pos 0) ∷ offset 1 (pos 13108) (pos 0) ∷ []; marks = [] }
+unfolding equation last_answers last_answer first second asking asking_of kid_pulls kid_axis stretch_axis pull_of first_asks second_asks asks_from planned outcome_by outcome_with cells_placed cell_x_of start_of spans_of cell_span written joined sum_to list_to halved
+row-over_two_rows = refl
+
+-- the cell of the second row stands in the second column
+pub slots-beside : stretch_at (beside ∷ last (pos 21300) (pos 10650) ∷ []) 1 ≡ Slots (pos 34408 ∷ pos 13108 ∷ pos 21300 ∷ [])
+unfolding stretch_at width_over span_share_of sum_to list_to
+slots-beside = refl
+
+-- the deep cell lacks 8768, by which the second row is deeper
+pub table-over_two_rows : equation sample (element (plain Mtable) (child Mtr ∷ child Mtr ∷ [])) in_text
+    (beside ∷ last (pos 21300) (pos 10650) ∷ []) (beside ∷ last (pos 34408) (pos 17204) ∷ [])
+    ≡ made (box (pos 34408) (pos 35872) (pos 27680) (pos 35872) (pos 27680) (pos 17204)) (pos 0)
+    (offset 0 (pos 0) (neg_ℤ (pos 17376)) ∷ offset 1 (pos 0) (pos 10016) ∷ []) []
+unfolding equation last_answers last_answer first second asking asking_of kid_pulls kid_axis stretch_axis pull_of first_asks second_asks asks_from planned outcome_by outcome_with size_of stretch_at table_rows table_columns width_over span_share_of height_over table_ascent_of baseline_of top_of_row start_of sum_to constant_of scale_of rounded list_to halved
+table-over_two_rows = refl
 
 -- ---- a whole tree: a fraction of two spaces
 
