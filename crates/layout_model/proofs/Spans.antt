@@ -1,5 +1,5 @@
 -- What cells span lies within the limits, and it is told of all cells of a row or of none.
-use Rattle.std.proofs.Common.{◌≡◌, ◌∙◌, refl, sym, ap, subst, ℕ, ◌≤◌, ◌==◌, ◌⊎◌, min, arith, Bool, true, false, cond, inl, inr, codes, List, [], ◌∷◌, ◌++◌, length, map, All, Option, Some, None, slice_get}
+use Rattle.std.proofs.Common.{◌≡◌, refl, sym, ap, subst, ℕ, ◌≤◌, ◌⊎◌, min, arith, Bool, true, false, cond, inl, inr, codes, List, [], ◌++◌, length, map, All, Option, Some, None, slice_get}
 use Rattle.std.proofs.lemmas.Bool.Decides.{eqb_tells}
 use Rattle.std.proofs.lemmas.List.{length-map}
 use Rattle.std.proofs.lemmas.List.Elements.{All-nil}
@@ -25,7 +25,7 @@ use Rattle.layout_model.specs.Fits.{AreSpans}
 use Rattle.layout_model.specs.Laws.{answer_of}
 use Rattle.layout_model.specs.Layout.{equation, last_answers, lay, lay_by}
 use Rattle.layout_model.specs.Questions.{first, has_moved_limits, second}
-use Rattle.layout_model.specs.Tables.{cell_span, is_spanning, single, span_over, spans_of, unless_single}
+use Rattle.layout_model.specs.Tables.{cell_span, is_spanning, single, span_over, spans_of}
 use Rattle.layout_model.specs.declared.context.Context.{Context}
 use Rattle.layout_model.specs.declared.outcome.Answer.{Answer}
 use Rattle.layout_model.specs.declared.outcome.Outcome.{Outcome}

@@ -1,15 +1,13 @@
 -- The cells of a table, over answers of its rows: how they span, and how far what the rows are asked with reaches.
-use Rattle.std.proofs.Common.{◌≡◌, ◌∙◌, refl, sym, ap, subst, ℕ, zero, suc, ◌+◌, ◌^◌, ◌<◌, ◌≤◌, arith, Bool, true, false, cond, List, [], ◌∷◌, length, map, take, get_or, All, ℤ, pos}
+use Rattle.std.proofs.Common.{◌≡◌, refl, ℕ, zero, suc, ◌+◌, ◌≤◌, arith, Bool, true, false, cond, List, [], ◌∷◌, length, take, get_or, All, ℤ, pos}
 use Rattle.std.proofs.lemmas.List.Elements.{All-cons, All-head, All-map, All-nil, All-tail}
 use Rattle.std.proofs.lemmas.List.Sums.{sum_by-cons}
-use Rattle.std.specs.List.{sum_by}
 use Rattle.fixed_units.specs.Boxes.{farthest}
 use Rattle.fixed_units.specs.Numbers.{IsWithin}
 use Rattle.fixed_units.proofs.Sums.{length-list_to}
 use Rattle.fixed_units.proofs.Within.{natural_in, widened}
 use Rattle.span_tables.specs.Bounds.{HasSpan, IsSpan, IsSpanStored, IsStored, cell_count as span_cell_count}
 use Rattle.span_tables.specs.Laws.{slots_at}
-use Rattle.span_tables.specs.declared.cells.SpanCell.{SpanCell}
 use Rattle.span_tables.proofs.SlotBounds.{slots_within}
 use Rattle.layout_model.specs.Fits.{AreAnswers, AreSpans, IsStretch, cell_count}
 use Rattle.layout_model.specs.Tables.{cell_of_row, cells_at, cells_of_row, cells_of_rows, columns_at, columns_over, has_spans, single, stretch_at}
