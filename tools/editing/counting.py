@@ -7,7 +7,6 @@ from second.metrics_reading import read_metrics
 
 # Larger formulas aren't counted, since that takes longer than the engine does.
 MOST_ELEMENTS = 400
-SPANS = ("columnspan", "rowspan")
 
 
 class Counter:
@@ -21,7 +20,7 @@ class Counter:
         counted."""
         if not trees:
             return 0
-        if any(tree.root.count > MOST_ELEMENTS or spans(tree.root) for tree in trees):
+        if any(tree.root.count > MOST_ELEMENTS for tree in trees):
             self.tree = None
             return None
         try:
@@ -46,11 +45,6 @@ def nodes(node):
     yield node
     for child in node.children:
         yield from nodes(child)
-
-
-def spans(node):
-    """Whether a cell spans, of which the layouts aren't known here."""
-    return any(name in node.attributes for name in SPANS) or any(map(spans, node.children))
 
 
 def metrics_of(path):

@@ -97,6 +97,15 @@ class InBrowser(unittest.TestCase):
         return self.browser.run("const box = document.querySelector(`#page-boxes [data-id='${arguments[0]}']`).getBoundingClientRect();"
                                 "return [box.left, box.top, box.width, box.height]", node.id)
 
+    def test_cells_that_span(self):
+        """A table with a cell over two columns, and one with a cell over two rows."""
+        for keys in ([" \\matrix a\\wider "], ["Enter"], [" 2&3"], ["ArrowRight"], [" \\column "], [" \\matrix 1\\taller "], [" &4"]):
+            self.press(*keys)
+            self.assert_fresh()
+        tree = print_tree(self.page.document.tree)
+        self.assertIn('"columnspan":"2"', tree)
+        self.assertIn('"rowspan":"2"', tree)
+
     def test_the_quadratic_formula(self):
         for key in QUADRATIC:
             for one in key[1:] if key[0] == " " else [key]:
