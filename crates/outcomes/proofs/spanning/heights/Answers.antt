@@ -16,14 +16,14 @@ pub loop-index-preserved : goal.loop-index-preserved
 loop-index-preserved g c =
     let i = c.loop-index.index in
     let kids = c.args.e.now.kids in
-    let height = height_of_row c.frame.result in
+    let height = height_of_row c.frame-frame.result in
     let before = c.loop-index.heights in
     let pushed : c.push.new.self ≡ before ++ height ∷ [] = (c.in_ok-push.ensures {u = tt}).ok in
-    let stored : IsHeightStored height = record { ascent = c.frame.ensures.stored.ascent; descent = c.frame.ensures.stored.descent } in
+    let stored : IsHeightStored height = record { ascent = c.frame-frame.ensures.stored.ascent; descent = c.frame-frame.ensures.stored.descent } in
     record {
       value = pushed
           ∙ ap (λ (hs : List RowHeight). hs ++ height ∷ []) c.loop-index.invariant.value
-          ∙ ap (λ (f : MathBox). map height_of (take i kids) ++ height_of_row f ∷ []) c.frame.ensures.value
+          ∙ ap (λ (f : MathBox). map height_of (take i kids) ++ height_of_row f ∷ []) c.frame-frame.ensures.value
           ∙ sym (ap (λ (xs : List Answer). map height_of xs) (take_more kids i no_answer (omega (arith, c.loop-index-test.true, c.count-index-end.ensures.kids)))
           ∙ map-append height_of (take i kids) (get_or kids i no_answer ∷ []));
       stored = subst (All IsHeightStored) (sym pushed)
