@@ -42,5 +42,6 @@ row_told e row frame widths spans offsets marks made false far row_is widths_are
 pub returns : goal.returns
 returns g c =
     let widths = (c.in_ok-widths.ensures {u = tt}).value ∙ ap (λ (frames : List MathBox). map width_of frames) (c.as_slice.ensures ∙ (c.in_ok-cells.ensures {u = tt}).value) in
+    let frame = c.spanned-frame.ensures ∙ ap (λ (spans : List CellSpan). spanned spans c.in_ok-row.row.frame) c.as_slice-2.ensures in
     row_told c.args.e.now c.in_ok-row.row c.spanned-frame.result c.in_ok-widths.widths c.in_ok-spans.spans c.in_ok-offsets.offsets c.make.result c.outcome_with.result _ refl
-    (c.in_ok-row.ensures {u = tt}).value widths (c.in_ok-spans.ensures {u = tt}) c.spanned-frame.ensures (c.in_ok-offsets.ensures {u = tt}) c.make.ensures c.outcome_with.ensures
+    (c.in_ok-row.ensures {u = tt}).value widths (c.in_ok-spans.ensures {u = tt}) frame (c.in_ok-offsets.ensures {u = tt}) c.make.ensures c.outcome_with.ensures
