@@ -1,5 +1,5 @@
 -- How far the cells of a row of a table stand from its start, and how wide they are.
-use Rattle.std.proofs.Common.{◌≡◌, ◌∙◌, refl, sym, ap, subst, max, [], ◌∷◌, ℕ, ◌^◌, ◌<◌, ◌≤◌, arith, lit≤, List, length, map, All, ℤ}
+use Rattle.std.proofs.Common.{◌≡◌, ◌∙◌, refl, sym, subst, max, [], ◌∷◌, ℕ, ◌^◌, ◌<◌, ◌≤◌, arith, lit≤, List, length, map, All, ℤ}
 use Rattle.std.proofs.lemmas.List.Elements.{All-head, All-map, All-tail}
 use Rattle.fixed_units.specs.Boxes.{IsStored, empty_box, farthest}
 use Rattle.fixed_units.specs.Numbers.{IsWithin}

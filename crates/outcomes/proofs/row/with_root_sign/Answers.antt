@@ -1,4 +1,4 @@
-use Rattle.std.proofs.Common.{◌≡◌, ◌∙◌, ap, subst, sym, lit<, lit≤, ◌^◌, ℤ, [], map, w64, to_z, of_z}
+use Rattle.std.proofs.Common.{◌≡◌, ◌∙◌, ap, subst, sym, lit<, lit≤, ◌^◌, ℤ, map, w64, to_z, of_z}
 use Rattle.fixed_units.specs.Numbers.{IsWithin}
 use Rattle.fixed_units.proofs.Within.{widened}
 use Rattle.font_metrics.proofs.Scaling.{back64, within64}

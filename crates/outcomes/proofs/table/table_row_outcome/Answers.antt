@@ -28,15 +28,15 @@ unfolding outcome_with
 row_told e row frame widths spans offsets marks made true fits row_is widths_are spans_are frame_is offsets_are marks_are made_is =
     inl (made_is
     ∙ (λ i. outcome_with e ((frame_is ∙ (λ j. spanned (spans_are j) (row_is j).frame)) i) (widths_are i) (spans_are i)
-      ((offsets_are fits ∙ (λ j. along e (row_is j) (pos 0) (pos 0))) i) (marks_are i)))
+    ((offsets_are fits ∙ (λ j. along e (row_is j) (pos 0) (pos 0))) i) (marks_are i)))
 row_told e row frame widths spans offsets marks made false far row_is widths_are spans_are frame_is offsets_are marks_are made_is = inr (
   unstored_width (table_row_outcome e)
-  (ap is_stored (spanned_width (spans_of e) (cells_placed e).frame) ∙ ap (λ (r : Row). is_stored r.frame.width) (sym row_is) ∙ far),
+      (ap is_stored (spanned_width (spans_of e) (cells_placed e).frame) ∙ ap (λ (r : Row). is_stored r.frame.width) (sym row_is) ∙ far),
   unstored_width made
-  (ap (λ (o : Outcome). is_stored o.answer.frame.width) made_is
-  ∙ ap (λ (f : MathBox). is_stored f.width) frame_is
-  ∙ ap is_stored (spanned_width spans row.frame)
-  ∙ far),
+      (ap (λ (o : Outcome). is_stored o.answer.frame.width) made_is
+      ∙ ap (λ (f : MathBox). is_stored f.width) frame_is
+      ∙ ap is_stored (spanned_width spans row.frame)
+      ∙ far),
 )
 
 pub returns : goal.returns
