@@ -1,5 +1,5 @@
 -- Numbers of 64 bits that are reckoned with in 128 bits.
-use Rattle.std.proofs.Common.{◌≡◌, ◌∙◌, ap, subst, sym, lit<, ◌^◌, ℤ, ◌-ℤ◌, arith, w64, to_z, of_z, FitsSigned}
+use Rattle.std.proofs.Common.{◌≡◌, ◌∙◌, ap, subst, sym, lit<, ◌+◌, ◌^◌, ℤ, ◌-ℤ◌, arith, w64, to_z, of_z, FitsSigned}
 use Rattle.std.specs.Int.{w128}
 use Rattle.std.proofs.lemmas.Int.{to_z-of_z}
 use Rattle.fixed_units.specs.Numbers.{IsWithin}
@@ -23,8 +23,8 @@ difference_told a b wide_a wide_b f g d e =
     ∙ back128 (difference_in (fitting a f) (fitting b g)) (lit< tt)
 
 -- one that comes back to 64 bits
-pub fits_back : (z : ℤ) → IsWithin (2 ^ 52) z → FitsSigned w64 (to_z w128 (of_z w128 z))
+pub fits_back : (z : ℤ) → IsWithin (2 ^ 61 + 2 ^ 52) z → FitsSigned w64 (to_z w128 (of_z w128 z))
 fits_back z h = subst (FitsSigned w64) (sym (back128 h (lit< tt))) (fits_i64 h (lit< tt))
 
-pub comes_back : (z : ℤ) → IsWithin (2 ^ 52) z → to_z w64 (of_z w64 (to_z w128 (of_z w128 z))) ≡ z
+pub comes_back : (z : ℤ) → IsWithin (2 ^ 61 + 2 ^ 52) z → to_z w64 (of_z w64 (to_z w128 (of_z w128 z))) ≡ z
 comes_back z h = ap (λ (y : ℤ). to_z w64 (of_z w64 y)) (back128 h (lit< tt)) ∙ back64 h (lit< tt)

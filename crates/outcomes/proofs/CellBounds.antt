@@ -1,5 +1,5 @@
 -- How far the cells of a row of a table stand from its start, and how wide they are.
-use Rattle.std.proofs.Common.{◌≡◌, ◌∙◌, refl, sym, ap, subst, max, [], ◌∷◌, ◌++◌, ℕ, ◌^◌, ◌<◌, ◌≤◌, arith, lit≤, List, length, map, All, ℤ}
+use Rattle.std.proofs.Common.{◌≡◌, ◌∙◌, refl, sym, subst, max, [], ◌∷◌, ℕ, ◌^◌, ◌<◌, ◌≤◌, arith, lit≤, List, length, map, All, ℤ}
 use Rattle.std.proofs.lemmas.List.Elements.{All-head, All-map, All-tail}
 use Rattle.fixed_units.specs.Boxes.{IsStored, empty_box, farthest}
 use Rattle.fixed_units.specs.Numbers.{IsWithin}
@@ -11,7 +11,8 @@ use Rattle.math_tables.specs.Columns.{column_at, column_count, columns_of, wides
 use Rattle.math_tables.specs.Placing.{cell_offsets_of, cell_x_of, start_of, width_at}
 use Rattle.layout_model.specs.Tables.{columns_over}
 use Rattle.layout_model.specs.Fits.{IsStretch}
-use Rattle.layout_model.specs.declared.context.Stretch.TheVariants.{Columns}
+use Rattle.layout_model.specs.declared.context.Stretch.{Stretch}
+use Rattle.layout_model.specs.declared.context.Stretch.TheVariants.{Slots}
 use Rattle.layout_model.specs.declared.outcome.Answer.{Answer}
 use Rattle.outcomes.proofs.Kids.{cells_few}
 use Rattle.outcomes.proofs.Lists.{All-at, All-list_to, number_at}
@@ -39,12 +40,11 @@ cell_offsets_in cells widths few stored all =
     All-list_to (IsWithin (2 ^ 61)) (length cells) (cell_x_of cells widths)
     (λ i l. widened (2 ^ 61) (cell_x_in cells widths i (omega (arith, few, l)) stored all) (lit≤ tt))
 
--- the columns behind the width of all of them, copied into a list of their own
-pub own_in : (own columns told made : List ℤ) (total : ℤ) → own ≡ made ++ columns → made ≡ [] → told ≡ total ∷ columns → IsStretch (Columns told)
-    → All (IsWithin farthest) own
-own_in own columns told made total pushed none split fits =
-    subst (All (IsWithin farthest)) (sym (pushed ∙ ap (λ (xs : List ℤ). xs ++ columns) none))
-    (subst (λ (all : List ℤ). IsStretch (Columns all)) split fits)
+-- the slots behind the width of all columns
+pub slots_in : (stretch : Stretch) (numbers told slots : List ℤ) (total : ℤ) → IsStretch stretch → stretch ≡ Slots numbers → told ≡ numbers
+    → told ≡ total ∷ slots → All (IsWithin (2 ^ 60)) slots
+slots_in stretch numbers told slots total fits is same split =
+    All-tail (IsWithin (2 ^ 60)) total slots (subst (All (IsWithin (2 ^ 60))) (sym same ∙ split) (subst IsStretch is fits))
 
 -- a table over rows of at most so many cells has at most so many columns
 pub columns_at_most : (rows : List Answer) → All cells_few rows → length (columns_over rows) ≤ 65536

@@ -35,12 +35,13 @@ module _ (asks : List Question) (one two : List Answer) (row : ℕ → Question)
       (λ j. last_answer (asks_are j) (told_are j) k)
       ∙ last_answer-more k behind told (row i) (get_or two i no_answer) long
       ∙ ap (λ (n : ℕ). cond (nat_eq n k) (get_or two i no_answer) (last_answer behind told k)) (own i)
-      ∙ by (nat_eq i k) refl
+      ∙ by (nat_eq i k) refl (λ t. so_far i (omega (arith, l)) k (let other = eqb-false i k t in omega (arith, h, other)))
     where
       by : (v : Bool) → nat_eq i k ≡ v
+          → (nat_eq i k ≡ false → last_answer (asks ++ list_to i row) (one ++ take i two) k ≡ get_or two k no_answer)
           → cond v (get_or two i no_answer) (last_answer (asks ++ list_to i row) (one ++ take i two) k) ≡ get_or two k no_answer
-      by true t = ap (λ (n : ℕ). get_or two n no_answer) (eqb-true i k t)
-      by false t = so_far i (omega (arith, l)) k (let other = eqb-false i k t in omega (arith, h, other))
+      by true t earlier = ap (λ (n : ℕ). get_or two n no_answer) (eqb-true i k t)
+      by false t earlier = earlier t
 
   last_are_two : (n : ℕ) → length two ≡ n → list_to n (last_answer (asks ++ list_to n row) (one ++ two)) ≡ two
   last_are_two n count =

@@ -11,9 +11,9 @@ use Rattle.token_boxes.specs.declared.leaf.Leaf.{Leaf}
 use Rattle.layout_model.specs.Contexts.{pull_of}
 use Rattle.layout_model.specs.Equations.{leaf_outcome}
 use Rattle.layout_model.specs.Fits.{IsStretch}
-use Rattle.layout_model.specs.Range.{answer_fits, mark_fits, offset_fits, outcome_fits}
+use Rattle.layout_model.specs.Range.{answer_fits, mark_fits, offset_fits, outcome_fits, span_fits}
 use Rattle.layout_model.specs.declared.context.Stretch.{Stretch}
-use Rattle.layout_model.specs.declared.context.Stretch.TheVariants.{None as Unstretched, Block as Upright, Inline as Sideways, Columns}
+use Rattle.layout_model.specs.declared.context.Stretch.TheVariants.{None as Unstretched, Block as Upright, Inline as Sideways, Columns, Slots}
 use Rattle.layout_model.specs.declared.outcome.Outcome.{Outcome}
 use Rattle.layout_model.proofs.Ranges.{answer_stored}
 use Rattle.outcomes.specs.Outcomes.{IsOutcome}
@@ -38,7 +38,8 @@ width_fits o e =
     let f = o.answer.frame in
     let all = and_parts (answer_fits o.answer && list_all offset_fits o.offsets) (list_all mark_fits o.marks) e in
     let answer = and_parts (answer_fits o.answer) (list_all offset_fits o.offsets) all.0 in
-    let spaces = and_parts (is_box_stored f && is_stored o.answer.before && is_stored o.answer.after) (list_all is_stored o.answer.cells) answer.0 in
+    let cells = and_parts (is_box_stored f && is_stored o.answer.before && is_stored o.answer.after && list_all is_stored o.answer.cells) (list_all span_fits o.answer.spans) answer.0 in
+    let spaces = and_parts (is_box_stored f && is_stored o.answer.before && is_stored o.answer.after) (list_all is_stored o.answer.cells) cells.0 in
     let one = and_parts (is_box_stored f && is_stored o.answer.before) (is_stored o.answer.after) spaces.0 in
     let box = and_parts (is_box_stored f) (is_stored o.answer.before) one.0 in
     let a = and_parts (is_stored f.width && is_stored f.ascent && is_stored f.descent && is_stored f.ink_ascent && is_stored f.ink_descent && is_stored f.italic) (is_stored f.accent) box.0 in
@@ -67,3 +68,4 @@ pull_stored Unstretched h = tt
 pull_stored (Upright ascent descent) h = h
 pull_stored (Sideways width) h = h
 pull_stored (Columns widths) h = tt
+pull_stored (Slots numbers) h = tt

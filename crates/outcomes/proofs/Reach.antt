@@ -9,7 +9,7 @@ use Rattle.fixed_units.proofs.Signed.{signed}
 use Rattle.font_metrics.specs.declared.mark.Mark.{Mark}
 use Rattle.font_metrics.specs.declared.mark.Mark.TheVariants.{Glyph, Rule, Built}
 use Rattle.layout_model.specs.Direction.{mirrored, turned}
-use Rattle.layout_model.specs.Elements.{Element, outcome_with}
+use Rattle.layout_model.specs.Elements.{Element, outcome, outcome_with}
 use Rattle.layout_model.specs.Range.{answer_fits, mark_fits, offset_fits, outcome_fits}
 use Rattle.layout_model.specs.declared.outcome.Offset.{Offset}
 use Rattle.layout_model.specs.declared.outcome.Outcome.{Outcome}
@@ -107,12 +107,12 @@ told_by : (exact made : Outcome) (fits : Bool) → outcome_fits exact ≡ fits �
 told_by exact made true e same alike = inl (same e)
 told_by exact made false e same alike = inr (e, alike ∙ e)
 
-module _ (e : Element) (frame : MathBox) (cells : List ℤ) (offsets : List Offset) (marks : List Mark) where
+module _ (e : Element) (frame : MathBox) (offsets : List Offset) (marks : List Mark) where
   abbrev exact : Outcome
-  exact = outcome_with e frame cells offsets marks
+  exact = outcome e frame offsets marks
 
   abbrev made : Outcome
-  made = outcome_with e frame cells (map offset_reached offsets) (map mark_reached marks)
+  made = outcome e frame (map offset_reached offsets) (map mark_reached marks)
 
   made_alike : outcome_fits made ≡ outcome_fits exact
   unfolding outcome_with outcome_fits
@@ -125,7 +125,7 @@ module _ (e : Element) (frame : MathBox) (cells : List ℤ) (offsets : List Offs
   made_same fits =
       let parts = and_parts (answer_fits exact.answer && list_all offset_fits offsets) (list_all mark_fits marks) fits in
       let two = and_parts (answer_fits exact.answer) (list_all offset_fits offsets) parts.0 in
-      λ i. outcome_with e frame cells (all_same offset_fits offset_reached offset_same offsets two.1 i)
+      λ i. outcome e frame (all_same offset_fits offset_reached offset_same offsets two.1 i)
       (all_same mark_fits mark_reached mark_same marks parts.1 i)
 
   -- where offsets and marks are told as far as places reach
@@ -134,7 +134,7 @@ module _ (e : Element) (frame : MathBox) (cells : List ℤ) (offsets : List Offs
 
   -- the same where offsets are exact
   abbrev marked : Outcome
-  marked = outcome_with e frame cells offsets (map mark_reached marks)
+  marked = outcome e frame offsets (map mark_reached marks)
 
   marked_alike : outcome_fits marked ≡ outcome_fits exact
   unfolding outcome_with outcome_fits
@@ -145,7 +145,7 @@ module _ (e : Element) (frame : MathBox) (cells : List ℤ) (offsets : List Offs
   unfolding outcome_with outcome_fits
   marked_same fits =
       let parts = and_parts (answer_fits exact.answer && list_all offset_fits offsets) (list_all mark_fits marks) fits in
-      λ i. outcome_with e frame cells offsets (all_same mark_fits mark_reached mark_same marks parts.1 i)
+      λ i. outcome e frame offsets (all_same mark_fits mark_reached mark_same marks parts.1 i)
 
   pub marks_told : IsOutcome exact marked
   marks_told = told_by exact marked (outcome_fits exact) refl marked_same marked_alike

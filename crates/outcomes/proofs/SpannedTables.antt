@@ -1,5 +1,5 @@
 -- The columns and rows of a table, whether a cell spans or not.
-use Rattle.std.proofs.Common.{◌≡◌, refl, ap, ℕ, ◌^◌, ◌≤◌, arith, lit≤, Bool, true, false, cond, List, length, map, All, get_or, ℤ}
+use Rattle.std.proofs.Common.{◌≡◌, ap, ℕ, ◌^◌, arith, lit≤, Bool, true, false, cond, List, length, map, All, ℤ}
 use Rattle.fixed_units.specs.Boxes.{IsStored, farthest}
 use Rattle.fixed_units.specs.Numbers.{IsWithin}
 use Rattle.fixed_units.specs.Sums.{list_to}

@@ -19,5 +19,5 @@ returns g c =
     let exact : List Offset = list_to n (offset_in e multi) in
     let placed = c.in_ok-offsets.ensures {u = tt} ∙ sym (map_list_to offset_reached n (offset_in e multi)) in
     let made = c.outcome.ensures ∙ (λ i. outcome e multi.frame (placed i) (c.make.ensures i)) in
-    let known = subst (IsOutcome (with_pairs e multi)) (sym made) (told e multi.frame [] exact []) in
+    let known = subst (IsOutcome (with_pairs e multi)) (sym made) (told e multi.frame exact []) in
     subst (λ (m : Multi). IsOutcome (with_pairs e m) c.outcome.result) (c.in_ok-multi.ensures {u = tt}) known

@@ -26,4 +26,4 @@ returns g c =
     let width = back64 c.frame.ensures.stored.width (lit< tt) ∙ (λ i. (c.frame.ensures.value i).width) in
     let marks = c.in_ok-marks.ensures {u = tt} ∙ (λ i. map mark_reached (root_marks e (width i) root)) in
     subst (IsOutcome (with_index e root)) (sym (c.outcome.ensures ∙ (λ i. outcome e root.frame (placed i) (marks i))))
-    (told e root.frame [] exact (root_marks e (frame_at e 0).width root))
+    (told e root.frame exact (root_marks e (frame_at e 0).width root))

@@ -1,4 +1,4 @@
-use Rattle.std.proofs.Common.{◌≡◌, ◌∙◌, ap, subst, sym, lit<, lit≤, ◌^◌, ℤ, [], map, w64, to_z, of_z}
+use Rattle.std.proofs.Common.{◌≡◌, ◌∙◌, ap, subst, sym, lit<, lit≤, ◌^◌, ℤ, map, w64, to_z, of_z}
 use Rattle.fixed_units.specs.Numbers.{IsWithin}
 use Rattle.fixed_units.proofs.Within.{widened}
 use Rattle.font_metrics.proofs.Scaling.{back64, within64}
@@ -43,6 +43,6 @@ returns g c =
     let made = c.outcome.ensures ∙ (λ i. outcome e root.frame (offsets i) (marks i)) in
     let exact = along e row (turned rtl root.frame.width row.frame.width root.base.x) root.base.y in
     let known = subst (IsOutcome (outcome e root.frame exact (root_marks e row.frame.width root))) (sym made)
-    (marks_told e root.frame [] exact (root_marks e row.frame.width root)) in
+    (marks_told e root.frame exact (root_marks e row.frame.width root)) in
     subst (λ (r : Row). IsOutcome (outcome e root.frame (along e r (turned rtl root.frame.width r.frame.width root.base.x) root.base.y) (root_marks e r.frame.width root)) c.outcome.result)
     c.requires.row known

@@ -20,4 +20,4 @@ returns g c =
     let above = c.placed_in-above.ensures ∙ (λ i. offset_reached (placed_in e s.frame 2 (to_z-of_z w64 s.sup.x above_x i) (to_z-of_z w64 s.sup.y above_y i))) in
     let placed = c.in_ok-offsets.ensures {u = tt} ∙ (λ i. c.placed_in-base.ensures i ∷ below i ∷ above i ∷ []) in
     subst (IsOutcome (outcome e s.frame exact [])) (sym (c.outcome.ensures ∙ (λ i. outcome e s.frame (placed i) (c.make.ensures i))))
-    (told e s.frame [] exact [])
+    (told e s.frame exact [])

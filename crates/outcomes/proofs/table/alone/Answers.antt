@@ -1,4 +1,4 @@
-use Rattle.std.proofs.Common.{◌≡◌, ◌∙◌, sym, ap, subst, arith, ◌^◌, length, List, All, ℤ}
+use Rattle.std.proofs.Common.{sym, subst, ◌^◌, All}
 use Rattle.std.proofs.lemmas.Result.{IfOk-weaker}
 use Rattle.fixed_units.specs.Numbers.{IsWithin}
 use Rattle.math_tables.specs.Placing.{IsColumn}

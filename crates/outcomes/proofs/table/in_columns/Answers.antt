@@ -1,4 +1,5 @@
-use Rattle.std.proofs.Common.{◌≡◌, ◌∙◌, sym, ap, subst, ◌^◌, [], ◌++◌, List, All, ℤ, to_z, of_z, w64}
+use Rattle.std.proofs.Common.{◌≡◌, ◌∙◌, sym, ap, subst, ◌^◌, ◌++◌, List, All, ℤ, rules, w64, FitsSigned}
+use Rattle.std.proofs.lemmas.Int.{to_z-of_z}
 use Rattle.std.proofs.lemmas.Result.{IfOk-weaker}
 use Rattle.fixed_units.specs.Boxes.{farthest}
 use Rattle.fixed_units.specs.Numbers.{IsWithin}
@@ -14,10 +15,11 @@ row_of_cells-requires-clause-widths_fit c =
 
 pub returns-clause-value : goal.returns-clause-value
 returns-clause-value c =
-    let total = to_z w64 (of_z w64 c.args.total) in
+    let fits : FitsSigned w64 c.args.total = search rules in
+    let total = to_z-of_z w64 c.args.total fits in
     let same = (c.in_ok-push_all.ensures {u = tt}).ok ∙ ap (λ (made : List ℤ). made ++ c.args.columns.now) c.make-widths.ensures in
-    IfOk-weaker c.row_of_cells.result _ (λ (row : Row). row ≡ row_of_cells_of c.args.cells.now c.args.columns.now total)
-    (λ row e. e ∙ ap (λ (widths : List ℤ). row_of_cells_of c.args.cells.now widths total) same) c.row_of_cells.ensures
+    IfOk-weaker c.row_of_cells.result _ (λ (row : Row). row ≡ row_of_cells_of c.args.cells.now c.args.columns.now c.args.total)
+    (λ row e. e ∙ (λ i. row_of_cells_of c.args.cells.now (same i) (total i))) c.row_of_cells.ensures
 
 pub returns-clause-within : goal.returns-clause-within
 returns-clause-within c =

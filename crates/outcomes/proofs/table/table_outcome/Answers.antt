@@ -1,10 +1,8 @@
-use Rattle.std.proofs.Common.{◌≡◌, ◌∙◌, sym, ap, subst, arith, lit<, length, All, pos, to_z, of_z, w64}
-use Rattle.fixed_units.specs.Boxes.{farthest}
-use Rattle.fixed_units.specs.Numbers.{IsWithin}
+use Rattle.std.proofs.Common.{◌≡◌, ◌∙◌, lit<, pos, to_z, of_z, w64}
 use Rattle.fixed_units.specs.Sums.{list_to}
 use Rattle.font_metrics.proofs.Scaling.{back64, size_in}
 use Rattle.math_tables.specs.Placing.{row_offsets_of, table_frame_of}
-use Rattle.layout_model.specs.Elements.{font, frames_of, offset, outcome}
+use Rattle.layout_model.specs.Elements.{font, offset, outcome}
 use Rattle.layout_model.specs.Equations.{row_at}
 use Rattle.layout_model.specs.Tables.{table_columns, table_rows}
 use Rattle.outcomes.proofs.table.table_outcome.Goals as goal

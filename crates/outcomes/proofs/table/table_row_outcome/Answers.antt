@@ -28,19 +28,20 @@ unfolding outcome_with
 row_told e row frame widths spans offsets marks made true fits row_is widths_are spans_are frame_is offsets_are marks_are made_is =
     inl (made_is
     ∙ (λ i. outcome_with e ((frame_is ∙ (λ j. spanned (spans_are j) (row_is j).frame)) i) (widths_are i) (spans_are i)
-      ((offsets_are fits ∙ (λ j. along e (row_is j) (pos 0) (pos 0))) i) (marks_are i)))
+    ((offsets_are fits ∙ (λ j. along e (row_is j) (pos 0) (pos 0))) i) (marks_are i)))
 row_told e row frame widths spans offsets marks made false far row_is widths_are spans_are frame_is offsets_are marks_are made_is = inr (
   unstored_width (table_row_outcome e)
-  (ap is_stored (spanned_width (spans_of e) (cells_placed e).frame) ∙ ap (λ (r : Row). is_stored r.frame.width) (sym row_is) ∙ far),
+      (ap is_stored (spanned_width (spans_of e) (cells_placed e).frame) ∙ ap (λ (r : Row). is_stored r.frame.width) (sym row_is) ∙ far),
   unstored_width made
-  (ap (λ (o : Outcome). is_stored o.answer.frame.width) made_is
-  ∙ ap (λ (f : MathBox). is_stored f.width) frame_is
-  ∙ ap is_stored (spanned_width spans row.frame)
-  ∙ far),
+      (ap (λ (o : Outcome). is_stored o.answer.frame.width) made_is
+      ∙ ap (λ (f : MathBox). is_stored f.width) frame_is
+      ∙ ap is_stored (spanned_width spans row.frame)
+      ∙ far),
 )
 
 pub returns : goal.returns
 returns g c =
     let widths = (c.in_ok-widths.ensures {u = tt}).value ∙ ap (λ (frames : List MathBox). map width_of frames) (c.as_slice.ensures ∙ (c.in_ok-cells.ensures {u = tt}).value) in
+    let frame = c.spanned-frame.ensures ∙ ap (λ (spans : List CellSpan). spanned spans c.in_ok-row.row.frame) c.as_slice-2.ensures in
     row_told c.args.e.now c.in_ok-row.row c.spanned-frame.result c.in_ok-widths.widths c.in_ok-spans.spans c.in_ok-offsets.offsets c.make.result c.outcome_with.result _ refl
-    (c.in_ok-row.ensures {u = tt}).value widths (c.in_ok-spans.ensures {u = tt}) c.spanned-frame.ensures (c.in_ok-offsets.ensures {u = tt}) c.make.ensures c.outcome_with.ensures
+    (c.in_ok-row.ensures {u = tt}).value widths (c.in_ok-spans.ensures {u = tt}) frame (c.in_ok-offsets.ensures {u = tt}) c.make.ensures c.outcome_with.ensures
