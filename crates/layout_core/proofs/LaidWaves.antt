@@ -1,37 +1,26 @@
 -- An element over both waves: the children that are kept are those of its laid-out tree.
-use Rattle.std.proofs.Common.{◌≡◌, ◌∙◌, refl, sym, ap, subst, ℕ, ◌+◌, arith, Bool, true, false, ◌&&◌, List, ◌++◌, length, map, replicate, All, Option, Some, slice_set}
-use Rattle.std.proofs.lemmas.Grind.{flat_map-append}
-use Rattle.std.proofs.lemmas.List.{length-append, length-map}
+use Rattle.std.proofs.Common.{◌≡◌, ◌∙◌, sym, ap, subst, ℕ, List, ◌++◌, length, map, replicate, All, Option, Some, slice_set}
 use Rattle.std.proofs.lemmas.List.Elements.{All-append}
-use Rattle.std.proofs.lemmas.List.Folds.{list_all-append}
 use Rattle.std.proofs.lemmas.List.Sums.{fold-append}
-use Rattle.std.specs.List.{flat_map, list_all}
 use Rattle.font_metrics.specs.Metrics.{MetricsValue}
 use Rattle.math_tree.specs.declared.node.Head.{Head}
 use Rattle.math_tree.specs.declared.node.Node.{Node}
 use Rattle.math_tree.specs.declared.node.Node.TheViews.{out-Node}
 use Rattle.embellished.specs.Seen.{flow_nodes, seen_of}
-use Rattle.style_scope.specs.Sizes.{size_of}
 use Rattle.fixed_units.specs.Sums.{list_to}
-use Rattle.layout_model.specs.Fits.{AnswersAll, AreAnswers, IsStretch}
-use Rattle.layout_model.specs.Laws.{answer_of, laid_below, visits_below}
-use Rattle.layout_model.specs.Layout.{equation, in_range, laid, lay, lay_by, questions, visit_fits, visits}
+use Rattle.layout_model.specs.Laws.{answer_of, laid_below}
+use Rattle.layout_model.specs.Layout.{laid, lay, questions}
 use Rattle.layout_model.specs.Questions.{IsBelow, first, second}
-use Rattle.layout_model.specs.Range.{is_font_size, outcome_fits}
 use Rattle.layout_model.specs.declared.context.Context.{Context}
 use Rattle.layout_model.specs.declared.context.Question.{Question}
 use Rattle.layout_model.specs.declared.laid.Laid.{Laid}
 use Rattle.layout_model.specs.declared.laid.Laid.TheViews.{roll-Laid}
 use Rattle.layout_model.specs.declared.outcome.Answer.{Answer}
 use Rattle.layout_model.specs.declared.outcome.Outcome.{Outcome}
-use Rattle.layout_model.proofs.Asked.{IsQuestionStored, first_stored, second_stored}
-use Rattle.layout_model.proofs.Places.{first_below, second_below}
-use Rattle.layout_model.proofs.Trees.{laid_is, lay_is, visits_are}
+use Rattle.layout_model.proofs.Trees.{laid_is}
 use Rattle.layout_core.specs.Slots.{filled, laid_for, with_laid}
 use Rattle.layout_model.proofs.Children.{as_many_nodes}
-use Rattle.layout_model.proofs.Fits.{range_is}
 use Rattle.layout_core.proofs.KeptLast.{kept_as_asked_last, none_kept, nothing}
-use Rattle.layout_model.proofs.Waves.{all_fit, count_below}
 use Rattle.layout_model.proofs.Whole.{ones_below, questions_are as asked_in_all, twos_below}
 
 module _ (m : MetricsValue) (node shown : Node) (context : Context) (e : shown ≡ node) (ones : List Question) (o : ones ≡ first m (seen_of shown) context)

@@ -1,17 +1,14 @@
 -- One question more of a wave: its answer, and the child at its place.
-use Rattle.std.proofs.Common.{◌≡◌, ◌∙◌, refl, sym, ap, ℕ, zero, suc, ◌+◌, ◌<◌, arith, Bool, true, false, ◌&&◌, List, [], ◌∷◌, ◌++◌, length, map, take, get_or, Option, Some, slice_get, slice_set}
-use Rattle.std.proofs.lemmas.List.{append-nil, length-append, length-set, map_more, take_more}
-use Rattle.std.proofs.lemmas.List.Folds.{list_all-append}
+use Rattle.std.proofs.Common.{◌≡◌, ◌∙◌, refl, sym, ap, ℕ, ◌+◌, ◌<◌, List, [], ◌∷◌, ◌++◌, length, map, take, get_or, Option, Some, slice_get, slice_set}
+use Rattle.std.proofs.lemmas.List.{length-set, map_more, take_more}
 use Rattle.std.proofs.lemmas.List.Sums.{fold-append}
-use Rattle.std.proofs.lemmas.Grind.{flat_map-append}
-use Rattle.std.specs.List.{flat_map, fold, list_all}
+use Rattle.std.specs.List.{fold}
 use Rattle.std.specs.Option.{option_map_or}
 use Rattle.font_metrics.specs.Metrics.{MetricsValue}
 use Rattle.math_tree.specs.declared.node.Node.{Node}
 use Rattle.embellished.specs.Seen.{flow_nodes}
-use Rattle.layout_model.specs.Answers.{no_answer}
-use Rattle.layout_model.specs.Laws.{answer_of, visits_below}
-use Rattle.layout_model.specs.Layout.{in_range, laid, lay, visit_fits, visits}
+use Rattle.layout_model.specs.Laws.{answer_of}
+use Rattle.layout_model.specs.Layout.{laid, lay}
 use Rattle.layout_model.specs.declared.context.Context.{Context}
 use Rattle.layout_model.specs.declared.context.Question.{Question}
 use Rattle.layout_model.specs.declared.laid.Laid.{Laid}
