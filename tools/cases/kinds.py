@@ -2,7 +2,7 @@
 
 from dataclasses import dataclass, field
 
-from . import answers, built, fonts, leaves, numbers, rows, runs, shapes, steps, styles, tables
+from . import answers, built, fonts, leaves, numbers, rows, runs, shapes, spans, steps, styles, tables
 
 
 @dataclass
@@ -18,5 +18,6 @@ PROGRAMS = {
     "cases": Kinds({**answers.KINDS, **fonts.KINDS, **numbers.KINDS, **styles.KINDS}),
     "run_cases": Kinds(runs.FAILING, runs.RUNS),
     "step_cases": Kinds(steps.KINDS),
-    "box_cases": Kinds({**shapes.KINDS, **leaves.KINDS, **rows.KINDS, **tables.KINDS, **built.KINDS}),
+    "box_cases": Kinds(
+        {**shapes.KINDS, **leaves.KINDS, **rows.KINDS, **tables.KINDS, **spans.KINDS, **built.KINDS}),
 }

@@ -1,4 +1,4 @@
-"""`cell`, `columns`, `row_of_cells`, `table_finish`: tables, over boxes."""
+"""`cell`, `columns`, `row_of_cells`, `row_of_slots`, `table_finish`: tables, over boxes."""
 
 from second import tables
 from second.padding import cell_box, cell_start
@@ -44,6 +44,16 @@ def row_of_cells(_known, value):
     return told(numbers(row.box), numbers(row.offsets))
 
 
+def row_of_slots(_known, value):
+    """Cells in the middle of their slots."""
+    fields = Fields(value, "cells", "slots", "total")
+    cells, slots = boxes_of(fields, "cells"), stored_of(fields, "slots")
+    if len(slots) != 2 * len(cells):
+        raise out_of_range("slots")
+    row = tables.row_of_slots(cells, slots, fields.of_type("total", is_whole))
+    return told(numbers(row.box), numbers(row.offsets))
+
+
 def table_finish(known, value):
     """Rows one under the other."""
     fields = Fields(value, "metrics", "rows", "widths", "size")
@@ -53,4 +63,7 @@ def table_finish(known, value):
     return told(numbers(box), numbers(tables.baselines(metrics, rows, size)))
 
 
-KINDS = {"cell": cell, "columns": columns, "row_of_cells": row_of_cells, "table_finish": table_finish}
+KINDS = {
+    "cell": cell, "columns": columns, "row_of_cells": row_of_cells, "row_of_slots": row_of_slots,
+    "table_finish": table_finish,
+}

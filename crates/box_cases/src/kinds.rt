@@ -7,6 +7,7 @@ mod radical;
 mod row;
 mod script;
 mod shape;
+mod spans;
 mod table;
 mod target;
 
@@ -55,8 +56,11 @@ fn add_answer_of_rows(kind: &str, case: Case, words: &mut String) -> Result<(), 
         "limit_wave_two" => asks::answer_two(Asking::Limits, case, words),
         "row_finish" => row::answer(case, words),
         "row_of_cells" => table::answer_row(case, words),
+        "row_of_slots" => table::answer_slots(case, words),
         "row_wave_one" => asks::answer_one(Asking::Row, case, words),
         "row_wave_two" => asks::answer_two(Asking::Row, case, words),
+        "span_of" => spans::answer_span(case, words),
+        "spans" => spans::answer_table(case, words),
         "table_finish" => by_metrics::<OfTableFinish>(case, words),
         _ => add_answer_of_equations(kind, case, words),
     }

@@ -2,6 +2,7 @@
 //! read, and how places and marks are written.
 
 mod boxes; // boxes
+mod cells; // the cells of a table that may span
 mod elements; // elements
 mod numbers; // sizes, numbers, lists of them
 mod places; // places and marks
@@ -9,6 +10,7 @@ mod pulls; // pulls
 mod with_metrics; // kinds whose values name metrics
 
 pub use boxes::{boxes_in, stored_box, wide_box};
+pub use cells::rows_in;
 pub use elements::element_of;
 pub use numbers::{add_numbers, is_stored, items_in, items_of, numbers_in, size_in, stored};
 pub use places::{add_mark, add_place};

@@ -1,4 +1,4 @@
-//! `cell`, `columns`, `row_of_cells`, `table_finish`: the parts of a table.
+//! `cell`, `columns`, `row_of_cells`, `row_of_slots`, `table_finish`: the parts of a table.
 ghost use Rattle.std.specs.Prelude.{◌≤◌, length, IfOk};
 
 use crate::kinds::row::add_row;
@@ -8,7 +8,7 @@ use crate::values::{
 use case_format::{Case, Fault, Fields, add_box};
 use fixed_units::List;
 use font_metrics::Metrics;
-use math_tables::{cell, cell_start, columns, row_of_cells, table_finish};
+use math_tables::{cell, cell_start, columns, row_of_cells, row_of_slots, table_finish};
 use serde_json::Value;
 use std::alloc::Global;
 use std::fmt::Write;
@@ -64,6 +64,19 @@ pub fn answer_row(case: Case, words: &mut String) -> Result<(), Fault> {
     }
     let total = fields.number("total")?;
     let row = row_of_cells(case.alloc, &cells, &widths, total)?;
+    add_row(&row, words)?;
+    Ok(())
+}
+
+pub fn answer_slots(case: Case, words: &mut String) -> Result<(), Fault> {
+    let fields = Fields::of_value(case.value, &["cells", "slots", "total"])?;
+    let cells = boxes_in(case.alloc, fields, "cells")?;
+    let slots = numbers_in(case.alloc, fields, "slots")?;
+    if slots.len() != 2 * cells.len() {
+        return Err(Fault::OutOfRange("slots"));
+    }
+    let total = fields.number("total")?;
+    let row = row_of_slots(case.alloc, &cells, slots.as_slice(), total)?;
     add_row(&row, words)?;
     Ok(())
 }
