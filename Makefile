@@ -35,7 +35,7 @@ install: $(PROGRAM)
 	install -m 644 docs/mathlay.1 $(MAN)/mathlay.1
 	install -m 644 VERSION LICENSE-MIT LICENSE-APACHE $(SHARE)
 	install -m 644 docs/FORMATS.md docs/TOOLS.md docs/EDITOR.md docs/MATHML.md docs/DIFFERENCES.md \
-	    docs/editor.png docs/kerns.png docs/right_to_left.png $(SHARE)/docs
+	    docs/editor.png docs/kerns.png docs/right_to_left.png docs/spanning.png $(SHARE)/docs
 	install -m 644 samples/latin-modern-math.metrics samples/README.md samples/*.mml samples/*.html \
 	    samples/*.json samples/*.script samples/quadratic.svg samples/arabic.svg $(SHARE)/samples
 	install -m 644 tools/operators.txt tools/stand_ins.txt $(TOOLS:%=tools/%.py) $(SHARE)/tools
