@@ -185,6 +185,15 @@ class Library(InFolder):
         self.assertEqual(json.loads(asked("?node=3&text=7"))["told"], "ok")
         self.assertNotIn(b">=<", asked(""))
 
+    def test_what_isnt_bytes_or_a_whole_number_is_refused_by_its_type(self):
+        from mathlay import Session
+        session = self.session(b'{"name":"math"}')
+        for call in (lambda: Session("", b""), lambda: Session(b"", 7), lambda: session.line('{"op":"show"}'),
+                     lambda: session.hit(0.5, 0), lambda: session.select(1.0, 1)):
+            with self.assertRaises(TypeError):
+                call()
+        self.assertEqual(session.line(bytearray(b'{"op":"show"}\n')), session.show())
+
     def test_a_session_isnt_copied(self):
         session = self.session(b'{"name":"math"}')
         for copying in (copy.copy, copy.deepcopy, pickle.dumps):
