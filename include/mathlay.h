@@ -8,7 +8,9 @@
       which the old one isn't used.
    2. No pointer is null, even with a length of 0; each points to as many bytes as its length says, of which those that
       are read have a value; what a call writes overlaps no other argument.
-   3. One call at a time on a session. It may go from thread to thread, ordered by a lock, a start or a join. */
+   3. One call at a time on a session, and none from a signal handler.
+      A session may go from thread to thread, if a lock, a thread's start or its end orders the calls.
+      Sessions share nothing: different ones may be used by different threads at the same time. */
 #ifndef MATHLAY_H
 #define MATHLAY_H
 
@@ -24,6 +26,8 @@ typedef struct mathlay_session {
     void *at;
 } mathlay_session;
 
+/* How a session starts: `mathlay_session session = MATHLAY_CLOSED;`. One in memory of the heap is started by
+   `*session = (mathlay_session)MATHLAY_CLOSED;`. */
 #define MATHLAY_CLOSED { NULL }
 
 /* What a call answers. Up to 31 it is the status with which the program ends for the same cause. */
@@ -56,14 +60,15 @@ typedef struct mathlay_frame {
     int64_t accent; /* where an accent is centred, from the start of the box */
 } mathlay_frame;
 
-/* Opens a closed session over the bytes of a metrics file and of a tree file, and lays the tree out. A refusal is told by
-   its line, as `metrics 4 13` with a line feed, at the front of `refusal`, which has room for MATHLAY_REFUSAL_ROOM bytes
-   at least; `refusal_len` is told how long it is, and 0 where memory was refused. */
+/* Opens a closed session over the bytes of a metrics file and of a tree file, and lays the tree out. Files that give no
+   session are answered by MATHLAY_METRICS, MATHLAY_TREE or MATHLAY_RANGE, and told by a line, as `metrics 4 13` with a line
+   feed, at the front of `refusal`; `refusal_len` is told how long it is, and 0 after MATHLAY_MEMORY. After any other answer
+   both are as before. With room for fewer than MATHLAY_REFUSAL_ROOM bytes nothing is done, and the answer is MATHLAY_SHORT. */
 uint32_t mathlay_open(const uint8_t *metrics, size_t metrics_len, const uint8_t *tree, size_t tree_len,
                       mathlay_session *session, uint8_t *refusal, size_t refusal_room, size_t *refusal_len);
 
-/* Does what a line of a script asks for, without its line feed. The reply is kept until the next line, show, picture or
-   selection. After MATHLAY_MEMORY the session and its last reply are as before. */
+/* Does what a line of a script asks for. It needs no line feed at its end, nor a zero byte. The reply is kept until the next
+   line, show, picture or selection that is done. After MATHLAY_MEMORY the session and its last reply are as before. */
 uint32_t mathlay_line(mathlay_session *session, const uint8_t *line, size_t line_len);
 
 /* Undoes the last edit that wasn't undone, and makes the edit again that was undone last. Elements get back the numbers that
@@ -81,11 +86,12 @@ uint32_t mathlay_paint(mathlay_session *session);
 
 /* Keeps the lines of the areas to mark from one element to another as the reply: `area X Y W H`, as `mathlay select` writes
    them. There may be none. Where no element in flow has one of the numbers, the answer is MATHLAY_NODE and `missing` is told the
-   first that is missing; else `missing` isn't written. */
+   first that is missing; else `missing` isn't written. An element is in flow if it is laid out: an annotation isn't. */
 uint32_t mathlay_select(mathlay_session *session, uint32_t first, uint32_t second, uint32_t *missing);
 
-/* Copies the kept reply to the front of `out`. Where the room is too short it writes nothing, tells the length in `len`
-   and answers MATHLAY_SHORT; nothing is lost. */
+/* Copies the kept reply to the front of `out`, with no zero byte behind it, and tells its length in `len`. Where the room is
+   too short it writes nothing, tells the length in `len` and answers MATHLAY_SHORT; nothing is lost. Until the first line, show,
+   picture or selection the reply is empty. */
 uint32_t mathlay_reply(mathlay_session *session, uint8_t *out, size_t out_room, size_t *len);
 
 /* The box of the whole formula. */
@@ -96,7 +102,7 @@ uint32_t mathlay_root(mathlay_session *session, mathlay_frame *frame);
    from where the baseline of the whole begins, as in the lines of boxes. */
 uint32_t mathlay_hit(mathlay_session *session, int64_t x, int64_t y, uint32_t *element);
 
-/* Ends the session, if it is open. It is closed then, and may be opened again. */
+/* Ends the session, if it is open, and frees all that it has. It is closed then, and may be opened again. */
 void mathlay_close(mathlay_session *session);
 
 #ifdef __cplusplus

@@ -42,6 +42,9 @@ ENDED = re.compile(r"^run=ended status=(\d+) .*\n\Z", re.MULTILINE)
 # stand before the difference.
 LINES, WIDTH, BEFORE = 20, 120, 40
 
+# While this is set in the environment, the tests of the tools prove nothing.
+NO_PROOF = "MATHLAY_NO_PROOF"
+
 # What stands in the place of clang: the same words, but for how far it optimizes and what it checks.
 CLANG = """#!/bin/sh
 for word; do
@@ -186,14 +189,16 @@ def side_by_side(checks, jobs):
 class Check:
     """A command that is run, and judged when it has ended."""
 
-    def __init__(self, name, words, folder, given=os.devnull):
+    def __init__(self, name, words, folder, given=os.devnull, **environment):
         self.name, self.words, self.folder, self.given = name, words, folder, given
+        self.environment = {**os.environ, **environment}
 
     def start(self):
         self.began = time.monotonic()
         self.out, self.errors = tempfile.TemporaryFile(), tempfile.TemporaryFile()
         with open(self.given, "rb") as given:
-            self.child = subprocess.Popen(self.words, cwd=self.folder, stdin=given, stdout=self.out, stderr=self.errors)
+            self.child = subprocess.Popen(
+                self.words, cwd=self.folder, env=self.environment, stdin=given, stdout=self.out, stderr=self.errors)
         return self
 
     def has_ended(self):
@@ -244,7 +249,7 @@ class ToolTests(Check):
     """The tests of the tools, by a Python that has fontTools where there is one."""
 
     def __init__(self):
-        super().__init__("the tests of the tools", [python(), "-B", "-m", "tests"], TOP / "tools")
+        super().__init__("the tests of the tools", [python(), "-B", "-m", "tests"], TOP / "tools", **{NO_PROOF: "1"})
 
     def faults(self):
         if self.child.returncode == 0:

@@ -15,6 +15,7 @@ system keeps libraries.
 """
 import ctypes
 import ctypes.util
+import operator
 import os
 import pathlib
 import threading
@@ -75,6 +76,12 @@ class Area(NamedTuple):
     y: int
     width: int
     height: int
+
+
+def _bytes(given, what: str) -> bytes:
+    if not isinstance(given, (bytes, bytearray, memoryview)):
+        raise TypeError(f"{what} has to be bytes, not {type(given).__name__}")
+    return bytes(given)
 
 
 class _Handle(ctypes.Structure):
@@ -143,6 +150,7 @@ class Session:
 
     def __init__(self, metrics: bytes, tree: bytes) -> None:
         """Lays the tree of a JSON text out with a metrics file's bytes, or raises `Refusal`."""
+        metrics, tree = _bytes(metrics, "a metrics file"), _bytes(tree, "a tree file")
         self._library = library()
         self._lock = threading.RLock()
         self._handle = _Handle()
@@ -155,7 +163,8 @@ class Session:
             raise Refusal(status, line.raw[: length.value])
 
     def line(self, line: bytes) -> bytes:
-        """Answers one line of a script, without its line feed. An edit that is refused is a reply too."""
+        """Answers one line of a script, which needs no line feed. An edit that is refused is a reply too."""
+        line = _bytes(line, "a line")
         with self._lock:
             self._ask(self._library.mathlay_line(self._handle, line, len(line)))
             return self.reply()
@@ -183,6 +192,7 @@ class Session:
     def select(self, first: int, second: int) -> List[Area]:
         """The areas to mark from one element to another; `KeyError` with the number of an element that isn't there."""
         missing = ctypes.c_uint32()
+        first, second = operator.index(first), operator.index(second)
         for number in (first, second):
             if not 0 <= number < 2**32:
                 raise KeyError(number)
@@ -195,7 +205,7 @@ class Session:
         return [Area(*(int(word) for word in line.split()[1:])) for line in lines]
 
     def reply(self) -> bytes:
-        """The reply to the last line, show, picture or selection."""
+        """The reply to the last line, show, picture or selection; empty until the first of these."""
         with self._lock:
             length, room = ctypes.c_size_t(), 64
             while True:
@@ -217,9 +227,11 @@ class Session:
         """The number of the element at a point, the last of the deepest whose boxes hold it; None where no box does.
 
         The point is given as in box lines: in 1/1024 px, to the right and downward from where the formula's baseline begins.
+        Both are whole numbers: `math.floor(1024 * pixels)`.
         """
         element = ctypes.c_uint32()
-        near = [max(-FARTHEST, min(place, FARTHEST)) for place in (x, y)]  # no box reaches so far
+        # no box reaches so far
+        near = [max(-FARTHEST, min(operator.index(place), FARTHEST)) for place in (x, y)]
         with self._lock:
             status = self._library.mathlay_hit(self._handle, *near, element)
         if status == NOTHING:

@@ -1,6 +1,7 @@
 """The library for other programs: its answers are the program's own bytes, and programs of C that misuse it lose nothing.
 
-`rt ci` proves it and builds no archive; `make library` does."""
+`rt ci` proves it and builds no archive; `make library` does. In a clone where `rt ci` alone has built anything, as where `.ci/run`
+runs, the archive is made here first, of what `rt ci` proved (gate_library.py). The quick run, which proves nothing, forbids it."""
 
 import copy
 import json
@@ -14,6 +15,8 @@ import threading
 import unittest
 import urllib.request
 
+import gate_library
+import quick
 from tests.common import TOP, InFolder
 
 PROGRAM = TOP / "crates" / "mathlay" / "out" / "mathlay"
@@ -27,11 +30,25 @@ VALGRIND = shutil.which("valgrind")
 MEMCHECK = [[VALGRIND, "-q", "--leak-check=full", "--error-exitcode=9"]] if VALGRIND else []
 HELGRIND = [[VALGRIND, "-q", "--tool=helgrind", "--error-exitcode=9"]] if VALGRIND else []
 
-needs_library = unittest.skipUnless(SHARED.exists(), f"{SHARED.name} isn't built: make library")
-needs_archive = unittest.skipUnless(
-    shutil.which("cc") and ARCHIVE.exists(), f"cc and {ARCHIVE.name} are needed: make library")
 needs_program = unittest.skipUnless(PROGRAM.exists(), "the program isn't built: rt run in crates/mathlay")
 sys.path.insert(0, str(TOP / "bindings" / "python"))
+
+
+# What came of making the archive behind the gate: the status, and what was told.
+BEHIND_THE_GATE = []
+
+
+def setUpModule():
+    if not ARCHIVE.exists() and quick.NO_PROOF not in os.environ and gate_library.is_behind_the_gate():
+        BEHIND_THE_GATE.append(gate_library.make())
+        print(f"gate_library: {BEHIND_THE_GATE[0][1]}", flush=True)
+
+
+def needed(test, *files):
+    """Skips a test where one of these isn't there."""
+    lost = [file.name for file in files if not file.exists()]
+    if lost:
+        test.skipTest(f"{' and '.join(lost)} isn't built: make library")
 
 
 def script_of(seed, elements):
@@ -54,8 +71,19 @@ def script_of(seed, elements):
     return [json.dumps(line).encode() for line in lines] + [b"  ", b'{"op":"show"}']
 
 
-@needs_library
+class TheGate(unittest.TestCase):
+    def test_what_it_proved_makes_an_archive(self):
+        if not BEHIND_THE_GATE:
+            self.skipTest("the archive isn't made by gate_library.py here")
+        status, told = BEHIND_THE_GATE[0]
+        self.assertNotEqual(status, gate_library.REFUSED, told)
+
+
 class Library(InFolder):
+    def setUp(self):
+        super().setUp()
+        needed(self, SHARED)
+
     def session(self, tree):
         from mathlay import Session
         session = Session(METRICS.read_bytes(), tree)
@@ -185,6 +213,15 @@ class Library(InFolder):
         self.assertEqual(json.loads(asked("?node=3&text=7"))["told"], "ok")
         self.assertNotIn(b">=<", asked(""))
 
+    def test_what_isnt_bytes_or_a_whole_number_is_refused_by_its_type(self):
+        from mathlay import Session
+        session = self.session(b'{"name":"math"}')
+        for call in (lambda: Session("", b""), lambda: Session(b"", 7), lambda: session.line('{"op":"show"}'),
+                     lambda: session.hit(0.5, 0), lambda: session.select(1.0, 1)):
+            with self.assertRaises(TypeError):
+                call()
+        self.assertEqual(session.line(bytearray(b'{"op":"show"}\n')), session.show())
+
     def test_a_session_isnt_copied(self):
         session = self.session(b'{"name":"math"}')
         for copying in (copy.copy, copy.deepcopy, pickle.dumps):
@@ -203,9 +240,13 @@ class Library(InFolder):
         self.assertEqual(replies, [b"ok\n"] * 800)
 
 
-@needs_archive
+@unittest.skipUnless(shutil.which("cc"), "cc is needed")
 class Archive(InFolder):
     """The library in programs of C. Valgrind runs them too, where there is one."""
+
+    def setUp(self):
+        super().setUp()
+        needed(self, ARCHIVE)
 
     def built(self, source, *flags):
         program = str(self.folder / "program")
@@ -228,6 +269,7 @@ class Archive(InFolder):
 
     @unittest.skipUnless(shutil.which("make"), "make is needed")
     def test_it_is_installed_and_linked_there(self):
+        needed(self, SHARED)
         prefix = self.folder / "prefix"
         subprocess.run(["make", "-s", "install-library", f"PREFIX={prefix}"], cwd=TOP, check=True)
         built = str(self.folder / "installed")
