@@ -1,0 +1,23 @@
+//! What holds of the cells of all outcomes.
+ghost use Rattle.std.specs.Prelude.{◌≡◌, IfOk};
+ghost use Rattle.outcome_cells.specs.Laws.{OneOutcomeLaw};
+
+use crate::decode::read_cells;
+use crate::encode::put_cells;
+use fixed_units::Memory;
+use layout_model::Outcome;
+use std::alloc::Global;
+
+/// No list of cells stands for two outcomes.
+pub fn no_cells_stand_for_two_outcomes()
+    ensures { OneOutcomeLaw }
+{}
+
+/// What is read from the cells of an outcome is that outcome.
+pub fn what_is_read_is_what_was_put(alloc: Global, outcome: &Outcome) -> Result<Outcome, Memory>
+    ensures { IfOk result (λ read. read ≡ outcome.now) }
+{
+    let mut cells = Vec::new(alloc);
+    put_cells(outcome, &mut cells)?;
+    read_cells(alloc, cells.as_slice())
+}
