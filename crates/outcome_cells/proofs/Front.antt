@@ -48,9 +48,10 @@ rule_again cells (Built x y size axis glyph count overlap) rest is kind = absurd
 built_again : (cells : List Cell) (mark : Mark) (rest : List Cell) → cells ≡ in_cells (mark_numbers mark) ++ rest → (kind_of mark ≡ 0 → ⊥) → (kind_of mark ≡ 1 → ⊥) → (built_in cells ≡ mark) × (take (length cells - 8) (drop 8 cells) ≡ rest)
 built_again cells (Glyph x y size glyph) rest is zero one = absurd (zero refl)
 built_again cells (Rule x y width height) rest is zero one = absurd (one refl)
-built_again cells (Built x y size axis glyph count overlap) rest is zero one =
-    (ap built_in is ∙ ap (λ (along : Axis). Built x y size along glyph count overlap) (axis_again axis),
-    rest_is cells (in_cells (mark_numbers (Built x y size axis glyph count overlap))) rest 8 is refl)
+built_again cells (Built x y size axis glyph count overlap) rest is zero one = (
+  ap built_in is ∙ ap (λ (along : Axis). Built x y size along glyph count overlap) (axis_again axis),
+  rest_is cells (in_cells (mark_numbers (Built x y size axis glyph count overlap))) rest 8 is refl,
+)
 
 pub glyph_first : (cells : List Cell) → of_z w64 (number_in cells 0) ≡ 0 → IsFirst mark_numbers cells (glyph_in cells) (take (length cells - 5) (drop 5 cells))
 glyph_first cells kind x rest is = glyph_again cells x rest is (sym (kind_read cells x rest is) ∙ kind)

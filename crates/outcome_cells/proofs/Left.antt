@@ -1,10 +1,11 @@
 -- A list of items that is read from cells, one after another.
-use Rattle.std.proofs.Common.{◌≡◌, ℕ, ℤ, ◌+◌, ◌<◌, List, [], ◌∷◌, ◌++◌, length, refl, sym, ap, ◌∙◌, append_assoc, append-nil, arith, length-append}
+use Rattle.std.proofs.Common.{◌≡◌, ℕ, ℤ, ◌+◌, ◌<◌, List, [], ◌∷◌, ◌++◌, length, refl, sym, ap, ◌∙◌, append_assoc, append-nil, arith, length-append, rules, subst}
 use Rattle.std.specs.List.{All, flat_map}
 use Rattle.std.proofs.lemmas.List.{length-map}
 use Rattle.std.proofs.lemmas.List.Elements.{All-head, All-tail}
+use Rattle.font_metrics.specs.declared.mark.Mark.TheVariants.{Built, Glyph, Rule}
 use Rattle.box_pool.specs.declared.cell.Cell.{Cell}
-use Rattle.outcome_cells.specs.Cells.{in_cells}
+use Rattle.outcome_cells.specs.Cells.{in_cells, mark_numbers}
 use Rattle.outcome_cells.specs.Parts.{AreItems, AreItemsOf, item_cells}
 use Rattle.outcome_cells.specs.Reading.{BeginsWith, IsFirst}
 use Rattle.outcome_cells.proofs.Encoding.{cells-append}
@@ -58,8 +59,8 @@ pub left_next : {X : Type 0} (of : X → List ℤ) (Fits : X → Type 0) (cells 
 left_next of Fits cells done rest x after left some first = record {
   items = after_fits of Fits left.items.items rest x after left.items.fits left.items.cells_are some first;
   so_far = λ xs is.
-    let so_far = left.so_far xs is in
-    after_left of so_far.0 rest x after xs done so_far.1 so_far.2 some first;
+      let so_far = left.so_far xs is in
+      after_left of so_far.0 rest x after xs done so_far.1 so_far.2 some first;
 }
 
 none_left : {X : Type 0} (of : X → List ℤ) → HasSome of → (left : List X) → length (item_cells of left) ≡ 0 → left ≡ []
@@ -78,3 +79,14 @@ left_smaller of Fits has rest x after begins first =
     let read = first begins.value begins.rest begins.cells_are in
     let cells = in_cells (of begins.value) in
     omega (arith, has begins.value, ap length read.1, ap length begins.cells_are, length-append cells begins.rest, length-map (of begins.value) (λ (n : ℤ). let c : Cell = record { 0 = n } in c))
+
+-- the same, of a list that is said in other words
+pub left_is : {X : Type 0} (of : X → List ℤ) (Fits : X → Type 0) (cells : List Cell) (done said : List X) (rest : List Cell) → said ≡ done → Left of Fits cells done rest → Left of Fits cells said rest
+left_is {X} of Fits cells done said rest same left =
+    let Now : List X → Type 0 = λ xs. Left of Fits cells xs rest in
+    subst Now (sym same) left
+
+pub marks_have_some : HasSome mark_numbers
+marks_have_some (Glyph x y size glyph) = search rules
+marks_have_some (Rule x y width height) = search rules
+marks_have_some (Built x y size axis glyph count overlap) = search rules

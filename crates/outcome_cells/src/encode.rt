@@ -1,11 +1,11 @@
-ghost use Rattle.std.specs.Prelude.{◌≡◌, ◌++◌, OnOk, pos};
+ghost use Rattle.std.specs.Prelude.{◌≡◌, [], ◌∷◌, ◌++◌, OnOk, pos};
 ghost use Rattle.std.specs.List.{All};
 ghost use Rattle.outcome_cells.specs.Cells.{IsHeld, IsMarkHeld, IsOffsetHeld, IsSpanHeld, axis_number, frame_numbers, in_cells, list_numbers, mark_numbers, offset_numbers, outcome_cells, own_number, span_numbers};
 
 use box_pool::Cell;
 use fixed_units::{MathBox, Memory};
 use font_metrics::Mark;
-use layout_model::{Offset, Outcome};
+use layout_model::{Answer, Offset, Outcome};
 use op_dictionary::Axis;
 use span_tables::CellSpan;
 
@@ -17,11 +17,12 @@ pub fn put_cells(outcome: &Outcome, cells: &mut Vec<Cell>) -> Result<(), Memory>
 {
     let answer = &outcome.answer;
     put_frame(&answer.frame, cells)?;
-    put(&[Cell(answer.before), Cell(answer.after)], cells)?;
+    put_spaces(answer, cells)?;
     put_numbers(answer.cells.as_slice(), cells)?;
     put_spans(answer.spans.as_slice(), cells)?;
     put_offsets(outcome.offsets.as_slice(), cells)?;
-    put_marks(outcome.marks.as_slice(), cells)
+    put_marks(outcome.marks.as_slice(), cells)?;
+    Ok(())
 }
 
 /// Adds some cells to others.
@@ -46,6 +47,14 @@ fn put_frame(frame: &MathBox, cells: &mut Vec<Cell>) -> Result<(), Memory>
         Cell(frame.accent),
     ];
     put(&own, cells)
+}
+
+/// The cells of the spaces before and after an element.
+fn put_spaces(answer: &Answer, cells: &mut Vec<Cell>) -> Result<(), Memory>
+    ensures { OnOk result (cells.new.items ≡ cells.old.items
+        ++ in_cells (answer.now.before ∷ answer.now.after ∷ [])) }
+{
+    put(&[Cell(answer.before), Cell(answer.after)], cells)
 }
 
 /// The cells of a list of numbers.
@@ -106,11 +115,7 @@ fn put_offset(offset: Offset, cells: &mut Vec<Cell>) -> Result<(), Memory>
         ++ in_cells (offset_numbers offset)) }
     ensures held { IsOffsetHeld offset }
 {
-    let own = [
-        Cell(i64::from(offset.kid)),
-        Cell(offset.x),
-        Cell(offset.y),
-    ];
+    let own = [Cell(i64::from(offset.kid)), Cell(offset.x), Cell(offset.y)];
     put(&own, cells)
 }
 
@@ -142,7 +147,10 @@ fn put_mark(mark: Mark, cells: &mut Vec<Cell>) -> Result<(), Memory>
             y,
             width,
             height,
-        } => put(&[Cell(1), Cell(x), Cell(y), Cell(width), Cell(height)], cells),
+        } => put(
+            &[Cell(1), Cell(x), Cell(y), Cell(width), Cell(height)],
+            cells,
+        ),
         Mark::Built {
             x,
             y,
@@ -154,7 +162,16 @@ fn put_mark(mark: Mark, cells: &mut Vec<Cell>) -> Result<(), Memory>
         } => {
             let axis = Cell(axis_number(axis));
             let glyph = Cell(i64::from(glyph.0));
-            let own = [Cell(2), Cell(x), Cell(y), Cell(size), axis, glyph, Cell(count), Cell(overlap)];
+            let own = [
+                Cell(2),
+                Cell(x),
+                Cell(y),
+                Cell(size),
+                axis,
+                glyph,
+                Cell(count),
+                Cell(overlap),
+            ];
             put(&own, cells)
         }
     }

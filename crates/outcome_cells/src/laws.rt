@@ -19,5 +19,6 @@ pub fn what_is_read_is_what_was_put(alloc: Global, outcome: &Outcome) -> Result<
 {
     let mut cells = Vec::new(alloc);
     put_cells(outcome, &mut cells)?;
-    read_cells(alloc, cells.as_slice())
+    let read = read_cells(alloc, cells.as_slice())?;
+    Ok(read)
 }
