@@ -1,4 +1,5 @@
 pub mod Encoding
+pub mod Found
 pub mod Front
 pub mod Left
 pub mod OneOutcome

@@ -1,4 +1,5 @@
 pub mod Cells
 pub mod Laws
 pub mod Parts
+pub mod Pooled
 pub mod Reading

@@ -1,6 +1,6 @@
-//! What holds of the cells of all outcomes.
+//! What holds of the cells of all outcomes, and of outcomes in a pool.
 ghost use Rattle.std.specs.Prelude.{◌≡◌, IfOk};
-ghost use Rattle.outcome_cells.specs.Laws.{OneOutcomeLaw};
+ghost use Rattle.outcome_cells.specs.Laws.{OneInPoolLaw, OneOutcomeLaw, PutOutcomeLaw};
 
 use crate::decode::read_cells;
 use crate::encode::put_cells;
@@ -11,6 +11,16 @@ use std::alloc::Global;
 /// No list of cells stands for two outcomes.
 pub fn no_cells_stand_for_two_outcomes()
     ensures { OneOutcomeLaw }
+{}
+
+/// No run has two outcomes.
+pub fn no_run_has_two_outcomes()
+    ensures { OneInPoolLaw }
+{}
+
+/// Where an outcome is put into a pool, its run has it, and no other run loses its own.
+pub fn a_put_outcome_is_found()
+    ensures { PutOutcomeLaw }
 {}
 
 /// What is read from the cells of an outcome is that outcome.
