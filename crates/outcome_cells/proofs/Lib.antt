@@ -4,3 +4,4 @@ pub mod Front
 pub mod Left
 pub mod OneOutcome
 pub mod Sized
+pub mod Worked
