@@ -1,6 +1,6 @@
-//! What holds of the cells of all outcomes, and of outcomes in a pool.
+//! What holds of the cells of all outcomes, and of runs that have outcomes.
 ghost use Rattle.std.specs.Prelude.{◌≡◌, IfOk};
-ghost use Rattle.outcome_cells.specs.Laws.{OneInPoolLaw, OneOutcomeLaw, PutOutcomeLaw};
+ghost use Rattle.outcome_cells.specs.Laws.{OneForRunLaw, OneOutcomeLaw, PutOutcomeLaw, SweepOutcomeLaw};
 
 use crate::decode::read_cells;
 use crate::encode::put_cells;
@@ -15,12 +15,17 @@ pub fn no_cells_stand_for_two_outcomes()
 
 /// No run has two outcomes.
 pub fn no_run_has_two_outcomes()
-    ensures { OneInPoolLaw }
+    ensures { OneForRunLaw }
 {}
 
-/// Where an outcome is put into a pool, its run has it, and no other run loses its own.
+/// Where an outcome is put, its run has it, and no other run loses its own.
 pub fn a_put_outcome_is_found()
     ensures { PutOutcomeLaw }
+{}
+
+/// After a sweep each listed run has the outcome that it had.
+pub fn a_sweep_keeps_listed_outcomes()
+    ensures { SweepOutcomeLaw }
 {}
 
 /// What is read from the cells of an outcome is that outcome.
