@@ -1,5 +1,5 @@
 -- Runs that have outcomes.
-use Rattle.std.proofs.Common.{◌≡◌, ℕ, true, List, [], ◌∷◌, ◌++◌, None, Some, cond, sym, ap, ◌∙◌, subst}
+use Rattle.std.proofs.Common.{◌≡◌, ℕ, List, [], ◌∷◌, ◌++◌, None, Some, cond, sym, ap, ◌∙◌, subst}
 use Rattle.box_pool.specs.Region.{Region, cells_at, cells_in}
 use Rattle.box_pool.specs.declared.cell.Cell.{Cell}
 use Rattle.box_pool.proofs.Lookups.{lookup_put_other, lookup_put_same, lookup_swept}

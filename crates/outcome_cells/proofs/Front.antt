@@ -1,5 +1,5 @@
 -- What is read from the front of cells is the value that they begin with.
-use Rattle.std.proofs.Common.{◌≡◌, ℕ, ℤ, pos, ◌+◌, ◌-◌, ◌*◌, List, [], ◌∷◌, ◌++◌, length, take, drop, refl, sym, ap, ◌∙◌, arith, of_z, w64, length-append}
+use Rattle.std.proofs.Common.{◌≡◌, ℕ, pos, ◌+◌, ◌-◌, ◌*◌, List, ◌∷◌, ◌++◌, length, take, drop, refl, sym, ap, ◌∙◌, arith, of_z, w64, length-append}
 use Rattle.std.proofs.lemmas.List.{drop_at, length-map, take_all, take_at}
 use Rattle.op_dictionary.specs.declared.operator.Axis.{Axis}
 use Rattle.op_dictionary.specs.declared.operator.Axis.TheVariants.{Block, Inline}

@@ -11,7 +11,7 @@ use Rattle.span_tables.specs.declared.cells.CellSpan.{CellSpan}
 use Rattle.box_pool.specs.declared.cell.Cell.{Cell}
 use Rattle.layout_model.specs.declared.outcome.Offset.{Offset}
 use Rattle.layout_model.specs.declared.outcome.Outcome.{Outcome}
-use Rattle.outcome_cells.specs.Cells.{axis_number, drawn_numbers, frame_numbers, in_cells, list_numbers, listed_numbers, mark_numbers, offset_numbers, outcome_cells, outcome_numbers, own_number, span_numbers}
+use Rattle.outcome_cells.specs.Cells.{axis_number, frame_numbers, in_cells, list_numbers, listed_numbers, mark_numbers, offset_numbers, outcome_numbers, own_number, span_numbers}
 use Rattle.outcome_cells.specs.Laws.{OneOutcomeLaw}
 
 -- numbers that begin with those of one value begin with those of no other

@@ -1,7 +1,7 @@
 -- Worked figures: the definitions compute them, and a wrong one is refused at its line.
 --
 -- A row of a table with one cell, 64309 wide over two columns, and what it could draw: a glyph, a rule and a built glyph.
-use Rattle.std.proofs.Common.{◌≡◌, refl, List, [], ◌∷◌, ℤ, pos, neg_ℤ}
+use Rattle.std.proofs.Common.{◌≡◌, refl, [], ◌∷◌, pos, neg_ℤ}
 use Rattle.op_dictionary.specs.declared.operator.Axis.TheVariants.{Inline}
 use Rattle.font_metrics.specs.declared.mark.Mark.{Mark}
 use Rattle.font_metrics.specs.declared.mark.Mark.TheVariants.{Built, Glyph, Rule}

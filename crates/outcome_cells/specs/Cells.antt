@@ -8,7 +8,6 @@ use Rattle.font_metrics.specs.declared.mark.Mark.{Mark}
 use Rattle.font_metrics.specs.declared.mark.Mark.TheVariants.{Built, Glyph, Rule}
 use Rattle.span_tables.specs.declared.cells.CellSpan.{CellSpan}
 use Rattle.box_pool.specs.declared.cell.Cell.{Cell}
-use Rattle.layout_model.specs.declared.outcome.Answer.{Answer}
 use Rattle.layout_model.specs.declared.outcome.Offset.{Offset}
 use Rattle.layout_model.specs.declared.outcome.Outcome.{Outcome}
 

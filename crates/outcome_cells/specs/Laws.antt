@@ -2,7 +2,6 @@
 use Rattle.std.specs.Prelude.{◌≡◌, ℕ, true, List, [], ◌∷◌, ◌++◌, None}
 use Rattle.box_pool.specs.Region.{cells_in, kept_of}
 use Rattle.box_pool.specs.Runs.{is_listed}
-use Rattle.box_pool.specs.declared.cell.Cell.{Cell}
 use Rattle.box_pool.specs.declared.pool.RunId.{RunId}
 use Rattle.layout_model.specs.declared.outcome.Outcome.{Outcome}
 use Rattle.outcome_cells.specs.Cells.{IsHeld, outcome_cells}

@@ -1,4 +1,4 @@
-use Rattle.std.proofs.Common.{◌≡◌, ◌<◌, length, arith, rules}
+use Rattle.std.proofs.Common.{◌≡◌, ◌<◌, length, arith}
 use Rattle.std.proofs.lemmas.Bool.Decides.{nat_tests}
 use Rattle.outcome_cells.specs.Cells.{IsMarkHeld, mark_numbers}
 use Rattle.outcome_cells.proofs.Left.{left_begins, left_end, left_is, left_next, left_smaller, marks_have_some}

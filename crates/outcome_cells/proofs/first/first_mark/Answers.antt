@@ -1,7 +1,3 @@
-use Rattle.std.proofs.Common.{sym, ap, ◌∙◌, of_z, w64, subst, ℤ, List, length, take, drop, ◌-◌}
-use Rattle.font_metrics.specs.declared.mark.Mark.{Mark}
-use Rattle.outcome_cells.specs.Cells.{mark_numbers}
-use Rattle.outcome_cells.specs.Reading.{IsFirst}
 use Rattle.outcome_cells.proofs.Front.{built_first, glyph_first, rule_first}
 use Rattle.outcome_cells.proofs.first.first_mark.Goals as goal
 

@@ -1,4 +1,4 @@
-use Rattle.std.proofs.Common.{◌≡◌, ℤ, pos, List, [], ◌∷◌, ◌++◌, length, refl, sym, ap, ◌∙◌, w64, to_z, of_z, SFits, rules}
+use Rattle.std.proofs.Common.{pos, ◌∷◌, ◌++◌, length, refl, ◌∙◌, w64, SFits, rules}
 use Rattle.std.proofs.lemmas.Int.{to_z-of_z}
 use Rattle.std.specs.List.{flat_map}
 use Rattle.layout_model.specs.declared.outcome.Outcome.{Outcome}
