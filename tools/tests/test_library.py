@@ -296,3 +296,8 @@ class Archive(InFolder):
         program = self.built("tools/tests/library/threads.c", "-pthread")
         for words in ([], *MEMCHECK, *HELGRIND):
             self.assertEqual(self.said(*words, program, METRICS, TOP / "samples" / "quadratic.json"), b"threads ok\n")
+        deep = {"name": "mn", "text": "1"}
+        for level in range(58):
+            deep = {"name": ("mfrac", "mroot", "munder")[level % 3], "children": [deep, {"name": "mo", "text": "¯"}]}
+        deep = self.file("deep", json.dumps({"name": "math", "children": [deep]}))
+        self.assertEqual(self.said(program, METRICS, deep), b"threads ok\n")

@@ -1,4 +1,4 @@
-/* A session on each thread, and each handed from thread to thread, ordered by start and join.
+/* A session on each thread, and each handed from thread to thread, ordered by start and join. The threads have 1 MB of stack.
 
        threads METRICS TREE */
 #include "mathlay.h"
@@ -7,7 +7,7 @@
 #include <stdlib.h>
 #include <string.h>
 
-enum { THREADS = 4, EDITS = 10 };
+enum { THREADS = 4, EDITS = 10, STACK = 1 << 20 };
 typedef struct { uint8_t *at; size_t len; } bytes;
 
 static bytes file_of(const char *name) {
@@ -41,20 +41,23 @@ int main(int count, char **words) {
     bytes metrics = file_of(words[1]), tree = file_of(words[2]);
     mathlay_session sessions[THREADS] = {MATHLAY_CLOSED};
     pthread_t threads[THREADS];
-    uint8_t refusal[MATHLAY_REFUSAL_ROOM], first[4096], other[4096];
+    pthread_attr_t small;
+    static uint8_t refusal[MATHLAY_REFUSAL_ROOM], first[1 << 16], other[1 << 16];
     size_t len = 0, other_len = 0;
     void *wrong;
+    if (pthread_attr_init(&small) || pthread_attr_setstacksize(&small, STACK)) return 2;
     for (int i = 0; i < THREADS; i++)
         if (mathlay_open(metrics.at, metrics.len, tree.at, tree.len, &sessions[i], refusal, sizeof refusal, &len)) return 3;
     for (int round = 0; round < 2; round++) {
-        for (int i = 0; i < THREADS; i++) pthread_create(&threads[i], NULL, edit, &sessions[(i + round) % THREADS]);
+        for (int i = 0; i < THREADS; i++) pthread_create(&threads[i], &small, edit, &sessions[(i + round) % THREADS]);
         for (int i = 0; i < THREADS; i++) if (pthread_join(threads[i], &wrong), wrong) return 4;
     }
     if (mathlay_reply(&sessions[0], first, sizeof first, &len)) return 5;
     for (int i = 1; i < THREADS; i++)
         if (mathlay_reply(&sessions[i], other, sizeof other, &other_len) || other_len != len || memcmp(first, other, len)) return 6;
-    for (int i = 0; i < THREADS; i++) pthread_create(&threads[i], NULL, end, &sessions[i]);
+    for (int i = 0; i < THREADS; i++) pthread_create(&threads[i], &small, end, &sessions[i]);
     for (int i = 0; i < THREADS; i++) pthread_join(threads[i], NULL);
+    pthread_attr_destroy(&small);
     free(metrics.at), free(tree.at);
     puts("threads ok");
     return 0;
