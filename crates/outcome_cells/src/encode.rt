@@ -35,7 +35,8 @@ fn put(more: &[Cell], cells: &mut Vec<Cell>) -> Result<(), Memory>
 
 /// The cells of a box.
 fn put_frame(frame: &MathBox, cells: &mut Vec<Cell>) -> Result<(), Memory>
-    ensures { OnOk result (cells.new.items ≡ cells.old.items ++ in_cells (frame_numbers frame.now)) }
+    ensures { OnOk result (cells.new.items ≡ cells.old.items
+        ++ in_cells (frame_numbers frame.now)) }
 {
     let own = [
         Cell(frame.width),

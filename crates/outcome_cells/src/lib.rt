@@ -8,9 +8,10 @@
 //!
 //! - Models: nothing outside; what is kept of layouts lies in cells of one size.
 //! - Proved: what is put is the definition (`specs/Cells.antt`), and what is read is the outcome
-//!   whose cells these are, exactly; no list of cells stands for two outcomes, and what is read from
-//!   the cells of an outcome is that outcome (`laws`). A store is runs of cells with those at its
-//!   checkpoint (`specs/Store.antt`), and each call does to them exactly what its contract says.
+//!   whose cells these are, exactly; no list of cells stands for two outcomes, and what is read
+//!   from the cells of an outcome is that outcome (`laws`). A store is runs of cells with those at
+//!   its checkpoint (`specs/Store.antt`), and each call does to them exactly what its contract
+//!   says.
 //! - Knows nothing of: trees, which outcomes are kept, and how long.
 //! - Change what an outcome has: its numbers in `specs/Cells.antt`, then `src/encode.rt`,
 //!   `src/parts.rt` and `src/decode.rt`.

@@ -21,8 +21,8 @@ use std::marker::Model;
 #[derive(Drop)]
 pub struct Store {
     pool: Pool,
-    /// Where the cells of an outcome are listed before they are put. It keeps its memory, so that a
-    /// put takes some only where an outcome has more cells than any before.
+    /// Where the cells of an outcome are listed before they are put. It keeps its memory, so that
+    /// listing takes some only where an outcome has more cells than any before.
     desk: Vec<Cell>,
 }
 
