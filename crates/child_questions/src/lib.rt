@@ -16,7 +16,7 @@
 mod asks; // which child, with which pull
 mod children; // a child's style, form and axis
 mod survey; // Survey
-mod tables; // the columns that rows are asked with
+mod tables; // the columns or slots that rows are asked with
 mod waves; // the questions of both waves
 
 pub use asks::{asking, has_moved_limits};

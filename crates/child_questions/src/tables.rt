@@ -24,8 +24,8 @@ use math_tables::{columns, total_width};
 use span_tables::{SpanCell, column_starts, first_columns, slots_from, span_columns};
 use std::alloc::Global;
 
-/// Asks each row of a table with the columns of the whole table, over the answers of all rows. None has
-/// answered that yet.
+/// Asks each row of a table with its columns, or with its slots where a cell of the table spans, over
+/// the answers of all rows. None has answered that yet.
 pub fn rows_asked<V: View, A: Answered>(
     alloc: Global,
     parent: &V,

@@ -15,8 +15,8 @@ pub fn an_element_is_its_equation_over_its_children()
     ensures { LayoutLaw }
 {}
 
-/// The answer of a row tells of all its cells what they span, or of none, and within the limits; that
-/// of another element tells of none.
+/// The answer of an element tells of all its cells what they span, or of none, and within the
+/// limits.
 pub fn spans_are_told_of_all_cells()
     ensures { SpansLaw }
 {}

@@ -3,7 +3,7 @@ ghost use Rattle.fixed_units.specs.declared.refusal.LayRefusal.TheVariants.{Rang
 ghost use Rattle.embellished.specs.Seen.{seen_of};
 ghost use Rattle.style_scope.specs.Sizes.{IsStyle, size_of};
 ghost use Rattle.layout_model.specs.Answers.{answers_in, questions_in};
-ghost use Rattle.layout_model.specs.Fits.{AnswersAll, IsContext, RepliesAll};
+ghost use Rattle.layout_model.specs.Fits.{AnswersAll, AreSpans, IsContext, RepliesAll};
 ghost use Rattle.layout_model.specs.Layout.{equation};
 ghost use Rattle.layout_model.specs.Range.{is_font_size, outcome_fits};
 
@@ -38,6 +38,7 @@ pub fn finish<V: View, L: Ledger>(
     ensures fit { OnOk result (outcome_fits (equation metrics.now (seen_of (V.element view.now)) context.now first.now second.now) ≡ true) }
     ensures range { result ≡ Err Range →
         outcome_fits (equation metrics.now (seen_of (V.element view.now)) context.now first.now second.now) ≡ false }
+    ensures spans { IfOk result (λ outcome. AreSpans outcome.answer) }
     ensures step { steps.new ≡ steps.old + 1 }
 {
     match both_waves(alloc, view, context, metrics, first, second) {
@@ -90,7 +91,7 @@ fn replies(alloc: Global, asks: &[Question], answers: &[Answer]) -> Result<List<
 }
 
 /// The same over the replies of both waves.
-#[tactic(auto, using(fixed_units::proofs::Signed::from_bits), unfolding(layout_model::specs::Layout::equation))]
+#[tactic(auto, using(fixed_units::proofs::Signed::from_bits, layout_model::proofs::Spans::equation_spans), unfolding(layout_model::specs::Layout::equation))]
 pub fn finish_replies<V: View, L: Ledger>(
     alloc: Global,
     view: &V,
@@ -109,6 +110,7 @@ pub fn finish_replies<V: View, L: Ledger>(
         (equation metrics.now (seen_of (V.element view.now)) context.now (answers_in one.now) (answers_in two.now)) ≡ true) }
     ensures range { result ≡ Err Range → outcome_fits
         (equation metrics.now (seen_of (V.element view.now)) context.now (answers_in one.now) (answers_in two.now)) ≡ false }
+    ensures spans { IfOk result (λ outcome. AreSpans outcome.answer) }
     ensures step { steps.new ≡ steps.old + 1 }
 {
     steps.tick();

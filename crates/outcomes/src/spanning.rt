@@ -89,6 +89,7 @@ pub fn table_columns<V: View>(alloc: Global, e: &Element<V>) -> Result<List<i64>
     ensures few { IfOk result (λ widths. length widths ≤ most_columns) }
     ensures within { IfOk result (All IsColumn) }
 {
+    // What holds of the element's children comes with their count.
     let _count = e.count();
     if has_spans(e.answers()) {
         spanned_columns(alloc, e)
@@ -104,6 +105,7 @@ fn spanned_columns<V: View>(alloc: Global, e: &Element<V>) -> Result<List<i64>, 
     ensures few { IfOk result (λ widths. length widths ≤ most_columns) }
     ensures within { IfOk result (All IsColumn) }
 {
+    // What holds of the element's children comes with their count.
     let _count = e.count();
     let cells = cells_of_rows(alloc, e.answers())?;
     let firsts = first_columns(alloc, &cells)?;
@@ -129,6 +131,7 @@ pub fn table_rows<V: View>(alloc: Global, e: &Element<V>) -> Result<List<MathBox
     ensures few { IfOk result (λ rows. length rows ≤ 65_536) }
     ensures within { IfOk result (All HasHeights) }
 {
+    // What holds of the element's children comes with their count.
     let _count = e.count();
     if has_spans(e.answers()) {
         spanned_rows(alloc, e)
@@ -143,6 +146,7 @@ fn spanned_rows<V: View>(alloc: Global, e: &Element<V>) -> Result<List<MathBox>,
     ensures value { IfOk result (λ rows. rows ≡ list_to (length e.now.kids) (tables.spanned_row e.now.kids)) }
     ensures within { IfOk result (All HasHeights) }
 {
+    // What holds of the element's children comes with their count.
     let _count = e.count();
     let cells = cells_of_rows(alloc, e.answers())?;
     let own = heights(alloc, e)?;

@@ -17,7 +17,7 @@ pub struct CellSpan {
     pub descent: i64,
 }
 
-/// A cell of a row.
+/// A cell of a row: its width in units, and what it spans.
 #[derive(Clone, Copy, Debug)]
 pub struct SpanCell {
     pub width: i64,

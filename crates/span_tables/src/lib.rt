@@ -10,8 +10,8 @@
 //!   where cells stand, how what a cell lacks is shared, and the limits are this project's own.
 //! - Proved: each call is its definition, exactly (`specs/Spans.antt`, `specs/Standing.antt`,
 //!   `specs/Widths.antt`, `specs/Heights.antt`, `specs/Slots.antt`). No cell begins under one of an
-//!   earlier row, each fits what it spans and its slot, and without spanning cells a table is a
-//!   plain one (`laws`).
+//!   earlier row, none is wider than its columns and its slot, one over several rows is no deeper
+//!   than these, and without spanning cells a table is a plain one (`laws`).
 //! - Knows nothing of: elements, styles, where a table stands, what is in a cell.
 //! - Change how a lack is shared: `specs/Widths.antt`, then `src/sharing.rt`. Where cells stand:
 //!   `specs/Standing.antt`, then `src/firsts.rt`.
