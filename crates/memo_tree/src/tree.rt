@@ -114,7 +114,11 @@ impl MemoTree {
         ensures fit { IfOk result (IsIn Sealed) }
         ensures range { result ≡ Err Range → is_tree_in_range metrics tree ≡ false }
     {
-        match laid_out(alloc, &tree, &metrics, steps) {
+        let context = context_of(&tree, &metrics);
+        let made = start_layout(alloc, tree.root(), &context, &metrics, steps);
+        // Told, here and below, so that what is let go of isn't proved through all its parts here.
+        drop(context);
+        match made {
             Ok(memo) => Ok(MemoTree {
                 tree,
                 metrics,
@@ -123,7 +127,6 @@ impl MemoTree {
                 notes: Notes::none(),
             }),
             Err(refusal) => {
-                // Told, so that what is let go of isn't proved through all its parts here.
                 drop(tree);
                 drop(metrics);
                 Err(refusal)
@@ -345,24 +348,4 @@ impl MemoTree {
     {
         &self.metrics
     }
-}
-
-/// The layouts that the one of a tree needs.
-fn laid_out<L: Ledger>(
-    alloc: Global,
-    tree: &Tree,
-    metrics: &Metrics,
-    steps: &mut Steps<L>,
-) -> Result<Memo, LayRefusal>
-    ensures kept { IfOk result
-        (KeepsNeeded metrics.now tree.now.root (context_of metrics.now tree.now)) }
-    ensures steps { CountsNeeded metrics.now tree.now.root (context_of metrics.now tree.now)
-        steps.old steps.new }
-    ensures visits { TakesVisits metrics.now tree.now steps.old steps.new }
-    ensures all { IfOk result (λ memo. steps.new ≡ steps.old + kept_count memo) }
-    ensures fit { OnOk result (is_tree_in_range metrics.now tree.now ≡ true) }
-    ensures range { result ≡ Err Range → is_tree_in_range metrics.now tree.now ≡ false }
-{
-    let context = context_of(tree, metrics);
-    start_layout(alloc, tree.root(), &context, metrics, steps)
 }

@@ -1,13 +1,36 @@
-use Rattle.std.proofs.Common.{refl}
+use Rattle.std.proofs.Common.{◌≡◌, ℕ, subst, Bool, true}
+use Rattle.font_metrics.specs.Metrics.{MetricsValue}
+use Rattle.math_tree.specs.Trees.{IsWhole, TreeValue}
+use Rattle.math_tree.specs.declared.node.Node.{Node}
+use Rattle.layout_model.specs.declared.context.Context.{Context}
+use Rattle.kept_sweep.specs.Swept.{CountsNeeded}
+use Rattle.memo_tree.specs.Counted.{TakesVisits}
 use Rattle.memo_tree.specs.Trees.{context_of}
-use Rattle.memo_tree.proofs.Roots.{laid_out, sealed_of}
+use Rattle.memo_tree.proofs.Changes.{visits_law}
+use Rattle.memo_tree.proofs.Roots.{laid_out, of_tree, ranged, sealed_of}
 use Rattle.memo_tree.proofs.tree.MemoTree.start.Goals as goal
+
+-- the steps that the root takes, in the context that was made for it
+visits : (m : MetricsValue) (tree : TreeValue) (root : Node) (context : Context) (from to : ℕ) → IsWhole tree → root ≡ tree.root → context ≡ context_of m tree
+    → CountsNeeded m root context from to → TakesVisits m tree from to
+visits m tree root context from to whole r s counts =
+    visits_law m tree from to whole (of_tree m tree root context (λ (n : Node) (k : Context). CountsNeeded m n k from to) r s counts)
+
+pub returns-in-Ok-clause-visits : goal.returns-in-Ok-clause-visits
+returns-in-Ok-clause-visits g c =
+    visits _ _ _ _ _ _ c.root.ensures.whole c.root.ensures.exact c.context_of-context.ensures.exact (c.in-Ok.ensures {u = tt}).steps
+
+pub returns-in-Err-clause-visits : goal.returns-in-Err-clause-visits
+returns-in-Err-clause-visits g c =
+    visits _ _ _ _ _ _ c.root.ensures.whole c.root.ensures.exact c.context_of-context.ensures.exact (c.in-Err.ensures {u = tt}).steps
 
 pub returns-in-Ok-clause-fit : goal.returns-in-Ok-clause-fit
 returns-in-Ok-clause-fit g c =
     let m = c.args.metrics in
-    let root = c.args.tree.root in
-    let context = context_of m c.args.tree in
+    let tree = c.args.tree in
+    let root = c.root.result.now in
+    let context = c.context_of-context.result in
     let memo = c.in-Ok.memo in
-    let done = c.in-Ok.ensures {u = tt} in
-    laid_out m c.args.tree root context memo refl refl (sealed_of m root context memo done.kept) done.fit
+    let made = c.in-Ok.ensures {u = tt} in
+    laid_out m tree root context memo c.root.ensures.exact c.context_of-context.ensures.exact (sealed_of m root context memo made.kept)
+    (subst (λ (b : Bool). b ≡ true) (ranged m tree root context c.root.ensures.exact c.context_of-context.ensures.exact) made.fit)
