@@ -1,4 +1,5 @@
--- A regular element again, of which layout sees the same but for one child.
+-- A regular element again, of which layout sees the same but for one child: what it asks, what is
+-- answered, and the entry that is made anew.
 use Rattle.std.proofs.Common.{◌≡◌, ◌∙◌, ◌⊎◌, inl, inr, refl, sym, ap, subst, ℕ, ◌+◌, ◌<◌, ◌≤◌, arith, Bool, true, false, cond, List, [], ◌∷◌, get_or, length, map, length-set, set, All, Option, None, Some, is_some, slice_get}
 use Rattle.std.proofs.lemmas.Bool.{eq-eqb}
 use Rattle.std.proofs.lemmas.Bool.Decides.{eqb_tells}
@@ -17,9 +18,9 @@ use Rattle.embellished.proofs.InFlow.{among, shown}
 use Rattle.layout_model.specs.Answers.{answers_in, questions_in}
 use Rattle.layout_model.specs.Laws.{answer_of}
 use Rattle.layout_model.specs.Fits.{AreAnswers, HasFont, HasStyle}
-use Rattle.layout_model.specs.Layout.{equation, in_range, lay}
+use Rattle.layout_model.specs.Layout.{lay}
 use Rattle.layout_model.specs.Questions.{IsBelow, first}
-use Rattle.layout_model.specs.Range.{is_font_size, outcome_fits}
+use Rattle.layout_model.specs.Range.{is_font_size}
 use Rattle.layout_model.specs.declared.context.Context.{Context}
 use Rattle.layout_model.specs.declared.context.Question.{Question}
 use Rattle.layout_model.specs.declared.outcome.Answer.{Answer}
@@ -33,8 +34,7 @@ use Rattle.layout_model.specs.Waves.{times_asked}
 use Rattle.layout_model.proofs.Counted.{each_wave}
 use Rattle.layout_model.proofs.Fits.{answers_are as answers_are_stored, fonts_are}
 use Rattle.layout_model.proofs.Together.{AreApart}
-use Rattle.layout_model.proofs.Waves.{all_fit, broken}
-use Rattle.layout_model.proofs.Whole.{ones_false, range_waves}
+use Rattle.layout_model.proofs.Waves.{all_fit}
 use Rattle.child_questions.proofs.Unstretched.{one_wave}
 use Rattle.kept_results.specs.Contexts.{IsProper, Suits}
 use Rattle.kept_results.specs.Ends.{undone, undone_from}
@@ -53,15 +53,15 @@ use Rattle.kept_results.specs.declared.memo.Memo.TheOpen.{Memo-F}
 use Rattle.kept_results.specs.declared.memo.Memo.TheViews.{out-Memo, out-roll-Memo, roll-Memo}
 use Rattle.kept_results.proofs.Agreement.{has_put, names_renewed, renewed}
 use Rattle.kept_results.proofs.Lists.{set_back, set_here, set_other}
-use Rattle.kept_results.proofs.Passing.{fresh_live, pair_at, passes_both, passes_put, passes_step, passes_under, under}
+use Rattle.kept_results.proofs.Passing.{fresh_live, pair_at, passes_put, passes_under, under}
 use Rattle.kept_results.proofs.Restyling.{all_at, all_named_fit, kid_stays, map_was, mapped_at, other_stays}
 use Rattle.kept_results.proofs.Shown.{as_many_kids, flow_at, read_at, there_is}
 use Rattle.kept_results.proofs.Tidying.{stands, tidy_again}
-use Rattle.kept_results.proofs.Turns.{Waves, facts_known, missing_same, needed_below, ones_proper, own_entries, own_mark, pass_ones, sound_made, waves_fit, waves_lay, waves_unfit}
+use Rattle.kept_results.proofs.Turns.{Waves, facts_known, missing_same, needed_below, ones_proper, own_entries, own_mark, pass_ones}
 
 -- ---- what the element asks
 
-module _ (m : MetricsValue) (node : Node) (memo : Memo) (context : Context) (before : Earlier) (h : Agrees m node memo) (b : IsEarlier (out-Memo memo) context before) where
+module _ {m : MetricsValue} {node : Node} {memo : Memo} {context : Context} {before : Earlier} (h : Agrees m node memo) (b : IsEarlier (out-Memo memo) context before) where
   abbrev restyle : Question → Question
   restyle question = restyled_at m (seen_of node) context before.child question
 
@@ -397,103 +397,3 @@ module _ (m : MetricsValue) (node : Node) (memo : Memo) (context : Context) (bef
 
       pub tidied_again : IsTidy memo → AreTidy (out-Memo now).below → IsTidy after
       tidied_again tidy below = subst IsTidy (sym made.changed) (tidy_again memo before.child b.alike before.entry b.entry entry_made b.at b.serves.older refl new tidy below)
-
--- ---- a pass over a regular element again
-
-module _ (m : MetricsValue) (node : Node) (memo : Memo) (context : Context) (before : Earlier) (h : Agrees m node memo) (b : IsEarlier (out-Memo memo) context before)
-    (few : element_count node ≤ 65_536) (suits : Suits m node context)
-    (was asked : Question) (was_at : slice_get (questions_in b.entry.one) before.child ≡ Some was) (is : asked ≡ restyled m (seen_of node) context was) (style : HasStyle asked)
-    (child : Node) (there : slice_get (out-Node node).children before.child ≡ Some child) (old new : Memo) (at : slice_get (out-Memo memo).below before.child ≡ Some old) where
-  abbrev asks : List Question
-  asks = set (questions_in b.entry.one) before.child asked
-
-  o : asks ≡ map (restyled_at m (seen_of node) context before.child) (questions_in b.entry.one)
-  o = asks_are_set m node memo context before h b was asked was_at is
-
-  own_ask : slice_get asks before.child ≡ Some asked
-  own_ask = asked_there m node memo context before h b was asked was_at is
-
-  styles : All HasStyle asks
-  styles = styles_again m node memo context before h b was asked was_at is style
-
-  pub proper : IsProper m node asked
-  proper = proper_again m node memo context before h b asks o suits styles before.child asked own_ask
-
-  pub goes : (P : Child → Type 0) → P record { place = before.child; node = child } → HasChild node asked.kid P
-  goes P holds = has_child m node memo context before h b asks o before.child asked child own_ask there P holds
-
-  pub first_again : asks ≡ first m (seen_of node) context
-  first_again = first_is m node memo context before h b asks o
-
-  pub child_unfit : in_range m child asked.context ≡ false → in_range m node context ≡ false
-  child_unfit bad =
-      let n = goes (λ (x : Child). x.node ≡ child) refl in
-      let p = goes (λ (x : Child). x.place ≡ before.child) refl in
-      ones_false _ _ _ _ (range_waves m node node context refl asks first_again (map (answer_of m node) asks) refl _ refl)
-      (broken m node asks before.child asked child (slice_get_within asks before.child asked own_ask) (sym (get_or_from_slice_get asks before.child asked asked own_ask))
-      (in_flow node child asked.kid before.child n p) bad)
-
-  module _ (from mid : ℕ) (done : Bool) (pass : Passes m child (Needs m child asked.context) old new from mid done) where
-    pub passed_child : Passes m node (Needs m node context) memo (now m node memo context before h b new) from mid done
-    passed_child = pass_again m node memo context before h b asks o asked own_ask child there old new at pass.keeps from mid done pass
-
-  -- where the child's pass is done
-  module _ (from mid : ℕ) (pass : Passes m child (Needs m child asked.context) old new from mid true)
-      (answer : Answer) (e : answer ≡ (lay m child asked.context).answer) (kept : IsKept (out-Memo new) asked.context) where
-    abbrev answers : List Answer
-    answers = set (answers_in b.entry.one) before.child answer
-
-    abbrev below_now : List Memo
-    below_now = (out-Memo (now m node memo context before h b new)).below
-
-    agrees : Agrees m node (now m node memo context before h b new)
-    agrees = (passed_child from mid true pass).agrees
-
-    pub stored : AreAnswers answers
-    stored = stored_again m node memo context before h b asks o asked own_ask child there old new at pass.keeps answer e answers refl agrees kept few
-
-    pub sized : All (HasFont m) asks
-    sized = sized_again m node memo context before h b asks o asked own_ask child there old new at pass.keeps answer e answers refl agrees kept few
-
-    named : AllByRecursion (NamesKept node below_now) asks
-    named = named_again m node memo context before h b asks o asked own_ask child there old new at pass.keeps answer e answers refl agrees kept
-
-    waves : Waves m node node context asks [] answers []
-    waves = waves_again m node memo context before h b asks o asked own_ask child there old new at pass.keeps answer e answers refl agrees kept
-
-    pub laid : equation m (seen_of node) context answers [] ≡ lay m node context
-    laid = waves_lay waves
-
-    pub unfit : outcome_fits (equation m (seen_of node) context answers []) ≡ false → in_range m node context ≡ false
-    unfit = waves_unfit waves
-
-    pub fit : outcome_fits (equation m (seen_of node) context answers []) ≡ true → in_range m node context ≡ true
-    fit fits =
-        waves_fit waves (still_sized m node memo context before h b) fits
-        (fits_again m node memo context before h b asks o asked own_ask child there old new at pass.keeps answer e answers refl agrees kept) refl
-
-    -- nothing is kept
-    pub step_only : (to : ℕ) → IsMissing (is_marked (out-Memo memo)) context (out-Memo memo).entries → to ≡ mid + 1
-        → Passes m node (Needs m node context) memo (now m node memo context before h b new) from to false
-    step_only to missing step =
-        passes_both m (passed_child from mid true pass)
-        (passes_step m node (Needs m node context) (now m node memo context before h b new) context mid to agrees (missing_again m node memo context before h b asks o before.child new missing)
-        record { element = node; made = (refl, refl) } step)
-
-    -- the entry is made anew
-    module _ (after : Memo) (outcome : Outcome) (out_is : outcome ≡ equation m (seen_of node) context answers [])
-        (made : IsMadeAgain (now m node memo context before h b new) after before outcome record { question = asked; answer = answer }) where
-      pub passed_all : (to : ℕ) → outcome_fits outcome ≡ true
-          → IsMissing (is_marked (out-Memo memo)) context (out-Memo memo).entries → to ≡ mid + 1 → Passes m node (Needs m node context) memo after from to true
-      passed_all to fits missing step =
-          let said : Reply = record { question = asked; answer = answer } in
-          let entry = entry_made m node memo context before h b new after outcome said made in
-          let holds = made_holds m node memo context before h b new after outcome said made in
-          let sound : IsSound m node below_now entry =
-          sound_made waves below_now entry outcome true (set b.entry.one before.child said) []
-          (questions_set b.entry.one before.child said) (answers_set b.entry.one before.child said) refl refl
-          holds out_is suits (fit (ap outcome_fits (sym out_is) ∙ fits)) styles named tt
-          (λ _. regular_again m node memo context before h b asks o) in
-          passes_both m (passed_child from mid true pass)
-          (put_again m node memo context before h b new after outcome said made mid to agrees sound missing
-          record { element = node; made = (refl, refl) } step)
