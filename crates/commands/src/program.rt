@@ -6,11 +6,11 @@ ghost use Rattle.box_writer.specs.Lines.{text_of};
 ghost use Rattle.queries.specs.Queries.{IsWritable, bytes_of};
 ghost use Rattle.generator.specs.Steps.{TakesForRun as TakesForGenerated};
 ghost use Rattle.generator.specs.Summary.{lines_of};
-ghost use Rattle.commands.specs.Command.{IsInLimits, IsWorkInLimits, asked_by, asked_of, job_of, work_of, LaysOut, Edits, Remembers};
-ghost use Rattle.commands.specs.Answer.{answer, answer_over, answer_with, answered, asked_of_page, checked, done, generates, laid_out, lines_of_page, scripted, started, whole_text};
+ghost use Rattle.commands.specs.Command.{IsInLimits, IsWorkInLimits, asked_by, asked_of, work_of, LaysOut, Edits, Remembers};
+ghost use Rattle.commands.specs.Answer.{answer, answer_over, answered, asked_of_page, checked, done, generates, laid_out, lines_of_page, scripted, started, whole_text};
 ghost use Rattle.commands.specs.Ends.{Answered, AnsweredJob, Delivers, Ends, EndsBeforeTree, EndsUnlaid, GivesOr, IsJobInParts, JobStepsStand, LacksFile, StepsStand, TakesNoSteps, Written};
-ghost use Rattle.commands.specs.Parts.{LacksNext, LacksScript, LacksTree};
-ghost use Rattle.commands.specs.Steps.{TakesForEdits, TakesForJob, TakesForLine, TakesForRun, TakesForScript, TakesForWork, TakesOverMetrics, script_lines};
+ghost use Rattle.commands.specs.Parts.{LacksScript, LacksTree};
+ghost use Rattle.commands.specs.Steps.{TakesForEdits, TakesForLine, TakesForRun, TakesForScript, TakesForWork, TakesOverMetrics, script_lines};
 ghost use Rattle.commands.specs.HistorySteps.{TakesForKept, by_history, kept_at_first, new_ring, ring_of};
 ghost use Rattle.commands.specs.Replies.{by_session};
 ghost use Rattle.commands.specs.Refusals.{line_of, status_of};
@@ -75,33 +75,13 @@ fn answer<I: Inputs, O: Sink, L: Ledger>(
         steps.old steps.new }
 {
     match load_metrics(alloc, request.metrics, inputs) {
-        Ok(metrics) => answer_with(alloc, request.job, metrics, inputs, out, steps),
+        Ok(metrics) => match request.job {
+            Job::OverTree(task, tree) => {
+                answer_over(alloc, task, metrics, tree, inputs, out, steps)
+            }
+            Job::Generate(seed, count) => generate_edits(alloc, metrics, seed, count, out, steps),
+        },
         Err(refusal) => tell(out, refusal),
-    }
-}
-
-/// Does a job with these metrics, or tells why it isn't done.
-fn answer_with<I: Inputs, O: Sink, L: Ledger>(
-    alloc: Global,
-    job: Job,
-    metrics: Metrics,
-    inputs: &mut I,
-    out: &mut O,
-    steps: &mut Steps<L>,
-) -> Status
-    requires limits { IsInLimits (job_of job) }
-    ensures answered { AnsweredJob (IsJobInParts (job_of job.entry))
-        (option_map (answer_with (job_of job.entry) metrics) (I.told inputs.old).files)
-        (LacksNext (job_of job.entry) metrics)
-        (I.told inputs.old) (I.told inputs.new)
-        (O.told out.old) (O.told out.new) result }
-    ensures steps { JobStepsStand (job_of job.entry) result → steps.new ≡ steps.old }
-    ensures taken { TakesForJob (job_of job.entry) metrics (I.told inputs.old).files
-        steps.old steps.new }
-{
-    match job {
-        Job::OverTree(task, tree) => answer_over(alloc, task, metrics, tree, inputs, out, steps),
-        Job::Generate(seed, count) => generate_edits(alloc, metrics, seed, count, out, steps),
     }
 }
 
