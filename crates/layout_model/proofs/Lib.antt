@@ -16,6 +16,7 @@ pub mod LeftToRight
 pub mod Made
 pub mod Offsets
 pub mod Places
+mod PlainTables
 pub mod Ranges
 pub mod Replies
 pub mod Spans

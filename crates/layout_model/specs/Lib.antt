@@ -10,6 +10,7 @@ pub mod Laws
 pub mod LeftToRight
 pub mod Layout
 pub mod Made
+pub mod PlainTables
 pub mod Questions
 pub mod Range
 pub mod Rows

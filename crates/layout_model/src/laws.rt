@@ -8,6 +8,7 @@ ghost use Rattle.layout_model.specs.Laid.{DrawnLaw, LaidKidsLaw, LevelsLaw, Offs
 ghost use Rattle.layout_model.specs.Laws.{LaidLaw, LayoutLaw, SpansLaw, VisitsLaw};
 ghost use Rattle.layout_model.specs.LeftToRight.{LeftToRightLaw};
 ghost use Rattle.layout_model.specs.Made.{MadeLaw, ReadsLaw, TwoContextsLaw};
+ghost use Rattle.layout_model.specs.PlainTables.{PlainTablesLaw};
 ghost use Rattle.layout_model.specs.Waves.{AlikeLaw, AskedLaw, EachWaveLaw, HandedLaw, OnceLaw, PlainLaw};
 
 /// An element is laid out by its equation, over the layouts of its children in flow.
@@ -19,6 +20,12 @@ pub fn an_element_is_its_equation_over_its_children()
 /// limits.
 pub fn spans_are_told_of_all_cells()
     ensures { SpansLaw }
+{}
+
+/// A table of which no row tells what a cell spans has the columns and the rows of a plain one, and
+/// asks these as that does.
+pub fn where_no_cell_spans_a_table_is_plain()
+    ensures { PlainTablesLaw }
 {}
 
 /// Where no glyph has a kern, scripts are laid out without corners: every tree has the boxes that it had

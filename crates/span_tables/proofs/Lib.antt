@@ -16,6 +16,7 @@ pub mod Shapes
 pub mod Shares
 pub mod Single
 pub mod SlotBounds
+mod SlotCounts
 pub mod Slotted
 pub mod Starts
 pub mod Worked

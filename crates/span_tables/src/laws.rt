@@ -63,6 +63,12 @@ pub fn slots_lie_within_reach()
         All (IsWithin (2 ^ 60)) (slots_at rows row) }
 {}
 
+/// The slots of a row are one number for the whole table, and two for each of its cells.
+pub fn a_slot_is_two_numbers()
+    ensures { (rows : List (List SpanCell)) (row : ℕ) →
+        length (slots_at rows row) ≡ 1 + 2 * length (cells_at rows row) }
+{}
+
 /// The heights of a row whose cells can be stored can be stored.
 pub fn rows_of_stored_cells_are_stored()
     ensures { (cells : List CellSpan) → All IsSpanStored cells →
