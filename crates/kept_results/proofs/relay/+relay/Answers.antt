@@ -338,7 +338,7 @@ pub relay_again-asked_again-requires-clause-within : goal.relay_again-asked_agai
 relay_again-asked_again-requires-clause-within g t c =
     let was = c.index-as_slice-place.result.question in
     let at = was_read c.requires.agrees c.requires.before c.as_slice.result.now c.index-as_slice-before.result c.as_slice-2.result.now c.index-as_slice-place.result
-        c.as_slice.ensures c.index-as_slice-before.is c.as_slice-2.ensures c.index-as_slice-place.is in
+    c.as_slice.ensures c.index-as_slice-before.is c.as_slice-2.ensures c.index-as_slice-place.is in
     subst (λ (n : Node). was.kid < length (seen_of n).kids) (sym c.of-view.ensures) (was_near c.requires.agrees c.requires.before was at)
 
 pub relay_again-asked_again-requires-clause-size : goal.relay_again-asked_again-requires-clause-size
@@ -366,7 +366,7 @@ pub relay_again-relay_element-requires : goal.relay_again-relay_element-requires
 relay_again-relay_element-requires g t c κs within =
     let asked = (c.in_ok-asked.ensures {u = tt}) in
     let here = turn_of c.requires.agrees c.requires.before c.requires.few c.requires.context c.as_slice.result.now c.index-as_slice-before.result c.as_slice-2.result.now c.index-as_slice-place.result c.as_slice-3.result.now _
-        c.as_slice.ensures c.index-as_slice-before.is c.as_slice-2.ensures c.index-as_slice-place.is c.of-view.ensures asked.ok asked.style c.as_slice-3.ensures c.index-as_slice-place-2.is c.at_mut-below.ensures.value in
+    c.as_slice.ensures c.index-as_slice-before.is c.as_slice-2.ensures c.index-as_slice-place.is c.of-view.ensures asked.ok asked.style c.as_slice-3.ensures c.index-as_slice-place-2.is c.at_mut-below.ensures.value in
     let falls = child_smaller here in
     (omega arith, (search rules, (child_agrees here, (child_few here, child_suits here))))
 
@@ -374,7 +374,7 @@ pub relay_again-returns-in_err-answer-clause-passes : goal.relay_again-returns-i
 relay_again-returns-in_err-answer-clause-passes g t c =
     let asked = (c.in_ok-asked.ensures {u = tt}) in
     let here = turn_of c.requires.agrees c.requires.before c.requires.few c.requires.context c.as_slice.result.now c.index-as_slice-before.result c.as_slice-2.result.now c.index-as_slice-place.result c.as_slice-3.result.now _
-        c.as_slice.ensures c.index-as_slice-before.is c.as_slice-2.ensures c.index-as_slice-place.is c.of-view.ensures asked.ok asked.style c.as_slice-3.ensures c.index-as_slice-place-2.is c.at_mut-below.ensures.value in
+    c.as_slice.ensures c.index-as_slice-before.is c.as_slice-2.ensures c.index-as_slice-place.is c.of-view.ensures asked.ok asked.style c.as_slice-3.ensures c.index-as_slice-place-2.is c.at_mut-below.ensures.value in
     passed_child here (c.in_err-answer.ensures {u = tt}).passes
 
 pub relay_again-returns-in_err-answer-clause-range : goal.relay_again-returns-in_err-answer-clause-range
@@ -383,7 +383,7 @@ relay_again-returns-in_err-answer-clause-range g t c =
     let same = rw e at c.from_residual-in_err-answer.ensures.1 in
     let asked = (c.in_ok-asked.ensures {u = tt}) in
     let here = turn_of c.requires.agrees c.requires.before c.requires.few c.requires.context c.as_slice.result.now c.index-as_slice-before.result c.as_slice-2.result.now c.index-as_slice-place.result c.as_slice-3.result.now _
-        c.as_slice.ensures c.index-as_slice-before.is c.as_slice-2.ensures c.index-as_slice-place.is c.of-view.ensures asked.ok asked.style c.as_slice-3.ensures c.index-as_slice-place-2.is c.at_mut-below.ensures.value in
+    c.as_slice.ensures c.index-as_slice-before.is c.as_slice-2.ensures c.index-as_slice-place.is c.of-view.ensures asked.ok asked.style c.as_slice-3.ensures c.index-as_slice-place-2.is c.at_mut-below.ensures.value in
     child_unfit here ((c.in_err-answer.ensures {u = tt}).range (ap Err (sym same)))
 
 pub relay_again-make_again-requires-clause-entry : goal.relay_again-make_again-requires-clause-entry
@@ -405,7 +405,7 @@ pub relay_again-make_again-requires-clause-shown : goal.relay_again-make_again-r
 relay_again-make_again-requires-clause-shown g t c =
     let asked = (c.in_ok-asked.ensures {u = tt}) in
     let here = turn_of c.requires.agrees c.requires.before c.requires.few c.requires.context c.as_slice.result.now c.index-as_slice-before.result c.as_slice-2.result.now c.index-as_slice-place.result c.as_slice-3.result.now _
-        c.as_slice.ensures c.index-as_slice-before.is c.as_slice-2.ensures c.index-as_slice-place.is c.of-view.ensures asked.ok asked.style c.as_slice-3.ensures c.index-as_slice-place-2.is c.at_mut-below.ensures.value in
+    c.as_slice.ensures c.index-as_slice-before.is c.as_slice-2.ensures c.index-as_slice-place.is c.of-view.ensures asked.ok asked.style c.as_slice-3.ensures c.index-as_slice-place-2.is c.at_mut-below.ensures.value in
     let done = (c.in_ok-answer.ensures {u = tt}) in
     let d = heard_of here done.passed done.ok done.kept in
     shown_again d
@@ -414,7 +414,7 @@ pub relay_again-make_again-requires-clause-ones : goal.relay_again-make_again-re
 relay_again-make_again-requires-clause-ones g t c =
     let asked = (c.in_ok-asked.ensures {u = tt}) in
     let here = turn_of c.requires.agrees c.requires.before c.requires.few c.requires.context c.as_slice.result.now c.index-as_slice-before.result c.as_slice-2.result.now c.index-as_slice-place.result c.as_slice-3.result.now _
-        c.as_slice.ensures c.index-as_slice-before.is c.as_slice-2.ensures c.index-as_slice-place.is c.of-view.ensures asked.ok asked.style c.as_slice-3.ensures c.index-as_slice-place-2.is c.at_mut-below.ensures.value in
+    c.as_slice.ensures c.index-as_slice-before.is c.as_slice-2.ensures c.index-as_slice-place.is c.of-view.ensures asked.ok asked.style c.as_slice-3.ensures c.index-as_slice-place-2.is c.at_mut-below.ensures.value in
     let done = (c.in_ok-answer.ensures {u = tt}) in
     let d = heard_of here done.passed done.ok done.kept in
     ones_again d
@@ -423,7 +423,7 @@ pub relay_again-make_again-requires-clause-stored : goal.relay_again-make_again-
 relay_again-make_again-requires-clause-stored g t c =
     let asked = (c.in_ok-asked.ensures {u = tt}) in
     let here = turn_of c.requires.agrees c.requires.before c.requires.few c.requires.context c.as_slice.result.now c.index-as_slice-before.result c.as_slice-2.result.now c.index-as_slice-place.result c.as_slice-3.result.now _
-        c.as_slice.ensures c.index-as_slice-before.is c.as_slice-2.ensures c.index-as_slice-place.is c.of-view.ensures asked.ok asked.style c.as_slice-3.ensures c.index-as_slice-place-2.is c.at_mut-below.ensures.value in
+    c.as_slice.ensures c.index-as_slice-before.is c.as_slice-2.ensures c.index-as_slice-place.is c.of-view.ensures asked.ok asked.style c.as_slice-3.ensures c.index-as_slice-place-2.is c.at_mut-below.ensures.value in
     let done = (c.in_ok-answer.ensures {u = tt}) in
     let d = heard_of here done.passed done.ok done.kept in
     answers_again d
@@ -432,7 +432,7 @@ pub relay_again-make_again-requires-clause-fonts : goal.relay_again-make_again-r
 relay_again-make_again-requires-clause-fonts g t c =
     let asked = (c.in_ok-asked.ensures {u = tt}) in
     let here = turn_of c.requires.agrees c.requires.before c.requires.few c.requires.context c.as_slice.result.now c.index-as_slice-before.result c.as_slice-2.result.now c.index-as_slice-place.result c.as_slice-3.result.now _
-        c.as_slice.ensures c.index-as_slice-before.is c.as_slice-2.ensures c.index-as_slice-place.is c.of-view.ensures asked.ok asked.style c.as_slice-3.ensures c.index-as_slice-place-2.is c.at_mut-below.ensures.value in
+    c.as_slice.ensures c.index-as_slice-before.is c.as_slice-2.ensures c.index-as_slice-place.is c.of-view.ensures asked.ok asked.style c.as_slice-3.ensures c.index-as_slice-place-2.is c.at_mut-below.ensures.value in
     let done = (c.in_ok-answer.ensures {u = tt}) in
     let d = heard_of here done.passed done.ok done.kept in
     fonts_again d
@@ -441,7 +441,7 @@ pub relay_again-returns : goal.relay_again-returns
 relay_again-returns g t c =
     let asked = (c.in_ok-asked.ensures {u = tt}) in
     let here = turn_of c.requires.agrees c.requires.before c.requires.few c.requires.context c.as_slice.result.now c.index-as_slice-before.result c.as_slice-2.result.now c.index-as_slice-place.result c.as_slice-3.result.now _
-        c.as_slice.ensures c.index-as_slice-before.is c.as_slice-2.ensures c.index-as_slice-place.is c.of-view.ensures asked.ok asked.style c.as_slice-3.ensures c.index-as_slice-place-2.is c.at_mut-below.ensures.value in
+    c.as_slice.ensures c.index-as_slice-before.is c.as_slice-2.ensures c.index-as_slice-place.is c.of-view.ensures asked.ok asked.style c.as_slice-3.ensures c.index-as_slice-place-2.is c.at_mut-below.ensures.value in
     let done = (c.in_ok-answer.ensures {u = tt}) in
     let d = heard_of here done.passed done.ok done.kept in
     let memo = c.args.memo.now in
