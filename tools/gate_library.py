@@ -7,7 +7,7 @@
 proved. So `rattle build` is called here as `rt lib` calls it, with the libraries that the gate left in each crate's folder out/. It
 proves the crate `embed` once more, and builds it. The last line says how long that took, or what was in the way; the status is 0
 where all was made, 1 where `embed` was refused, and 2 otherwise. tests/test_library.py does the same by itself, in a clone where
-`rt ci` alone has built anything.
+`rt ci` alone has built anything and MATHLAY_LIBRARY is set.
 """
 
 import os

@@ -1,7 +1,8 @@
 """The library for other programs: its answers are the program's own bytes, and programs of C that misuse it lose nothing.
 
 `rt ci` proves it and builds no archive; `make library` does. In a clone where `rt ci` alone has built anything, as where `.ci/run`
-runs, the archive is made here first, of what `rt ci` proved (gate_library.py). The quick run, which proves nothing, forbids it."""
+runs, the archive is made here first, of what `rt ci` proved (gate_library.py), if MATHLAY_LIBRARY is set: that proves `embed` once
+more, which takes minutes. The quick run, which proves nothing, forbids it."""
 
 import copy
 import json
@@ -39,7 +40,8 @@ BEHIND_THE_GATE = []
 
 
 def setUpModule():
-    if not ARCHIVE.exists() and quick.NO_PROOF not in os.environ and gate_library.is_behind_the_gate():
+    wanted = "MATHLAY_LIBRARY" in os.environ and quick.NO_PROOF not in os.environ
+    if wanted and not ARCHIVE.exists() and gate_library.is_behind_the_gate():
         BEHIND_THE_GATE.append(gate_library.make())
         print(f"gate_library: {BEHIND_THE_GATE[0][1]}", flush=True)
 
