@@ -1,8 +1,8 @@
-//! The program `adapter_cases`: it tries what `doc_io` has for the system on real files and outputs,
-//! and writes what came of each call.
+//! The program `adapter_cases`: it tries what `doc_io` has for the system on real files and
+//! outputs, and writes what came of each call.
 //!
-//! `data/` has the files that are there, and `stdout` what must come of them, which isn't taken from the
-//! program. The gate runs this program in a copy of `data/` and compares.
+//! `data/` has the files that are there, and `stdout` what must come of them, which isn't taken
+//! from the program. The gate runs this program in a copy of `data/` and compares.
 //!
 //! - Proved: that it ends, without undefined behaviour. What it writes is compared, so no function
 //!   here has an `ensures`.

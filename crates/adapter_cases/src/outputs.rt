@@ -1,4 +1,5 @@
-//! Standard output, and an output that takes little, is interrupted, and then takes nothing or breaks.
+//! Standard output, and an output that takes little, is interrupted, and then takes nothing or
+//! breaks.
 
 use doc_io::{StdSink, write_all};
 use std::cell::Cell;
@@ -16,8 +17,8 @@ fn is_written<W: Write + Drop>(sink: &mut StdSink<W>, bytes: &[u8]) -> bool {
     write_all(sink, bytes).is_ok()
 }
 
-/// An output that prints nothing: it takes three bytes a call while it has room. Then it takes none,
-/// or it breaks. Where it is interrupted, its next call fails all the same, once.
+/// An output that prints nothing: it takes three bytes a call while it has room. Then it takes
+/// none, or it breaks. Where it is interrupted, its next call fails all the same, once.
 #[derive(Drop)]
 struct Narrow {
     room: Cell<usize>,

@@ -41,12 +41,14 @@ impl Model for Pool {
 
     ghost view = { λ pool. record {
       runs = runs_at pool.places.items pool.cells.items (take pool.held.live pool.order.items);
-      checkpoint = checkpoint_of pool.begun (runs_at pool.places.items pool.cells.items (take pool.checkpoint.live pool.order.items));
+      checkpoint = checkpoint_of pool.begun
+          (runs_at pool.places.items pool.cells.items (take pool.checkpoint.live pool.order.items));
       cell_room = pool.cell_room;
       run_room = pool.run_room;
     } };
 
-    ghost invariant = { λ pool. IsWhole pool.cells.items pool.places.items pool.order.items pool.marks.items pool.held pool.checkpoint pool.cell_room pool.run_room };
+    ghost invariant = { λ pool. IsWhole pool.cells.items pool.places.items pool.order.items
+        pool.marks.items pool.held pool.checkpoint pool.cell_room pool.run_room };
 }
 
 impl Pool {
@@ -78,7 +80,8 @@ impl Pool {
     /// Makes room for at least so many more cells and runs, or leaves all as it is.
     pub fn reserve(&mut self, cells: usize, runs: usize) -> Result<(), Memory>
         ensures ok { OnOk result (HasSpare self.new cells runs) }
-        ensures room { (self.old.cell_room ≤ self.new.cell_room) × (self.old.run_room ≤ self.new.run_room) }
+        ensures room { (self.old.cell_room ≤ self.new.cell_room)
+            × (self.old.run_room ≤ self.new.run_room) }
         ensures same { self.new ≡ record self.old {
           cell_room = self.new.cell_room;
           run_room = self.new.run_room;
@@ -118,7 +121,10 @@ impl Pool {
         requires begun { IsSome self.old.checkpoint }
         requires spare { HasSpare self.old (length cells.now) 1 }
         ensures id { cells_at self.old result.0 ≡ None }
-        ensures put { self.new ≡ record self.old { runs = self.old.runs ++ (result.0, cells.now) ∷ [] } }
+        ensures put { self.new ≡ record self.old {
+          runs = self.old.runs ++ (result.0, cells.now)
+              ∷ [];
+        } }
     {
         let id = self.order[self.held.live];
         write_at(self.cells.as_mut_slice(), self.held.used, cells);

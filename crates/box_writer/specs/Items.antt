@@ -11,7 +11,8 @@ use Rattle.box_writer.specs.declared.placed.PlacedItem.TheVariants.{Frame, Drawn
 
 -- an element's box with its baseline's start at a place
 abbrev pub box_of : Head → ℤ → ℤ → MathBox → PlacedItem
-box_of head x y frame = Frame (record { id = head.id; name = head.name; x = x; y = y; frame = frame })
+box_of head x y frame = Frame
+    (record { id = head.id; name = head.name; x = x; y = y; frame = frame })
 
 -- where a mark stands
 abbrev pub x_of : Mark → ℤ

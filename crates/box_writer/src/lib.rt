@@ -1,7 +1,7 @@
 //! Boxes and marks where they stand on the page, and the lines that tell of them.
 //!
-//! A `Placed` is made empty, and `add_box` and `add_mark` add one item each. `write_placed` writes a
-//! line for each item.
+//! A `Placed` is made empty, and `add_box` and `add_mark` add one item each. `write_placed` writes
+//! a line for each item.
 //!
 //! - Models: the output lines of docs/FORMATS.md.
 //! - Proved: what is added is exactly that item; `write_placed` appends `text_of`

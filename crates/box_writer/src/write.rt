@@ -10,7 +10,8 @@ use font_metrics::Metrics;
 
 /// Writes the lines of all items, in pieces of up to 16 KiB. It takes no memory.
 ///
-/// `WriteFault` comes only where the sink counted a fault, and a front of the lines was written then.
+/// `WriteFault` comes only where the sink counted a fault, and a front of the lines was written
+/// then.
 pub fn write_placed<O: Sink>(
     out: &mut O,
     placed: &Placed,

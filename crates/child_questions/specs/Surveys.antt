@@ -11,8 +11,8 @@ use Rattle.layout_model.specs.declared.asking.Asking.TheVariants.{AsTable}
 use Rattle.layout_model.specs.declared.context.Context.{Context}
 use Rattle.child_questions.specs.declared.survey.Survey.{Survey}
 
--- how it asks them in a context, which of them are fences, along which axis each stretches, and whether what
--- stands over it and under it are accents
+-- how it asks them in a context, which of them are fences, along which axis each stretches, and
+-- whether what stands over it and under it are accents
 abbrev pub survey_of : MetricsValue → Seen → Context → Survey
 survey_of m seen context = record {
   asking = asking m seen context;
@@ -28,4 +28,5 @@ is_as_table other = false
 
 -- an element that isn't asked as a table, and of which no child stretches, has no second wave
 abbrev pub has_one_wave : Survey → Bool
-has_one_wave survey = not (is_as_table survey.asking) && list_all (λ pull. is_none pull.axis) survey.pulls
+has_one_wave survey = not (is_as_table survey.asking)
+    && list_all (λ pull. is_none pull.axis) survey.pulls

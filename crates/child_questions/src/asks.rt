@@ -23,7 +23,8 @@ pub fn kid_pulls<V: View>(
     metrics: &Metrics,
 ) -> Result<List<KidPull>, Memory>
     requires known { fences ≡ fences_in (seen_of (V.element parent.now)).kids }
-    ensures { IfOk result (λ pulls. pulls ≡ kid_pulls metrics.now (seen_of (V.element parent.now)) context.now) }
+    ensures { IfOk result (λ pulls. pulls
+        ≡ kid_pulls metrics.now (seen_of (V.element parent.now)) context.now) }
 {
     let mut pulls = List::with_room(alloc, parent.kids())?;
     for index in 0..parent.kids() {

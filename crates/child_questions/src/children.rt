@@ -34,8 +34,10 @@ fn is_subscript<V: View>(parent: &V, index: usize) -> bool
 
 /// Where a child in flow stands; what its parent's attributes say of accents is given.
 fn place_of<V: View>(parent: &V, accent: bool, accentunder: bool, index: usize) -> Place
-    requires accent { accent ≡ is_true (codes "accent") (seen_of (V.element parent.now)).head.attributes }
-    requires accentunder { accentunder ≡ is_true (codes "accentunder") (seen_of (V.element parent.now)).head.attributes }
+    requires accent { accent ≡ is_true (codes "accent")
+        (seen_of (V.element parent.now)).head.attributes }
+    requires accentunder { accentunder
+        ≡ is_true (codes "accentunder") (seen_of (V.element parent.now)).head.attributes }
     requires index { index < 2 ^ 32 }
     ensures { result ≡ place_of (seen_of (V.element parent.now)) index }
 {
@@ -59,7 +61,8 @@ pub fn style_of_kid<V: View>(
     requires within { index < length (seen_of (V.element parent.now)).kids }
     requires style { IsStyle context.now.style }
     requires size { size_of metrics.now context.now.style ≤ℤ pos (2 ^ 20) }
-    ensures value { result ≡ kid_style metrics.now (seen_of (V.element parent.now)) context.now.style index }
+    ensures value { result ≡ kid_style metrics.now (seen_of (V.element parent.now))
+        context.now.style index }
     ensures style { IsStyle result }
 {
     let attributes = &parent.head().attributes;
@@ -78,12 +81,15 @@ fn kid_style<V: View>(
     metrics: &Metrics,
     index: usize,
 ) -> Style
-    requires accent { accent ≡ is_true (codes "accent") (seen_of (V.element parent.now)).head.attributes }
-    requires accentunder { accentunder ≡ is_true (codes "accentunder") (seen_of (V.element parent.now)).head.attributes }
+    requires accent { accent ≡ is_true (codes "accent")
+        (seen_of (V.element parent.now)).head.attributes }
+    requires accentunder { accentunder
+        ≡ is_true (codes "accentunder") (seen_of (V.element parent.now)).head.attributes }
     requires within { index < length (seen_of (V.element parent.now)).kids }
     requires style { IsStyle context.now.style }
     requires size { size_of metrics.now context.now.style ≤ℤ pos (2 ^ 20) }
-    ensures value { result ≡ kid_style metrics.now (seen_of (V.element parent.now)) context.now.style index }
+    ensures value { result ≡ kid_style metrics.now (seen_of (V.element parent.now))
+        context.now.style index }
     ensures style { IsStyle result }
 {
     let _count = parent.kids();
@@ -100,11 +106,13 @@ pub fn kid_context<V: View>(
     index: usize,
     stretch: Stretch,
 ) -> Context
-    requires known { survey.now ≡ survey_of metrics.now (seen_of (V.element parent.now)) context.now }
+    requires known { survey.now
+        ≡ survey_of metrics.now (seen_of (V.element parent.now)) context.now }
     requires within { index < length (seen_of (V.element parent.now)).kids }
     requires style { IsStyle context.now.style }
     requires size { size_of metrics.now context.now.style ≤ℤ pos (2 ^ 20) }
-    ensures value { result ≡ kid_context metrics.now (seen_of (V.element parent.now)) context.now index stretch }
+    ensures value { result ≡ kid_context metrics.now (seen_of (V.element parent.now)) context.now
+        index stretch }
     ensures style { IsStyle result.style }
 {
     let (accent, accentunder) = (survey.accent, survey.accentunder);
@@ -132,8 +140,8 @@ pub fn kid_axis<V: View>(
     stretch_axis(parent.kid_facts(index), form, metrics.extra())
 }
 
-/// The properties of the first child's core in the form in which that child is asked, where it is an
-/// embellished operator.
+/// The properties of the first child's core in the form in which that child is asked, where it is
+/// an embellished operator.
 #[tactic(auto, unfolding(layout_model::specs::Questions::base_properties))]
 pub fn base_properties<V: View>(
     parent: &V,

@@ -2,8 +2,8 @@
 //!
 //! `wave_one` gives the questions that an element asks first. `wave_two` gives those that wait for
 //! the answers: of operators that stretch to what stands beside them, and of the rows of a table to
-//! its columns. Who keeps a `Survey` of the children has both waves from it, as replies that are to come
-//! (`first_wave`, `second_wave`).
+//! its columns. Who keeps a `Survey` of the children has both waves from it, as replies that are to
+//! come (`first_wave`, `second_wave`).
 //!
 //! - Models: MathML Core 3, and 3.2.4.3 for what stretches.
 //! - Proved: the questions are `first` and `second` of `layout_model`, exactly, and a `Survey` is

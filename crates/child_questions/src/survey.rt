@@ -16,8 +16,8 @@ use row_stretch::KidPull;
 use std::alloc::Global;
 use style_scope::{Style, font_size};
 
-/// What an element that is to be laid out in a context sees of its children before it asks them: the
-/// questions of both waves come from it.
+/// What an element that is to be laid out in a context sees of its children before it asks them:
+/// the questions of both waves come from it.
 #[derive(Debug, Drop)]
 pub struct Survey {
     /// How it asks them.
@@ -33,8 +33,8 @@ pub struct Survey {
 }
 
 impl Survey {
-    /// That of an element; neither wave looks through the children again. It is refused with `Range`
-    /// exactly where the font size lies outside 0 to 2^20 units.
+    /// That of an element; neither wave looks through the children again. It is refused with
+    /// `Range` exactly where the font size lies outside 0 to 2^20 units.
     pub fn make<V: View>(
         alloc: Global,
         view: &V,
@@ -42,9 +42,11 @@ impl Survey {
         metrics: &Metrics,
     ) -> Result<Survey, LayRefusal>
         requires style { IsStyle context.now.style }
-        ensures ok { IfOk result (λ survey. survey ≡ survey_of metrics.now (seen_of (V.element view.now)) context.now) }
+        ensures ok { IfOk result (λ survey. survey
+            ≡ survey_of metrics.now (seen_of (V.element view.now)) context.now) }
         ensures fit { OnOk result (is_font_size (size_of metrics.now context.now.style) ≡ true) }
-        ensures range { result ≡ Err Range → is_font_size (size_of metrics.now context.now.style) ≡ false }
+        ensures range { result ≡ Err Range
+            → is_font_size (size_of metrics.now context.now.style) ≡ false }
     {
         if !has_font_size(&context.style, metrics) {
             return Err(LayRefusal::Range);
@@ -59,7 +61,8 @@ impl Survey {
         context: &Context,
         metrics: &Metrics,
     ) -> Result<Survey, Memory>
-        ensures { IfOk result (λ survey. survey ≡ survey_of metrics.now (seen_of (V.element view.now)) context.now) }
+        ensures { IfOk result (λ survey. survey
+            ≡ survey_of metrics.now (seen_of (V.element view.now)) context.now) }
     {
         let fences = fences_of(view);
         let asking = asking(view, fences, context, metrics);
@@ -74,8 +77,8 @@ impl Survey {
         })
     }
 
-    /// Whether it can be told beforehand that the first wave is all that the element asks, whatever is
-    /// answered: it is no table, and no child stretches.
+    /// Whether it can be told beforehand that the first wave is all that the element asks, whatever
+    /// is answered: it is no table, and no child stretches.
     pub fn has_one_wave(&self) -> bool
         ensures { result ≡ has_one_wave self.now }
     {

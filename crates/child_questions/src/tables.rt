@@ -24,8 +24,8 @@ use math_tables::{columns, total_width};
 use span_tables::{SpanCell, column_starts, first_columns, slots_from, span_columns};
 use std::alloc::Global;
 
-/// Asks each row of a table with its columns, or with its slots where a cell of the table spans, over
-/// the answers of all rows. None has answered that yet.
+/// Asks each row of a table with its columns, or with its slots where a cell of the table spans,
+/// over the answers of all rows. None has answered that yet.
 pub fn rows_asked<V: View, A: Answered>(
     alloc: Global,
     parent: &V,
@@ -34,13 +34,15 @@ pub fn rows_asked<V: View, A: Answered>(
     metrics: &Metrics,
     rows: &List<A>,
 ) -> Result<List<Reply>, Memory>
-    requires known { survey.now ≡ survey_of metrics.now (seen_of (V.element parent.now)) context.now }
+    requires known { survey.now
+        ≡ survey_of metrics.now (seen_of (V.element parent.now)) context.now }
     requires style { IsStyle context.now.style }
     requires size { size_of metrics.now context.now.style ≤ℤ pos (2 ^ 20) }
     requires answers { AreAnswers (map A.told rows.now) }
     ensures styles { IfOk result (λ asked. All HasStyle (questions_in asked)) }
     ensures value { IfOk result (λ asked.
-        questions_in asked ≡ rows_asked metrics.now (seen_of (V.element parent.now)) context.now (map A.told rows.now)) }
+        questions_in asked ≡ rows_asked metrics.now (seen_of (V.element parent.now)) context.now
+        (map A.told rows.now)) }
 {
     let rows = rows.as_slice();
     let grid = Grid::of(alloc, rows)?;
@@ -66,8 +68,8 @@ pub enum Grid {
         total: i64,
         widths: List<i64>,
     },
-    /// A cell spans: the cells of the rows, the first column of each, and where each column begins and
-    /// the last one ends.
+    /// A cell spans: the cells of the rows, the first column of each, and where each column begins
+    /// and the last one ends.
     Spanning {
         cells: List<List<SpanCell>>,
         firsts: List<List<u32>>,
@@ -186,9 +188,11 @@ fn slots_at(
 ) -> Result<Stretch, Memory>
     requires some { 1 ≤ length starts.now }
     requires within { All (IsWithin (2 ^ 58)) starts.now }
-    requires inside { AreInside (length starts.now - 1) (cells_of_row_at cells.now index) (firsts_at firsts.now index) }
+    requires inside { AreInside (length starts.now - 1) (cells_of_row_at cells.now index)
+        (firsts_at firsts.now index) }
     ensures { IfOk result (λ slots.
-        slots ≡ Slots (slots_by starts.now (cells_of_row_at cells.now index) (firsts_at firsts.now index))) }
+        slots ≡ Slots (slots_by starts.now (cells_of_row_at cells.now index)
+        (firsts_at firsts.now index))) }
 {
     let no_cells = List::make(alloc);
     let no_firsts = List::make(alloc);

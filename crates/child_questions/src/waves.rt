@@ -29,9 +29,11 @@ pub fn wave_one<V: View>(
     metrics: &Metrics,
 ) -> Result<List<Question>, LayRefusal>
     requires style { IsStyle context.now.style }
-    ensures ok { IfOk result (λ asks. asks ≡ first metrics.now (seen_of (V.element view.now)) context.now) }
+    ensures ok { IfOk result (λ asks. asks
+        ≡ first metrics.now (seen_of (V.element view.now)) context.now) }
     ensures fit { OnOk result (is_font_size (size_of metrics.now context.now.style) ≡ true) }
-    ensures range { result ≡ Err Range → is_font_size (size_of metrics.now context.now.style) ≡ false }
+    ensures range { result ≡ Err Range
+        → is_font_size (size_of metrics.now context.now.style) ≡ false }
     ensures styles { IfOk result (All HasStyle) }
 {
     let survey = Survey::make(alloc, view, context, metrics)?;
@@ -51,7 +53,8 @@ pub fn wave_two<V: View>(
     requires size { size_of metrics.now context.now.style ≤ℤ pos (2 ^ 20) }
     requires answers { AreAnswers first.now }
     ensures styles { IfOk result (All HasStyle) }
-    ensures value { IfOk result (λ asks. asks ≡ second metrics.now (seen_of (V.element view.now)) context.now first.now) }
+    ensures value { IfOk result (λ asks. asks
+        ≡ second metrics.now (seen_of (V.element view.now)) context.now first.now) }
 {
     let survey = Survey::look(alloc, view, context, metrics)?;
     let asked = second_wave(alloc, view, &survey, context, metrics, first)?;
@@ -70,7 +73,8 @@ pub fn first_wave<V: View>(
     requires known { survey.now ≡ survey_of metrics.now (seen_of (V.element view.now)) context.now }
     requires style { IsStyle context.now.style }
     requires size { size_of metrics.now context.now.style ≤ℤ pos (2 ^ 20) }
-    ensures ok { IfOk result (λ asked. questions_in asked ≡ first metrics.now (seen_of (V.element view.now)) context.now) }
+    ensures ok { IfOk result (λ asked. questions_in asked
+        ≡ first metrics.now (seen_of (V.element view.now)) context.now) }
     ensures styles { IfOk result (λ asked. All HasStyle (questions_in asked)) }
 {
     // The view's count bounds how many pulls there are.
@@ -80,8 +84,8 @@ pub fn first_wave<V: View>(
     asked_all(alloc, view, survey, context, metrics, &asks)
 }
 
-/// The questions of the second wave, by what the element sees, over the answers to those of the first.
-/// None is answered yet.
+/// The questions of the second wave, by what the element sees, over the answers to those of the
+/// first. None is answered yet.
 #[tactic(auto, unfolding(layout_model::specs::Questions::second))]
 pub fn second_wave<V: View, A: Answered>(
     alloc: Global,
@@ -97,7 +101,8 @@ pub fn second_wave<V: View, A: Answered>(
     requires answers { AreAnswers (map A.told one.now) }
     ensures styles { IfOk result (λ asked. All HasStyle (questions_in asked)) }
     ensures value { IfOk result (λ asked.
-        questions_in asked ≡ second metrics.now (seen_of (V.element view.now)) context.now (map A.told one.now)) }
+        questions_in asked ≡ second metrics.now (seen_of (V.element view.now)) context.now
+        (map A.told one.now)) }
 {
     if survey.has_one_wave() {
         return Ok(List::make(alloc));
@@ -128,7 +133,8 @@ fn asked_all<V: View>(
     requires within { All (IsAskBelow (length (seen_of (V.element view.now)).kids)) asks.now }
     ensures styles { IfOk result (λ asked. All HasStyle (questions_in asked)) }
     ensures value { IfOk result (λ asked.
-        questions_in asked ≡ asked_all metrics.now (seen_of (V.element view.now)) context.now asks.now) }
+        questions_in asked ≡ asked_all metrics.now (seen_of (V.element view.now)) context.now
+        asks.now) }
 {
     let mut all = List::with_room(alloc, asks.len())?;
     for ask in asks.as_slice() {
@@ -174,7 +180,8 @@ fn questions_in(alloc: Global, replies: &[Reply]) -> Result<List<Question>, Memo
 
 /// The boxes of answers.
 fn frames_of<A: Answered>(alloc: Global, answers: &[A]) -> Result<List<MathBox>, Memory>
-    ensures { IfOk result (λ frames. frames ≡ map (λ answer. answer.frame) (map A.told answers.now)) }
+    ensures { IfOk result (λ frames. frames
+        ≡ map (λ answer. answer.frame) (map A.told answers.now)) }
 {
     let mut frames = List::with_room(alloc, answers.len())?;
     for answered in answers {

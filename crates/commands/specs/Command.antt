@@ -52,7 +52,8 @@ point_of x y = option_and_then (λ a. option_map (λ b. Hit a b) (coordinate_in 
 
 -- what is marked from one element to another
 abbrev pub ids_of : List ℕ → List ℕ → Option Query
-ids_of first second = option_and_then (λ a. option_map (λ b. Select a b) (id_in second)) (id_in first)
+ids_of first second = option_and_then (λ a. option_map (λ b. Select a b) (id_in second))
+    (id_in first)
 
 -- what is asked, by the two words behind the two files
 abbrev pub query_named : List ℕ → List ℕ → List ℕ → Option Query

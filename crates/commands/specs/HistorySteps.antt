@@ -82,8 +82,8 @@ TakesForLine ring line from to = TakesUnlessWhite (is_white_space line) ring lin
 
 -- ---- what answers a script whose edits can be undone
 
--- the history, by which each line is answered, and the ring of inverse edits, by which the steps are
--- counted
+-- the history, by which each line is answered, and the ring of inverse edits, by which the steps
+-- are counted
 pub record Kept : Type 0 where
   pub history : Remembered
   pub ring : RingState

@@ -26,7 +26,8 @@ pub record Accepts (session : SessionValue) (line : List ℕ) : Type 0 where
 -- `ok` answers an edit that the tree has no reason to refuse and that leaves it in range, and then
 -- the session has the edited tree
 abbrev pub AcceptedLaw : Type 0
-AcceptedLaw = (session : SessionValue) (line : List ℕ) → reply_to session line ≡ Accepted → Accepts session line
+AcceptedLaw = (session : SessionValue) (line : List ℕ) → reply_to session line ≡ Accepted
+    → Accepts session line
 
 -- the session after all lines
 abbrev pub after_lines : SessionValue → List (List ℕ) → SessionValue
@@ -34,7 +35,8 @@ after_lines session lines = after_all by_session session lines
 
 -- the reply to each line is the one over the tree as edited by all lines before it
 abbrev pub RepliesLaw : Type 0
-RepliesLaw = (session : SessionValue) (before : List (List ℕ)) (line : List ℕ) (behind : List (List ℕ))
+RepliesLaw = (session : SessionValue) (before : List (List ℕ)) (line : List ℕ)
+    (behind : List (List ℕ))
     → replies session (before ++ line ∷ behind)
     ≡ replies session before ++ told_of (after_lines session before) line
     ++ replies (after_line (after_lines session before) line) behind

@@ -50,8 +50,9 @@ pub struct Request<'a> {
 
 impl<'a> Request<'a> {
     /// Reads the words after the program's name: `layout METRICS TREE`, `edit METRICS TREE SCRIPT`,
-    /// `check METRICS TREE`, `gen METRICS SEED COUNT`, `paint METRICS TREE`, `hit METRICS TREE X Y`,
-    /// `select METRICS TREE ID ID` or `history DEPTH METRICS TREE SCRIPT`, and nothing else.
+    /// `check METRICS TREE`, `gen METRICS SEED COUNT`, `paint METRICS TREE`,
+    /// `hit METRICS TREE X Y`, `select METRICS TREE ID ID` or `history DEPTH METRICS TREE SCRIPT`,
+    /// and nothing else.
     pub fn from_words(words: &'a [String]) -> Result<Request<'a>, NoCommand>
         ensures ok { IfOk result (λ request.
             asked_by (map string_bytes words.now) ≡ Some (asked_of request)) }

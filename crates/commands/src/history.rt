@@ -42,8 +42,8 @@ impl Respond for Ring<Undoable> {
     }
 }
 
-/// Does what a line of a script asks for, and says what is answered. Where memory is refused, the ring
-/// is as before.
+/// Does what a line of a script asks for, and says what is answered. Where memory is refused, the
+/// ring is as before.
 pub fn reply_to<L: Ledger>(
     alloc: Global,
     ring: &mut Ring<Undoable>,

@@ -19,7 +19,8 @@ pub fn each_reply_is_over_the_tree_as_edited_so_far()
     ensures { RepliesLaw }
 {}
 
-/// `gen` counts an edit exactly where `edit` would answer it by `ok`, and its tree changes as there.
+/// `gen` counts an edit exactly where `edit` would answer it by `ok`, and its tree changes as
+/// there.
 pub fn gen_counts_what_ok_would_answer()
     ensures { CountedLaw }
 {}

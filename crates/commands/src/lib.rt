@@ -1,9 +1,9 @@
 //! The commands of the program: what it answers to its words, over any inputs and any sink.
 //!
 //! `run` is the one call. It takes the words after the program's name, reads the files that they
-//! name, writes the answer, and says how the run ended. `layout` writes the lines of a tree's boxes,
-//! `edit` answers the lines of a script over a tree, `check` prints both files in their canonical
-//! form.
+//! name, writes the answer, and says how the run ended. `layout` writes the lines of a tree's
+//! boxes, `edit` answers the lines of a script over a tree, `check` prints both files in their
+//! canonical form.
 //!
 //! - Models: words, lines, replies and statuses, which are own.
 //! - Proved: `run` ends as `Ends` says (`specs/Ends.antt`): with the bytes and the status of
@@ -11,8 +11,8 @@
 //!   (`specs/Replies.antt`), each over the tree as edited so far.
 //! - Knows nothing of: the system; how a metrics file, a tree or a line of a script is read, how a
 //!   tree is laid out, and what an edit makes of it.
-//! - Change what is answered: `specs/Answer.antt`; to a line of a script: `specs/Replies.antt`; then
-//!   the file of `src/` below, then `rt check`.
+//! - Change what is answered: `specs/Answer.antt`; to a line of a script: `specs/Replies.antt`;
+//!   then the file of `src/` below, then `rt check`.
 #![tactic(auto)]
 
 mod command; // the words of the command line

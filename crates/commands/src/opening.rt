@@ -21,7 +21,8 @@ pub fn open<L: Ledger>(
     steps: &mut Steps<L>,
 ) -> Result<Session, Refusal>
     ensures session { IfOk result (λ session. opened metrics.now tree.now ≡ Ok session.held) }
-    ensures refused { IfErr result (λ refusal. GivesOr (opened metrics.now tree.now) (Err refusal)) }
+    ensures refused { IfErr result
+        (λ refusal. GivesOr (opened metrics.now tree.now) (Err refusal)) }
 {
     let metrics = metrics_in(alloc, metrics)?;
     open_tree(alloc, metrics, tree, steps)
@@ -46,7 +47,8 @@ fn open_tree<L: Ledger>(
     steps: &mut Steps<L>,
 ) -> Result<Session, Refusal>
     ensures session { IfOk result (λ session. opened_over metrics tree.now ≡ Ok session.held) }
-    ensures refused { IfErr result (λ refusal. GivesOr (opened_over metrics tree.now) (Err refusal)) }
+    ensures refused { IfErr result
+        (λ refusal. GivesOr (opened_over metrics tree.now) (Err refusal)) }
 {
     match tree_in(alloc, tree) {
         Ok(tree) => start(alloc, metrics, tree, steps),

@@ -46,7 +46,8 @@ pub fn run<I: Inputs, O: Sink, L: Ledger>(
     ensures ends { Ends (asked_by (map string_bytes words.now))
         (I.told inputs.old) (I.told inputs.new)
         (O.told out.old) (O.told out.new) result }
-    ensures steps { TakesNoSteps (asked_by (map string_bytes words.now)) result → steps.new ≡ steps.old }
+    ensures steps { TakesNoSteps (asked_by (map string_bytes words.now)) result
+        → steps.new ≡ steps.old }
     ensures taken { TakesForRun (asked_by (map string_bytes words.now)) (I.told inputs.old).files
         steps.old steps.new }
 {
@@ -371,7 +372,8 @@ fn answer_script<A: Respond, I: Inputs, O: Sink, L: Ledger>(
     steps: &mut Steps<L>,
 ) -> Status
     ensures answered { AnsweredJob (Unit {0})
-        (option_map (scripted A.responder name.now (A.known answerer.old)) (I.told inputs.old).files)
+        (option_map (scripted A.responder name.now (A.known answerer.old))
+        (I.told inputs.old).files)
         (λ files. files name.now ≡ None)
         (I.told inputs.old) (I.told inputs.new)
         (O.told out.old) (O.told out.new) result }
@@ -391,7 +393,8 @@ fn answer_script<A: Respond, I: Inputs, O: Sink, L: Ledger>(
 
 /// Writes the canonical print of both files, and a line feed.
 fn check<O: Sink>(alloc: Global, metrics: &Metrics, tree: &Tree, out: &mut O) -> Status
-    ensures { Written (Ok (whole_text (checked metrics.now tree.now))) (O.told out.old) (O.told out.new) result }
+    ensures { Written (Ok (whole_text (checked metrics.now tree.now))) (O.told out.old)
+        (O.told out.new) result }
 {
     match print_both(alloc, metrics, tree) {
         Ok(text) => deliver(out, text.as_slice(), Status::Done),

@@ -99,9 +99,11 @@ fn carry_out<L: Ledger>(
     steps: &mut Steps<L>,
 ) -> Result<Reply, Memory>
     requires { IsProperCommand command }
-    ensures reply { IfOk result (λ reply. reply ≡ reply_to_command session.old.held (Some command)) }
+    ensures reply { IfOk result (λ reply. reply
+        ≡ reply_to_command session.old.held (Some command)) }
     ensures glyphs { IfOk result (IsReplyOfFont session.old.held.metrics) }
-    ensures session { OnOk result (session.new.held ≡ after_command session.old.held (Some command)) }
+    ensures session { OnOk result (session.new.held
+        ≡ after_command session.old.held (Some command)) }
     ensures unchanged { OnErr result (session.new.held ≡ session.old.held) }
     ensures taken { TakesForEdit session.old.held (accepted_by session.old.held (Some command))
         steps.old steps.new }
@@ -123,7 +125,8 @@ fn change<L: Ledger>(
     ensures reply { IfOk result (λ reply. reply ≡ reply_to_edit session.old.held edit) }
     ensures glyphs { IfOk result (IsReplyOfFont session.old.held.metrics) }
     ensures session { OnOk result
-        (session.new.held ≡ after_reply (reply_to_edit session.old.held edit) session.old.held edit) }
+        (session.new.held ≡ after_reply (reply_to_edit session.old.held edit) session.old.held
+        edit) }
     ensures unchanged { OnErr result (session.new.held ≡ session.old.held) }
     ensures taken { TakesForEdit session.old.held
         (unless_refused (refusal_of session.old.held.tree edit) edit) steps.old steps.new }

@@ -37,10 +37,12 @@ ReadsWithin most before after name result = IfSome before.files (λ f.
     ((bytes : List ℕ) × (f name ≡ Some bytes) × IsWithoutFront most bytes after.rest)
     ⊎ (IsErrOf result ReadFault × (after.rest ≡ Some [])))
 
--- memory was refused for bytes that were read: some of the file, and fewer than so many or all of it
+-- memory was refused for bytes that were read: some of the file, and fewer than so many or all of
+-- it
 abbrev pub ReadsSome : ℕ → InputsTold → InputsTold → List ℕ → Type 0
 ReadsSome most before after name = IfSome before.files (λ f. (taken left : List ℕ) ×
-    (f name ≡ Some (taken ++ left)) × (0 < length taken) × (length taken ≤ most) × (after.rest ≡ Some left)
+    (f name ≡ Some (taken ++ left)) × (0 < length taken) × (length taken ≤ most)
+    × (after.rest ≡ Some left)
     × (length taken ≡ most → left ≡ []))
 
 -- known bytes lose a front of at most so many
@@ -49,11 +51,13 @@ ConsumesAtMost most old new = (taken : List ℕ) × (length taken ≤ most) × C
 
 -- known bytes lose a front of some, of fewer than so many or of just so many, and then all of them
 abbrev pub ConsumesSome : ℕ → Option (List ℕ) → Option (List ℕ) → Type 0
-ConsumesSome most old new = (taken : List ℕ) × (0 < length taken) × (length taken ≤ most) × Consumes old new taken
+ConsumesSome most old new = (taken : List ℕ) × (0 < length taken) × (length taken ≤ most)
+    × Consumes old new taken
     × (length taken ≡ most → IsAtEnd new)
 
 -- where there is no room for a byte more, none is left; or why not
-pub record Ends (before after : InputsTold) (room : ℕ) (result : Result (Unit {0}) ReadRefusal) : Type 0 where
+pub record Ends (before after : InputsTold) (room : ℕ) (result : Result (Unit {0}) ReadRefusal) :
+    Type 0 where
   pub files : after.files ≡ before.files
   pub faults : before.faults ≤ after.faults
   pub missing : after.missing ≡ before.missing

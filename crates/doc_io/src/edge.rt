@@ -170,7 +170,8 @@ impl<W: Write + Drop> Sink for StdSink<W> {
         requires { 0 < length from.now }
         ensures writes { Writes self.old self.new from.now result }
         ensures counts { MatchResult result
-            (λ _. self.new.faults ≡ self.old.faults) (λ _. self.new.faults ≡ raised self.old.faults) }
+            (λ _. self.new.faults ≡ self.old.faults) (λ _. self.new.faults
+            ≡ raised self.old.faults) }
     {
         let answer = self.out.write(from);
         self.counted(answer)

@@ -7,7 +7,8 @@
 //! - Models: `std::io::Read` and `Write`, with counts of failures in place of the error's value.
 //! - Proved: `read_all` gives the whole file and `write_all` appends the whole piece, or a count
 //!   rose; `read_all` knows a file past its limit before it takes memory for the last bytes
-//!   (`specs/Whole.antt`); each call in memory is exact (`specs/MemoryInputs.antt`, `specs/MemorySink.antt`).
+//!   (`specs/Whole.antt`); each call in memory is exact (`specs/MemoryInputs.antt`,
+//!   `specs/MemorySink.antt`).
 //! - Knows nothing of: formats, lines, fonts, trees.
 //! - Change what every input or sink promises: `specs/Causes.antt`, then `src/traits.rt`, then
 //!   `rt check`.

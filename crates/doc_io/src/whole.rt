@@ -47,9 +47,9 @@ const BLOCK: usize = 16384;
 
 /// The whole file of a name, which may have at most `limit` bytes.
 ///
-/// It reads at most `limit + 1` bytes of the file, however long that is. Memory can be wanted only for
-/// bytes that were read: fewer than the limit, or a whole file of just that length. So once as much was
-/// read as may be, a longer file is `TooLong` before memory is taken for it.
+/// It reads at most `limit + 1` bytes of the file, however long that is. Memory can be wanted only
+/// for bytes that were read: fewer than the limit, or a whole file of just that length. So once as
+/// much was read as may be, a longer file is `TooLong` before memory is taken for it.
 #[tactic(auto, using(crate::proofs::Within::reads_within, crate::proofs::Within::reads_some))]
 pub fn read_all<I: Inputs>(
     alloc: Global,
@@ -60,7 +60,8 @@ pub fn read_all<I: Inputs>(
     ensures reads { ReadsAll (I.told inputs.old) (I.told inputs.new) name.now limit result }
     ensures within { ReadsWithin (limit + 1) (I.told inputs.old) (I.told inputs.new)
         name.now result }
-    ensures memory { IsErrOf result NoMemory → ReadsSome limit (I.told inputs.old) (I.told inputs.new) name.now }
+    ensures memory { IsErrOf result NoMemory
+        → ReadsSome limit (I.told inputs.old) (I.told inputs.new) name.now }
 {
     match inputs.select(name) {
         Ok(()) => read_rest(alloc, inputs, limit),
@@ -90,7 +91,8 @@ fn read_rest<I: Inputs>(
 ) -> Result<List<u8>, ReadRefusal>
     ensures reads { ReadsRest (I.told inputs.old) (I.told inputs.new) limit result }
     ensures within { ConsumesAtMost (limit + 1) (I.told inputs.old).rest (I.told inputs.new).rest }
-    ensures memory { IsErrOf result NoMemory → ConsumesSome limit (I.told inputs.old).rest (I.told inputs.new).rest }
+    ensures memory { IsErrOf result NoMemory
+        → ConsumesSome limit (I.told inputs.old).rest (I.told inputs.new).rest }
 {
     let mut bytes = List::make(alloc);
     expect_end(inputs, limit)?;
@@ -107,8 +109,8 @@ fn read_rest<I: Inputs>(
     Ok(bytes)
 }
 
-/// Where so many bytes more may be read and these are none, sees that none is left: one byte more alone tells a
-/// file of the limit's length from a longer one.
+/// Where so many bytes more may be read and these are none, sees that none is left: one byte more
+/// alone tells a file of the limit's length from a longer one.
 fn expect_end<I: Inputs>(inputs: &mut I, room: usize) -> Result<(), ReadRefusal>
     ensures ends { Ends (I.told inputs.old) (I.told inputs.new) room result }
 {

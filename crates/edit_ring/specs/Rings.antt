@@ -186,8 +186,8 @@ pub record RingEdits (Takes : StepBound) (before after : RingState) (edit : Edit
       Takes before.told.metrics before.told.tree edit steps_before steps_after
   pub unmade : refusal_of before.told.tree edit ≢ None → steps_after ≡ steps_before
 
--- an edit was undone or redone, or there was none, or memory was refused: `way` says what becomes of
--- the ring, `next` what becomes of its history
+-- an edit was undone or redone, or there was none, or memory was refused: `way` says what becomes
+-- of the ring, `next` what becomes of its history
 pub record RingMoves (Takes : StepBound) (way : RingState → Option RingState)
     (next : History → Option History) (before after : RingState) (kept : List Edit)
     (steps_before steps_after : ℕ) (result : Result (Unit {0}) RingRefusal) : Type 0 where

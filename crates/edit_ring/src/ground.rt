@@ -38,8 +38,8 @@ impl From<Memory> for GroundRefusal {
 /// A tree that can be edited and shown, with the metrics of a font. It calls some trees good, has a
 /// list of boxes and marks for each of these, and says which steps an edit of a tree may take.
 pub trait Ground: Drop {
-    /// Its tree and its metrics, which trees are good, and the boxes and marks of each: these two are
-    /// told by the root alone.
+    /// Its tree and its metrics, which trees are good, and the boxes and marks of each: these two
+    /// are told by the root alone.
     ghost told: { Self → GroundTold };
 
     /// Which steps an edit that a tree takes may have, under these metrics.

@@ -79,8 +79,8 @@ impl<G: Ground> Ring<G> {
         Ok(Ring { base, past, future })
     }
 
-    /// Carries an edit out. The edits that were undone are forgotten, and where the ring is full the
-    /// oldest that could be undone. After a refusal the ring is as before.
+    /// Carries an edit out. The edits that were undone are forgotten, and where the ring is full
+    /// the oldest that could be undone. After a refusal the ring is as before.
     pub fn edit<L: Ledger>(
         &mut self,
         alloc: Global,

@@ -27,12 +27,16 @@ pub record KeptSession : Type 0 where
 
 -- the session of a tree with its kept layouts
 abbrev pub session_of : MemoTreeValue → KeptSession
-session_of laid = record { held = record { tree = laid.tree; metrics = laid.metrics }; memo = laid.memo }
+session_of laid = record {
+  held = record { tree = laid.tree; metrics = laid.metrics };
+  memo = laid.memo;
+}
 
 -- exactly the layouts are kept that the one of its tree needs
 abbrev pub IsSwept : KeptSession → Type 0
 IsSwept session =
-    KeepsNeeded session.held.metrics session.held.tree.root (context_of session.held.metrics session.held.tree) session.memo
+    KeepsNeeded session.held.metrics session.held.tree.root
+    (context_of session.held.metrics session.held.tree) session.memo
 
 -- every layout that is made of its tree can be stored
 abbrev pub IsInRange : SessionValue → Type 0
@@ -53,7 +57,9 @@ root_box session = (lay_tree session.metrics session.tree).answer.frame
 -- when an edit is refused so: for the reason that there is in the tree, where the tree has one, and
 -- for a size that is out of range only where it has none; want of memory has no cause here
 abbrev pub IsCause : SessionValue → Edit → SessionRefusal → Type 0
-IsCause session edit (Refused reason) = (refusal_of session.tree edit ≡ Some reason) × (reason ≢ OutOfMemory)
+IsCause session edit (Refused reason) = (refusal_of session.tree edit ≡ Some reason)
+    × (reason ≢ OutOfMemory)
 IsCause session edit Range =
-    (refusal_of session.tree edit ≡ None) × (is_tree_in_range session.metrics (edited session.tree edit) ≡ false)
+    (refusal_of session.tree edit ≡ None)
+    × (is_tree_in_range session.metrics (edited session.tree edit) ≡ false)
 IsCause session edit Memory = Unit {0}

@@ -28,8 +28,8 @@ use std::sync::ledger::Ledger;
 use tree_edits::Edit;
 
 /// A tree that is laid out with the metrics of a font. It can be edited and shown; its tree is in
-/// range at any time. The layouts that were made for it are kept, so that an edit makes only those that
-/// it needs and that aren't there.
+/// range at any time. The layouts that were made for it are kept, so that an edit makes only those
+/// that it needs and that aren't there.
 #[derive(Drop)]
 pub struct Session {
     layouts: MemoTree,
@@ -37,12 +37,13 @@ pub struct Session {
     unswept: usize,
 }
 
-/// What an accepted edit weighs, beside one for each layout that it made. So only so many edits come
-/// between two sweeps: all layouts that are kept of an element are looked through for one.
+/// What an accepted edit weighs, beside one for each layout that it made. So only so many edits
+/// come between two sweeps: all layouts that are kept of an element are looked through for one.
 const EDIT_WEIGHT: usize = 4;
 
-/// So much, and two more for each element of the tree, edits may weigh before layouts that aren't needed
-/// any more are dropped: that goes over the whole tree, and is to cost little beside them at any size.
+/// So much, and two more for each element of the tree, edits may weigh before layouts that aren't
+/// needed any more are dropped: that goes over the whole tree, and is to cost little beside them at
+/// any size.
 const MOST_UNSWEPT: usize = 4_096;
 
 impl Model for Session {
@@ -65,19 +66,21 @@ impl Model for Session {
 }
 
 impl Session {
-    /// Takes a tree and metrics over, and lays the tree out. Exactly the layouts are kept that the one of
-    /// the tree needs, and each ticks a step. Where it is refused both are dropped.
+    /// Takes a tree and metrics over, and lays the tree out. Exactly the layouts are kept that the
+    /// one of the tree needs, and each ticks a step. Where it is refused both are dropped.
     pub fn start<L: Ledger>(
         alloc: Global,
         tree: Tree,
         metrics: Metrics,
         steps: &mut Steps<L>,
     ) -> Result<Session, LayRefusal>
-        ensures ok { IfOk result (λ session. session.held ≡ record { tree = tree; metrics = metrics }) }
+        ensures ok { IfOk result (λ session. session.held
+            ≡ record { tree = tree; metrics = metrics }) }
         ensures fit { IfOk result (λ session. IsInRange session.held) }
         ensures range { result ≡ Err Range → is_tree_in_range metrics tree ≡ false }
         ensures kept { IfOk result IsSwept }
-        ensures steps { CountsNeeded metrics tree.root (context_of metrics tree) steps.old steps.new }
+        ensures steps { CountsNeeded metrics tree.root (context_of metrics tree) steps.old
+            steps.new }
         ensures visits { TakesVisits metrics tree steps.old steps.new }
         ensures all { IfOk result (λ session. steps.new ≡ steps.old + kept_count session.memo) }
     {
@@ -86,9 +89,9 @@ impl Session {
         Ok(Session { layouts, unswept })
     }
 
-    /// Carries an edit out, and makes the layouts that the edited tree needs and that aren't kept, each of
-    /// which ticks a step. Where either is refused, the session stays as it was, with all that it keeps; an
-    /// edit that the tree gives a reason to refuse takes no step.
+    /// Carries an edit out, and makes the layouts that the edited tree needs and that aren't kept,
+    /// each of which ticks a step. Where either is refused, the session stays as it was, with all
+    /// that it keeps; an edit that the tree gives a reason to refuse takes no step.
     pub fn edit<L: Ledger>(
         &mut self,
         alloc: Global,
@@ -102,14 +105,15 @@ impl Session {
         ensures refused { IfErr result (IsCause self.old.held edit) }
         ensures unchanged { OnErr result (self.new ≡ self.old) }
         ensures unlaid { refusal_of self.old.held.tree edit ≢ None → steps.new ≡ steps.old }
-        ensures steps { refusal_of self.old.held.tree edit ≡ None → TakesNeeded self.old.held.metrics self.old.held.tree edit steps.old steps.new }
+        ensures steps { refusal_of self.old.held.tree edit ≡ None
+            → TakesNeeded self.old.held.metrics self.old.held.tree edit steps.old steps.new }
     {
         drop(self.carry_out(alloc, edit, steps)?);
         Ok(())
     }
 
-    /// Does the same, and answers the inverse of the edit: it gives back the elements of before, with their
-    /// ids, where it is carried out next. Only the next id stays as the edit left it.
+    /// Does the same, and answers the inverse of the edit: it gives back the elements of before,
+    /// with their ids, where it is carried out next. Only the next id stays as the edit left it.
     pub fn edit_back<L: Ledger>(
         &mut self,
         alloc: Global,
@@ -124,7 +128,8 @@ impl Session {
         ensures refused { IfErr result (IsCause self.old.held edit) }
         ensures unchanged { OnErr result (self.new ≡ self.old) }
         ensures unlaid { refusal_of self.old.held.tree edit ≢ None → steps.new ≡ steps.old }
-        ensures steps { refusal_of self.old.held.tree edit ≡ None → TakesNeeded self.old.held.metrics self.old.held.tree edit steps.old steps.new }
+        ensures steps { refusal_of self.old.held.tree edit ≡ None
+            → TakesNeeded self.old.held.metrics self.old.held.tree edit steps.old steps.new }
     {
         Ok(self.carry_out(alloc, edit, steps)?.into_edit())
     }
@@ -140,11 +145,13 @@ impl Session {
         ensures accepted { OnOk result (refusal_of self.old.held.tree edit ≡ None) }
         ensures edited { OnOk result (self.new.held ≡ edited_session self.old.held edit) }
         ensures fit { OnOk result (IsInRange self.new.held) }
-        ensures back { IfOk result (λ reversal. edit_of reversal.taken ≡ inverse self.old.held.tree edit) }
+        ensures back { IfOk result (λ reversal. edit_of reversal.taken
+            ≡ inverse self.old.held.tree edit) }
         ensures refused { IfErr result (IsCause self.old.held edit) }
         ensures unchanged { OnErr result (self.new ≡ self.old) }
         ensures unlaid { refusal_of self.old.held.tree edit ≢ None → steps.new ≡ steps.old }
-        ensures steps { refusal_of self.old.held.tree edit ≡ None → TakesNeeded self.old.held.metrics self.old.held.tree edit steps.old steps.new }
+        ensures steps { refusal_of self.old.held.tree edit ≡ None
+            → TakesNeeded self.old.held.metrics self.old.held.tree edit steps.old steps.new }
     {
         let reversal = self.layouts.change(alloc, edit)?;
         match self.layouts.relay(alloc, steps) {
@@ -161,8 +168,8 @@ impl Session {
         }
     }
 
-    /// Weighs an accepted edit that made so many layouts, and drops what isn't needed any more where the
-    /// edits since that was last done weigh enough.
+    /// Weighs an accepted edit that made so many layouts, and drops what isn't needed any more
+    /// where the edits since that was last done weigh enough.
     fn drop_in_time(&mut self, made: usize)
         ensures { self.new.held ≡ self.old.held }
     {
@@ -250,11 +257,13 @@ impl Session {
         self.layouts.kept()
     }
 
-    /// The tree with the layouts that are kept of it. They agree with it, and its own is among them.
+    /// The tree with the layouts that are kept of it. They agree with it, and its own is among
+    /// them.
     pub fn layouts(&self) -> &MemoTree
         ensures exact { session_of result.now ≡ self.now }
         ensures agrees { IsIn Sealed result.now }
-        ensures needed { AllKept result.now.metrics result.now.tree.root (context_of result.now.metrics result.now.tree) result.now.memo }
+        ensures needed { AllKept result.now.metrics result.now.tree.root
+            (context_of result.now.metrics result.now.tree) result.now.memo }
     {
         &self.layouts
     }

@@ -85,7 +85,8 @@ answer_of_step (Err HoldsNone) = Nothing
 answer_of_step (Err LacksMemory) = Memory
 
 -- an edit is undone, or made again: `way` says what is kept then; there is none, or why not
-abbrev pub Goes : (DeskValue → Option DeskValue) → Option DeskValue → Option DeskValue → Answer → Type 0
+abbrev pub Goes : (DeskValue → Option DeskValue) → Option DeskValue → Option DeskValue → Answer
+    → Type 0
 Goes way old new Done = Becomes old new (λ desk next. way desk ≡ Some next)
 Goes way old new Nothing = Keeps old (λ desk. way desk ≡ None) × (new ≡ old)
 Goes way old new Memory = (old ≢ None) × (new ≡ old)
@@ -111,9 +112,11 @@ abbrev pub Misses : ℕ → ℕ → Answer → Type 0
 Misses old new (Refused (NoNode id)) = new ≡ id.0
 Misses old new answer = new ≡ old
 
--- the last reply is copied, or why not; of a reply that is too long for the buffer the length is told
+-- the last reply is copied, or why not; of a reply that is too long for the buffer the length is
+-- told
 abbrev pub Tells : Seen → Seen → Answer → Type 0
-Tells old new Done = Keeps old.kept (λ desk. Copies desk.text old.bytes new.bytes new.told) × (new.kept ≡ old.kept)
+Tells old new Done = Keeps old.kept (λ desk. Copies desk.text old.bytes new.bytes new.told)
+    × (new.kept ≡ old.kept)
 Tells old new Short =
     Keeps old.kept (λ desk. (length old.bytes < length desk.text)
     × (new ≡ record old { told = length desk.text }))

@@ -1,4 +1,5 @@
--- What a handle keeps: a formula with what can be undone and redone, and the reply to the last call.
+-- What a handle keeps: a formula with what can be undone and redone, and the reply to the last
+-- call.
 use Rattle.std.specs.Prelude.{◌≡◌, ℕ, ℤ, List, [], Option, Ok}
 use Rattle.std.specs.Option.{option_map}
 use Rattle.font_metrics.specs.Metrics.{MetricsValue}

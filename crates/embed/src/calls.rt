@@ -72,7 +72,8 @@ fn is_open(alloc: Global, handle: &mut Handle) -> bool
 /// A desk over the bytes of both files, in a box.
 fn desk_of(alloc: Global, metrics: &[u8], tree: &[u8]) -> Result<Box<Desk>, Refusal>
     ensures opened { IfOk result (λ desk. IsOpened metrics.now tree.now desk.value) }
-    ensures refused { IfErr result (λ refusal. GivesOr (opened_session metrics.now tree.now) (Err refusal)) }
+    ensures refused { IfErr result
+        (λ refusal. GivesOr (opened_session metrics.now tree.now) (Err refusal)) }
 {
     let desk = Desk::open(alloc, metrics, tree)?;
     match Box::new(alloc, desk) {

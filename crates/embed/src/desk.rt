@@ -59,7 +59,8 @@ impl Desk {
     /// The session of a metrics file's and a tree file's bytes, asked for nothing yet.
     pub fn open(alloc: Global, metrics: &[u8], tree: &[u8]) -> Result<Desk, Refusal>
         ensures opened { IfOk result (IsOpened metrics.now tree.now) }
-        ensures refused { IfErr result (λ refusal. GivesOr (opened metrics.now tree.now) (Err refusal)) }
+        ensures refused { IfErr result
+            (λ refusal. GivesOr (opened metrics.now tree.now) (Err refusal)) }
     {
         Desk::open_counted::<Brand>(alloc, metrics, tree, Blank::new(1))
     }
@@ -75,7 +76,8 @@ impl Desk {
         requires parts { blank.parts ≡ L.parts }
         requires some { 0 < blank.parts }
         ensures opened { IfOk result (IsOpened metrics.now tree.now) }
-        ensures refused { IfErr result (λ refusal. GivesOr (opened metrics.now tree.now) (Err refusal)) }
+        ensures refused { IfErr result
+            (λ refusal. GivesOr (opened metrics.now tree.now) (Err refusal)) }
     {
         let session = open(alloc, metrics, tree, &mut Steps::<L>::new(blank))?;
         Ok(Desk::over(alloc, session)?)
@@ -190,9 +192,11 @@ impl Desk {
         Ok(())
     }
 
-    /// Copies the bytes of the reply to the front of a buffer and tells their number. They are made once.
+    /// Copies the bytes of the reply to the front of a buffer and tells their number. They are made
+    /// once.
     pub fn tell(&mut self, alloc: Global, out: &mut [u8], len: &mut usize) -> Answer
-        ensures { Tells (seen (Some self.old) out.old len.old) (seen (Some self.new) out.new len.new) result }
+        ensures { Tells (seen (Some self.old) out.old len.old)
+            (seen (Some self.new) out.new len.new) result }
     {
         if self.text.is_none() {
             match text_of(alloc, &self.reply, self.ring.metrics()) {

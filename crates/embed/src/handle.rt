@@ -58,7 +58,8 @@ impl Handle {
 
     /// Takes out what the handle keeps, and leaves it closed.
     pub(crate) fn take(&mut self, alloc: Global) -> Option<Box<Desk>>
-        ensures taken { MatchOption result (self.old.kept ≡ None) (λ desk. self.old.kept ≡ Some desk.value) }
+        ensures taken { MatchOption result (self.old.kept ≡ None) (λ desk. self.old.kept
+            ≡ Some desk.value) }
         ensures closed { self.new.kept ≡ None }
     {
         match mem::replace(self, Handle::closed()).into_loose(alloc) {

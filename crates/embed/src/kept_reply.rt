@@ -19,7 +19,8 @@ impl KeptReply {
     /// Writes it. It takes no memory.
     pub fn write<O: Sink>(&self, out: &mut O, metrics: &Metrics) -> Result<(), WriteFault>
         requires { IsOfFont metrics.now self.now }
-        ensures { WritesAll (O.told out.old) (O.told out.new) (text_of metrics.now self.now) result }
+        ensures { WritesAll (O.told out.old) (O.told out.new) (text_of metrics.now self.now)
+            result }
     {
         match self {
             KeptReply::Line(reply) => reply.write(out, metrics),

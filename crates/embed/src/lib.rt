@@ -1,15 +1,16 @@
 //! The engine for other programs: sessions that a C program holds from call to call, in a static
 //! library. `include/mathlay.h` is what a C program reads.
 //!
-//! A handle is closed, or it keeps a desk: a session whose edits can be undone, and the reply to the
-//! last call. No call has a condition: a closed handle, one that is open already, a line that is too
-//! long, a buffer that is too short are told, and lose nothing.
+//! A handle is closed, or it keeps a desk: a session whose edits can be undone, and the reply to
+//! the last call. No call has a condition: a closed handle, one that is open already, a line that
+//! is too long, a buffer that is too short are told, and lose nothing.
 //!
 //! - Models: the lines of docs/FORMATS.md, and their replies, as `history` answers them.
 //! - Proved: what each call makes of the session that the handle keeps, and of the caller's buffer,
 //!   and when it gives each of its answers (`specs/Calls.antt`).
 //! - Not proved: what the C program owes, which stands in the header.
-//! - Knows nothing of: files, fonts, how a line is answered, how an edit is undone, what is painted.
+//! - Knows nothing of: files, fonts, how a line is answered, how an edit is undone, what is
+//!   painted.
 //! - Change a call: its definition in `specs/Calls.antt`, then its function here, then the header.
 #![tactic(auto)]
 
@@ -33,9 +34,9 @@ pub use frame::Frame;
 pub use handle::Handle;
 use std::alloc::Global;
 
-/// Opens a session in a closed handle, over the bytes of a metrics file and of a tree file. A refusal
-/// is told by the program's status and by the program's line, for which there must be 160 bytes of
-/// room.
+/// Opens a session in a closed handle, over the bytes of a metrics file and of a tree file. A
+/// refusal is told by the program's status and by the program's line, for which there must be 160
+/// bytes of room.
 #[unsafe(no_mangle)]
 pub extern "C" fn mathlay_open(
     alloc: Global,
@@ -103,14 +104,15 @@ pub extern "C" fn mathlay_select(
     missing: &mut u32,
 ) -> u32
     ensures { Answers (λ answer.
-        Asks (Select (record { 0 = first }) (record { 0 = second })) handle.old.kept handle.new.kept answer
+        Asks (Select (record { 0 = first }) (record { 0 = second })) handle.old.kept handle.new.kept
+        answer
         × Misses missing.old missing.new answer) result }
 {
     selected(alloc, handle, first, second, missing).number()
 }
 
-/// Copies the last reply to the front of a buffer, and tells how long it is. Where the buffer is too
-/// short nothing is written, and the length is told.
+/// Copies the last reply to the front of a buffer, and tells how long it is. Where the buffer is
+/// too short nothing is written, and the length is told.
 #[unsafe(no_mangle)]
 pub extern "C" fn mathlay_reply(
     alloc: Global,
@@ -133,8 +135,8 @@ pub extern "C" fn mathlay_root(alloc: Global, handle: &mut Handle, frame: &mut F
     measured(alloc, handle, frame).number()
 }
 
-/// The element that a point lies in: of those whose boxes hold it, the last of the deepest. Lengths are
-/// in 1/1024 px, to the right and downward from where the root's baseline begins.
+/// The element that a point lies in: of those whose boxes hold it, the last of the deepest. Lengths
+/// are in 1/1024 px, to the right and downward from where the root's baseline begins.
 #[unsafe(no_mangle)]
 pub extern "C" fn mathlay_hit(
     alloc: Global,

@@ -56,7 +56,8 @@ core_of_operator head = record {
 -- ---- an element over its children in flow
 
 unfoldable pub is_space_like : Kind → List Facts → Bool
-is_space_like laid flow = is_blank laid || (is_judged_by_all laid && list_all (λ kid. kid.space_like) flow)
+is_space_like laid flow = is_blank laid
+    || (is_judged_by_all laid && list_all (λ kid. kid.space_like) flow)
 
 -- the core of the first, where there is one
 abbrev pub first_core : List Facts → Option Core
@@ -81,7 +82,8 @@ core_below laid flow =
     else None
 
 abbrev pub core_of : Head → Kind → List Facts → Option Core
-core_of head laid flow = if is_operator laid then Some (core_of_operator head) else core_below laid flow
+core_of head laid flow = if is_operator laid then Some (core_of_operator head) else core_below laid
+    flow
 
 -- ---- the facts
 

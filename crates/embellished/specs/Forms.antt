@@ -83,7 +83,8 @@ stretch_axis facts form lines = option_and_then (core_axis form lines) facts.cor
 
 -- an element stretches along an axis: it is embellished, its core's `stretchy` is true in its form,
 -- and the axis is that of its core's text
-pub record StretchesAlong (facts : Facts) (form : Form) (lines : List OperatorLine) (axis : Axis) : Type 0 where
+pub record StretchesAlong (facts : Facts) (form : Form) (lines : List OperatorLine) (axis : Axis) :
+    Type 0 where
   pub core : Core
   pub embellished : facts.core ≡ Some core
   pub stretchy : (properties_at core form lines).stretchy ≡ true

@@ -58,5 +58,6 @@ pub record IsLed (seen : Seen) (core : Core) : Type 0 where
       → leads seen.facts.laid sibling.facts other ≡ true → other ≡ index
 
 abbrev pub CoreLaw : Type 0
-CoreLaw = (node : Node) (core : Core) → (facts node).core ≡ Some core → is_operator (facts node).laid ≡ false
+CoreLaw = (node : Node) (core : Core) → (facts node).core ≡ Some core
+    → is_operator (facts node).laid ≡ false
     → IsLed (seen_of node) core

@@ -81,8 +81,8 @@ flow_children node = flow_by laid_child (facts node).laid (children_from 0 (out-
 abbrev pub flow_nodes : Node → List Node
 flow_nodes node = map (λ child. child.node) (flow_children node)
 
--- the child in flow at an index: it is the one at its place among all children, a view shows it, and
--- what holds of it
+-- the child in flow at an index: it is the one at its place among all children, a view shows it,
+-- and what holds of it
 pub record HasChild (node : Node) (index : ℕ) (P : Child → Type 0) : Type 0 where
   pub child : Child
   pub in_flow : slice_get (flow_children node) index ≡ Some child
@@ -101,9 +101,13 @@ abbrev pub known_child : Child → KnownChild
 known_child child = record { child = child; facts = facts child.node }
 
 abbrev pub shown_child : ShownKid → KnownChild
-shown_child kid = record { child = record { place = kid.place; node = kid.node.now }; facts = kid.facts }
+shown_child kid = record {
+  child = record { place = kid.place; node = kid.node.now };
+  facts = kid.facts;
+}
 
-pub record IsShown (node : Node) (facts : Facts) (children : List KnownChild) (prescripts : ℕ) : Type 0 where
+pub record IsShown (node : Node) (facts : Facts) (children : List KnownChild) (prescripts : ℕ) :
+    Type 0 where
   pub facts_are : (seen_of node).facts ≡ facts
   pub children_are : map known_child (flow_children node) ≡ children
   pub prescripts_are : (seen_of node).prescripts ≡ prescripts

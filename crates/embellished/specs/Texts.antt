@@ -25,8 +25,8 @@ with_piece made piece = if has_bytes made then made ++ space ∷ piece else piec
 unfoldable pub joined : List ℕ → List ℕ
 joined text = join_with_byte space (pieces_of text)
 
--- the text that an element shows: joined, and in Unicode's normal form C; the letter of an `mi` isn't
--- mapped to italics by this
+-- the text that an element shows: joined, and in Unicode's normal form C; the letter of an `mi`
+-- isn't mapped to italics by this
 unfoldable pub shown : List ℕ → List ℕ
 shown text = encode_utf8_all (nfc (chars (joined text)))
 

@@ -1,4 +1,5 @@
--- Which elements are valid, by how their children are laid out (MathML Core 3.3.2, 3.3.3, 3.4, 3.5).
+-- Which elements are valid, by how their children are laid out (MathML Core 3.3.2, 3.3.3, 3.4,
+-- 3.5).
 use Rattle.std.specs.Prelude.{◌%◌, Bool, true, false, not, ◌&&◌, nat_eq, nat_le, if◌then◌else◌, List, [], ◌∷◌, length, filter}
 use Rattle.std.specs.List.{count_by, list_all, slice_split}
 use Rattle.math_tree.specs.declared.kind.Kind.{Kind}

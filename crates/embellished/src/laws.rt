@@ -34,7 +34,8 @@ pub fn valid_elements_have_their_children()
         IfSome (children_of (facts node).laid) (λ count. length (seen_of node).kids ≡ count) }
 {}
 
-/// A valid `mmultiscripts` has a base, pairs of scripts, and where its prescripts begin pairs again.
+/// A valid `mmultiscripts` has a base, pairs of scripts, and where its prescripts begin pairs
+/// again.
 pub fn scripts_come_in_pairs()
     ensures { (node : Node) → (facts node).laid ≡ Mmultiscripts → HasScripts (seen_of node) }
 {}

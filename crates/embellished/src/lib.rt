@@ -1,7 +1,7 @@
 //! Space-like elements, embellished operators, and the forms, properties and axes of operators.
 //!
-//! `known_of` finds out what each element of a tree is among operators, once, from the leaves up: as
-//! which kind it is laid out, whether it is space-like, and the core of an embellished operator
+//! `known_of` finds out what each element of a tree is among operators, once, from the leaves up:
+//! as which kind it is laid out, whether it is space-like, and the core of an embellished operator
 //! (`facts_of` does it for one element over its children). A `View` is an element with its children
 //! in flow, as layout sees it; `NodeView` is one of a node. `form_within` gives the form of a child
 //! by its place, `operator_properties` what the dictionary and the core's attributes say of it, and

@@ -98,7 +98,8 @@ fn children_of<'a>(
 ) -> Result<Vec<ShownKid<'a>>, Memory>
     requires known { kids.now ≡ map facts (out-Node node.now).children }
     ensures { IfOk result (λ made.
-        map shown_child made.items ≡ map known_child (children_from 0 (out-Node node.now).children)) }
+        map shown_child made.items
+        ≡ map known_child (children_from 0 (out-Node node.now).children)) }
 {
     let nodes = node.children.as_slice();
     let mut made = Vec::with_capacity(alloc, nodes.len())?;
@@ -114,7 +115,8 @@ fn children_of<'a>(
 
 /// The place where the prescripts begin, among `shown` children in flow.
 fn prescripts_of(alloc: Global, laid: Kind, kids: &[Facts], shown: usize) -> Result<usize, Memory>
-    ensures { IfOk result (λ place. place ≡ prescripts_in laid (map (λ kid. kid.laid) kids.now) shown) }
+    ensures { IfOk result (λ place. place
+        ≡ prescripts_in laid (map (λ kid. kid.laid) kids.now) shown) }
 {
     if !matches!(laid, Kind::Mmultiscripts) {
         return Ok(shown);

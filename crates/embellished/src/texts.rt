@@ -10,8 +10,8 @@ use unicode_normalization::{IsNormalized, is_nfc_quick, to_nfc};
 /// The text that an element shows: without white space at its ends, with one space for each run of
 /// white space inside, and in Unicode's normal form C.
 ///
-/// White space is U+0009, U+000A, U+000C, U+000D and U+0020. The single letter of an `mi` stays as it
-/// is here: that it is shown in italics (MathML Core 3.2.2) is for the layout of an `mi`.
+/// White space is U+0009, U+000A, U+000C, U+000D and U+0020. The single letter of an `mi` stays as
+/// it is here: that it is shown in italics (MathML Core 3.2.2) is for the layout of an `mi`.
 #[tactic(auto, unfolding(crate::specs::Texts::shown))]
 pub fn shown_text(alloc: Global, text: &str) -> Result<String, Memory>
     ensures { IfOk result (λ made. string_bytes made ≡ shown text.now) }

@@ -42,7 +42,8 @@ fn is_valid(kind: Kind, kids: &[Kind]) -> bool
 {
     match kind {
         Kind::Mfrac | Kind::Mroot => kids.len() == 2, // Core 3.3.2, 3.3.3
-        Kind::Msub | Kind::Msup | Kind::Munder | Kind::Mover => kids.len() == 2, // Core 3.4.1, 3.4.2
+        // Core 3.4.1, 3.4.2
+        Kind::Msub | Kind::Msup | Kind::Munder | Kind::Mover => kids.len() == 2,
         Kind::Msubsup | Kind::Munderover => kids.len() == 3,
         Kind::Mmultiscripts => are_base_and_scripts(kids), // Core 3.4.3
         // Own choice: nothing but cells in a row, nothing but rows in a table.
@@ -62,7 +63,8 @@ fn are_base_and_scripts(kids: &[Kind]) -> bool
     }
 }
 
-/// Whether there is an even number of scripts on each side of a mark, of which there is at most one.
+/// Whether there is an even number of scripts on each side of a mark, of which there is at most
+/// one.
 #[tactic(auto, unfolding(crate::specs::Validity::are_scripts))]
 fn are_scripts(kids: &[Kind]) -> bool
     ensures { result ≡ are_scripts kids.now }

@@ -31,7 +31,8 @@ IsSign sign = (sign ≡ []) ⊎ ((sign ≡ plus ∷ []) ⊎ (sign ≡ minus ∷ 
 abbrev pub IsFraction : List ℕ → Type 0
 IsFraction fraction =
     (fraction ≡ [])
-    ⊎ ((digits : List ℕ) × (fraction ≡ point ∷ digits) × AllPass is_ascii_digit digits × (0 < length digits))
+    ⊎ ((digits : List ℕ) × (fraction ≡ point ∷ digits) × AllPass is_ascii_digit digits
+    × (0 < length digits))
 
 -- what the digits before and behind the point write, in millionths
 abbrev pub millionths_in : LengthParts → ℕ

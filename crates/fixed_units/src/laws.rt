@@ -25,7 +25,8 @@ pub fn halved_is_the_half()
     ensures { (n h : ℤ) → IsHalf n h ↔ (h ≡ halved n) }
 {}
 
-/// The Euclidean quotient by a positive divisor is the quotient rounded down, and no other number is.
+/// The Euclidean quotient by a positive divisor is the quotient rounded down, and no other number
+/// is.
 pub fn quotients_are_rounded_down()
     ensures { (a b q : ℤ) → pos 0 <ℤ b →
         (((q *ℤ b) ≤ℤ a) × (a <ℤ (q *ℤ b +ℤ b))) ↔ (q ≡ int_div_euclid a b) }

@@ -1,4 +1,5 @@
--- The constants of a font for mathematics (OpenType MATH, "MathConstants"), in the order of that table.
+-- The constants of a font for mathematics (OpenType MATH, "MathConstants"), in the order of that
+-- table.
 use Rattle.std.specs.Prelude.{ℕ, ℤ, pos, negsuc, Bool, nat_lt, if◌then◌else◌, List, [], ◌∷◌, codes, Option, position}
 use Rattle.std.specs.Str.{bytes_eq}
 use Rattle.font_metrics.specs.declared.constants.ConstName.{ConstName}

@@ -35,7 +35,8 @@ abbrev pub fault_if : Bool → LineFault → Step (Unit {0})
 fault_if true fault = Err fault
 fault_if false fault = Ok tt
 
--- the number under which a user is told of a fault; the faults of a line are looked for in this order
+-- the number under which a user is told of a fault; the faults of a line are looked for in this
+-- order
 abbrev pub number_of_fault : LineFault → ℕ
 number_of_fault ForeignByte = 1
 number_of_fault WrongFirstLine = 2

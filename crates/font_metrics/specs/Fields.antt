@@ -178,7 +178,8 @@ abbrev pub are_pairs : Words → Bool
 are_pairs words = nat_eq (length words % 2) 0 && nat_le (length words) 32
 
 -- the corner and the place of a glyph, and its kern there
-abbrev pub kern_with : List NamedGlyph → List ℕ → List ℕ → List ℕ → Words → Step (Corner × (ℕ × Kern))
+abbrev pub kern_with : List NamedGlyph → List ℕ → List ℕ → List ℕ → Words
+    → Step (Corner × (ℕ × Kern))
 kern_with glyphs base corner lowest more = do
   place ← named_in glyphs base
   at ← corner_in corner

@@ -95,26 +95,28 @@ abbrev pub is_said : {X : Type 0} → List X → Bool
 is_said [] = false
 is_said (x ∷ xs) = true
 
--- an item behind others: what one of them gives already, what is one too many, and what else is wrong with
--- it
+-- an item behind others: what one of them gives already, what is one too many, and what else is
+-- wrong with it
 abbrev pub allowed_behind : List Item → Item → Step (Unit {0})
 allowed_behind before (SaysUpem n) = fault_if (is_said (said upem_said before)) Repeated
 allowed_behind before (SaysLine n) = fault_if (is_said (said line_said before)) Repeated
 allowed_behind before (SaysXHeight n) = fault_if (is_said (said x_height_said before)) Repeated
 allowed_behind before (SaysOverlap n) = fault_if (is_said (said overlap_said before)) Repeated
-allowed_behind before (SaysConstant c) = fault_if (is_said (said (constant_said c.0) before)) Repeated
+allowed_behind before (SaysConstant c) = fault_if (is_said (said (constant_said c.0) before))
+    Repeated
 allowed_behind before (SaysGlyph g) = do
   new ← fault_if (is_some (place_of_name (said glyph_said before) g.name)) Repeated
   fault_if (nat_le most_glyphs (length (said glyph_said before))) TooMany
-allowed_behind before (SaysCharacter c) = fault_if (is_said (said (character_said c.0) before)) Repeated
+allowed_behind before (SaysCharacter c) = fault_if (is_said (said (character_said c.0) before))
+    Repeated
 allowed_behind before (SaysEntry t x) = do
   free ← fault_if (nat_le (slot t).most (length (said (entry_said t x.0) before))) (slot t).full
   (slot t).check x.1
 allowed_behind before (SaysOperator line) =
     fault_if (is_named (said operator_said before) line.text line.form) Repeated
 
--- what words say behind these items in a file of a version, or the first fault: a name is that of a glyph
--- said before
+-- what words say behind these items in a file of a version, or the first fault: a name is that of a
+-- glyph said before
 abbrev pub words_say : ℕ → List Item → Words → Step (List Item)
 words_say version before [] = Ok []
 words_say version before (word ∷ fields) = do
@@ -134,7 +136,8 @@ line_says version before line = do
 abbrev pub Say : ℕ → List Item → List (List ℕ) → List Item → Type 0
 Say version before [] items = before ≡ items
 Say version before (line ∷ lines) items =
-    (more : List Item) × (line_says version before line ≡ Ok more) × Say version (before ++ more) lines items
+    (more : List Item) × (line_says version before line ≡ Ok more)
+    × Say version (before ++ more) lines items
 
 -- the same, from the first line on, which names the version
 abbrev pub SayAll : ℕ → List (List ℕ) → List Item → Type 0
@@ -151,10 +154,13 @@ pub record AreSaid (items : List Item) (m : MetricsValue) : Type 0 where
   pub line : (m.line_ascent, m.line_descent) ∷ [] ≡ said line_said items
   pub x_height : m.x_height ∷ [] ≡ said x_height_said items
   pub overlap : listed m.overlap ≡ said overlap_said items
-  pub constants : (place : ℕ) → listed (lookup (nat_eq place) m.constants) ≡ said (constant_said place) items
+  pub constants : (place : ℕ)
+      → listed (lookup (nat_eq place) m.constants) ≡ said (constant_said place) items
   pub glyphs : m.glyphs ≡ said glyph_said items
-  pub characters : (code : ℕ) → listed (place_of_code m.characters code) ≡ said (character_said code) items
-  pub tables : (t : Table) (place : ℕ) → items_of (entries t m.tables) place ≡ said (entry_said t place) items
+  pub characters : (code : ℕ)
+      → listed (place_of_code m.characters code) ≡ said (character_said code) items
+  pub tables : (t : Table) (place : ℕ)
+      → items_of (entries t m.tables) place ≡ said (entry_said t place) items
   pub operators : m.operators ≡ said operator_said items
 
 -- a file that gives metrics has no faulty line, and they are what its lines say

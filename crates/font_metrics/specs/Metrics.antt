@@ -92,7 +92,8 @@ abbrev pub with_item : {X : Type 0} → ByGlyph X → ℕ → X → ByGlyph X
 with_item table place item = insert_entry nat_cmp table place (items_of table place ++ item ∷ [])
 
 abbrev pub with_item_along : {X : Type 0} → Axis → ByAxis X → ℕ → X → ByAxis X
-with_item_along axis tables place item = with_along axis tables (with_item (along axis tables) place item)
+with_item_along axis tables place item = with_along axis tables
+    (with_item (along axis tables) place item)
 
 -- the glyph has as many items as it may have
 abbrev pub is_full : {X : Type 0} → ℕ → ByGlyph X → ℕ → Bool
@@ -109,7 +110,13 @@ place_of_letter m code = unwrap_or (place_of_code m.characters code) (missing_pl
 abbrev pub nameless : NamedGlyph
 nameless = record {
   name = [];
-  glyph = record { advance = pos 0; ink_ascent = pos 0; ink_descent = pos 0; italic = pos 0; accent = None };
+  glyph = record {
+    advance = pos 0;
+    ink_ascent = pos 0;
+    ink_descent = pos 0;
+    italic = pos 0;
+    accent = None;
+  };
 }
 
 -- the glyph at a place, and its name
@@ -167,7 +174,8 @@ constant_of m name size = scale_of m (unwrap_or (given_constant m name) (pos 0))
 
 -- how many heights of a kern are at most a height, each at a font size
 abbrev pub reached_of : MetricsValue → List KernStep → ℤ → ℤ → ℕ
-reached_of m steps height size = count_by (λ step. int_le (scale_of m step.height size) height) steps
+reached_of m steps height size = count_by (λ step. int_le (scale_of m step.height size) height)
+    steps
 
 -- the values of a kern, of which there is one more than heights
 abbrev pub values_of : Kern → List ℤ
@@ -191,10 +199,12 @@ abbrev pub or_default : ℤ → Option ℤ → ℤ
 or_default default None = default
 or_default default (Some given) = if int_eq given (pos 0) then default else given
 
--- the percents: 70 and 50 where a scale-down is absent or 0, and 60 where the degree raise is absent
+-- the percents: 70 and 50 where a scale-down is absent or 0, and 60 where the degree raise is
+-- absent
 unfoldable pub percent_of : MetricsValue → ConstName → ℤ
 percent_of m ScriptPercentScaleDown = or_default (pos 70) (given_constant m ScriptPercentScaleDown)
-percent_of m ScriptScriptPercentScaleDown = or_default (pos 50) (given_constant m ScriptScriptPercentScaleDown)
+percent_of m ScriptScriptPercentScaleDown = or_default (pos 50)
+    (given_constant m ScriptScriptPercentScaleDown)
 percent_of m name = unwrap_or (given_constant m name) (pos 60)
 
 -- the constants that are percents

@@ -59,7 +59,8 @@ character_words glyphs character =
 
 -- an entry of the glyph at a place in a table
 abbrev pub entry_words : (t : Table) → List NamedGlyph → ℕ → EntryOf t → Words
-entry_words t glyphs place x = (slot t).keyword ∷ name_in_list glyphs place ∷ (slot t).fields glyphs x
+entry_words t glyphs place x = (slot t).keyword ∷ name_in_list glyphs place
+    ∷ (slot t).fields glyphs x
 
 -- the lines of what the glyph at a place has in a table, in file order
 abbrev pub table_lines : MetricsValue → ℕ → Table → List Words

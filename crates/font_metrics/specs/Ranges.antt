@@ -90,14 +90,16 @@ pub record IsKern (k : Kern) : Type 0 where
   pub steps : All IsKernStep k.steps
 
 -- the items of one of these many glyphs: at least one and at most so many
-pub record IsEntry {X : Type 0} (count most : ℕ) (Is : X → Type 0) (entry : ℕ × List X) : Type 0 where
+pub record IsEntry {X : Type 0} (count most : ℕ) (Is : X
+    → Type 0) (entry : ℕ × List X) : Type 0 where
   pub glyph : entry.0 < count
   pub some : 1 ≤ length entry.1
   pub few : length entry.1 ≤ most
   pub items : All Is entry.1
 
 -- a table in order of its glyphs
-pub record IsTable {X : Type 0} (count most : ℕ) (Is : X → Type 0) (table : ByGlyph X) : Type 0 where
+pub record IsTable {X : Type 0} (count most : ℕ) (Is : X
+    → Type 0) (table : ByGlyph X) : Type 0 where
   pub ordered : IsStrictlySortedBy nat_cmp (keys_of table)
   pub entries : All (IsEntry count most Is) table
 

@@ -80,8 +80,8 @@ nothing version = record {
   operators = [];
 }
 
--- whether an item may follow what is given: what is repeated, then what is too many, then what else is
--- wrong with it
+-- whether an item may follow what is given: what is repeated, then what is too many, then what else
+-- is wrong with it
 abbrev pub allowed : Given → Item → Step (Unit {0})
 allowed given (SaysUpem n) = fault_if (is_some given.upem) Repeated
 allowed given (SaysLine n) = fault_if (is_some given.line) Repeated
@@ -123,7 +123,8 @@ taken_along axis most tables place item = do
   free ← fault_if (is_full most (along axis tables) place) TooMany
   Ok (with_item_along axis tables place item)
 
--- the kerns with one more of a glyph at a corner; or that it has one there, or that its heights don't rise
+-- the kerns with one more of a glyph at a corner; or that it has one there, or that its heights
+-- don't rise
 abbrev pub taken_kern : Corner → KernTables → ℕ → Kern → Step KernTables
 taken_kern corner kerns place kern = do
   free ← fault_if (is_full 1 (kerns_at corner kerns) place) Repeated
@@ -139,7 +140,8 @@ after_fields given keyword fields = do
 
 abbrev pub after_words : Given → Words → Step Given
 after_words given [] = Ok given
-after_words given (word ∷ fields) = after_fields given (known_in given.version (keyword_of word)) fields
+after_words given (word ∷ fields) = after_fields given (known_in given.version (keyword_of word))
+    fields
 
 -- what is given after a line behind the first, or the first fault of that line
 unfoldable pub after : Given → List ℕ → Step Given

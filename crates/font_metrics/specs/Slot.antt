@@ -6,9 +6,9 @@ use Rattle.font_metrics.specs.Faults.{Step}
 use Rattle.font_metrics.specs.Fields.{Words}
 use Rattle.font_metrics.specs.Metrics.{NamedGlyph, ByGlyph}
 
--- a table: the first version of a file that has it, how many entries a glyph may have and the fault of one
--- more, which they are where there are so many glyphs, what else is looked for in one, their lines, printed
--- behind the base glyph, and where the table stands
+-- a table: the first version of a file that has it, how many entries a glyph may have and the fault
+-- of one more, which they are where there are so many glyphs, what else is looked for in one, their
+-- lines, printed behind the base glyph, and where the table stands
 pub record Slot : Type 1 where
   pub Entry : Type 0
   pub since : ℕ

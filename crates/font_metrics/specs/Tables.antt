@@ -111,4 +111,5 @@ IsSound t count x = (slot t).Is count x × ((slot t).check x ≡ Ok tt)
 
 -- tables of so many glyphs
 abbrev pub AreFilled : ℕ → Tables → Type 0
-AreFilled count tables = (t : Table) → IsTable count (slot t).most (IsSound t count) (entries t tables)
+AreFilled count tables = (t : Table)
+    → IsTable count (slot t).most (IsSound t count) (entries t tables)

@@ -11,8 +11,8 @@ use Rattle.font_metrics.specs.declared.table.Table.{Table}
 use Rattle.font_metrics.specs.Tables.{AreFilled, slot, entries}
 pub use Rattle.font_metrics.specs.Ranges.{most_glyphs, most_variants, most_parts, IsVersion, IsLength, IsReach, IsInDesign, IsMeasured, IsGlyph, IsConstant, IsCharacter, IsVariant, IsPart, IsKern, IsKernStep, IsEntry, IsTable, IsOperatorText, names_of}
 
--- Every number is in its range, every place is that of a glyph, what may be given once is, and no table has
--- entries that a later version of a file gave it.
+-- Every number is in its range, every place is that of a glyph, what may be given once is, and no
+-- table has entries that a later version of a file gave it.
 pub record IsTaken (m : MetricsValue) : Type 0 where
   pub version : IsVersion m.version
   pub upem_low : 16 ≤ m.upem

@@ -57,8 +57,8 @@ impl KernTables {
         }
     }
 
-    /// Gives the glyph at a place its kern at a corner. Where memory is refused, nothing is known of the
-    /// tables.
+    /// Gives the glyph at a place its kern at a corner. Where memory is refused, nothing is known
+    /// of the tables.
     pub fn take(
         &mut self,
         alloc: Global,
@@ -75,7 +75,8 @@ impl KernTables {
     }
 
     fn add(&mut self, alloc: Global, corner: Corner, place: u16, kern: Kern) -> Result<(), Memory>
-        ensures { OnOk result (self.new ≡ with_kerns_at corner self.old (with_item (kerns_at corner self.old) place kern)) }
+        ensures { OnOk result (self.new
+            ≡ with_kerns_at corner self.old (with_item (kerns_at corner self.old) place kern)) }
     {
         match corner {
             Corner::TopRight => self.top_right.add(alloc, place, kern),

@@ -1,10 +1,11 @@
-//! Laws of the definitions. Each is a contract, so that it is proved; the functions compute nothing.
+//! Laws of the definitions. Each is a contract, so that it is proved; the functions compute
+//! nothing.
 ghost use Rattle.font_metrics.specs.Laws.{MetricsLaw, FaultLaw, TakenLaw, ConstantLaw};
 ghost use Rattle.font_metrics.specs.Print.{PrintReadsBack};
 
-/// A file that gives metrics has no faulty line, and the metrics are what its lines say: glyphs, the
-/// entries of tables and operator lines in file order, a constant's value and a character's glyph by
-/// the one line that names them.
+/// A file that gives metrics has no faulty line, and the metrics are what its lines say: glyphs,
+/// the entries of tables and operator lines in file order, a constant's value and a character's
+/// glyph by the one line that names them.
 pub fn metrics_are_what_lines_say()
     ensures { MetricsLaw }
 {}

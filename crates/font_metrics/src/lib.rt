@@ -6,18 +6,20 @@
 //! dictionary. `print` gives a file that says the same, in one form and one order.
 //!
 //! - Models: the metrics file of docs/FORMATS.md; its words are those of OpenType MATH.
-//! - Proved: `read_metrics` answers `metrics_of` (`specs/Reading.antt`), exactly, or that memory was
-//!   refused; each accessor is its definition in `specs/Metrics.antt`, exactly; numbers stay within
-//!   the bounds of `specs/Taken.antt`; `print` is `print_of` (`specs/Print.antt`), and reading it
-//!   gives the same metrics (`laws`). `read_metrics` and `print` alone take memory.
+//! - Proved: `read_metrics` answers `metrics_of` (`specs/Reading.antt`), exactly, or that memory
+//!   was refused; each accessor is its definition in `specs/Metrics.antt`, exactly; numbers stay
+//!   within the bounds of `specs/Taken.antt`; `print` is `print_of` (`specs/Print.antt`), and
+//!   reading it gives the same metrics (`laws`). `read_metrics` and `print` alone take memory.
 //! - Knows nothing of: trees, styles, layout.
-//! - Laws (`specs/Laws.antt`): metrics are what the lines say, each behind those before it; the first
-//!   fault is told; whatever is given is in its range. Bounds for crates above: `proofs/Bounds.antt`.
+//! - Laws (`specs/Laws.antt`): metrics are what the lines say, each behind those before it; the
+//!   first fault is told; whatever is given is in its range. Bounds for crates above:
+//!   `proofs/Bounds.antt`.
 //! - Change a line of the format: `specs/Fields.antt`, `specs/Reading.antt` and `specs/Print.antt`,
 //!   then `src/lines.rt`, `src/said.rt`, `src/taking.rt` and the mirror `src/print.rt`.
-//! - Add a table by glyph: a case of `Table` and a field of `Tables` (`src/table.rt`), its `Slot` in
-//!   `specs/Tables.antt`, how its lines are taken and printed (`take_fields`, `print_table`), and
-//!   what is proved of its kind (`IsKind`, `proofs/TableKinds`). The rest is proved of all tables.
+//! - Add a table by glyph: a case of `Table` and a field of `Tables` (`src/table.rt`), its `Slot`
+//!   in `specs/Tables.antt`, how its lines are taken and printed (`take_fields`, `print_table`),
+//!   and what is proved of its kind (`IsKind`, `proofs/TableKinds`). The rest is proved of all
+//!   tables.
 #![tactic(auto)]
 
 mod by_axis; // ByAxis: such lists for each axis

@@ -105,7 +105,8 @@ fn glyph_with<'a>(
     more: &[&[u8]],
 ) -> Result<Said<'a>, LineFault>
     ensures { step_map item_of result ≡ step_map SaysGlyph
-        (glyph_with name.now advance.now ascent.now descent.now (word_at 0 (lent more.now)) (word_at 1 (lent more.now))) }
+        (glyph_with name.now advance.now ascent.now descent.now (word_at 0 (lent more.now))
+        (word_at 1 (lent more.now))) }
 {
     let named = both(glyph_name(name), length(advance));
     let ink = both(reach(ascent), reach(descent));
@@ -142,7 +143,8 @@ fn operator_with<'a>(
     properties: &'a [u8],
     direction: &'a [u8],
 ) -> Result<Said<'a>, LineFault>
-    ensures { step_map item_of result ≡ step_map SaysOperator (operator_with codes.now place.now properties.now direction.now) }
+    ensures { step_map item_of result
+        ≡ step_map SaysOperator (operator_with codes.now place.now properties.now direction.now) }
 {
     let named = both(operator_text(codes), form(place));
     let ((text, form), (category, axis)) = both(

@@ -37,8 +37,8 @@ impl Model for Metrics {
 }
 
 impl Metrics {
-    /// What these metrics say may stand in a file: each number is in its range, each glyph is there.
-    /// It does nothing; a caller gets the fact by a call.
+    /// What these metrics say may stand in a file: each number is in its range, each glyph is
+    /// there. It does nothing; a caller gets the fact by a call.
     pub fn is_taken(&self)
         ensures { IsTaken self.now }
     {

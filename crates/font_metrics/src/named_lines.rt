@@ -15,7 +15,8 @@ use crate::words::{glyph_name, letter};
 /// `char CODE NAME`: a character, and the place of the glyph of that name.
 pub fn character_line<'a>(glyphs: &GlyphTable, fields: &[&'a [u8]]) -> Result<Said<'a>, LineFault>
     requires { length glyphs.now ≤ 65535 }
-    ensures { step_map item_of result ≡ step_map SaysCharacter (character_in glyphs.now (lent fields.now)) }
+    ensures { step_map item_of result
+        ≡ step_map SaysCharacter (character_in glyphs.now (lent fields.now)) }
 {
     match fields {
         &[code, name] => Ok(Said::Character(both(letter(code), named(glyphs, name))?)),

@@ -46,7 +46,8 @@ impl Metrics {
 
     /// The first line, and what is given once.
     fn print_header(&self, lines: &mut PrintedLines) -> Result<(), Memory>
-        ensures { OnOk result (lines.new ≡ lines.old ++ flat_map line_text (header_lines self.now)) }
+        ensures { OnOk result (lines.new
+            ≡ lines.old ++ flat_map line_text (header_lines self.now)) }
     {
         let (ascent, descent) = self.needs.line;
         let version = u16::from(self.given.version);
@@ -87,7 +88,8 @@ impl Metrics {
         lines: &mut PrintedLines,
     ) -> Result<(), Memory>
         requires { base.0 < length self.now.glyphs }
-        ensures { OnOk result (lines.new ≡ lines.old ++ flat_map line_text (growth_lines self.now base.0)) }
+        ensures { OnOk result (lines.new
+            ≡ lines.old ++ flat_map line_text (growth_lines self.now base.0)) }
     {
         for table in &TABLES {
             self.print_table(alloc, base, *table, lines)?;
@@ -104,7 +106,8 @@ impl Metrics {
         lines: &mut PrintedLines,
     ) -> Result<(), Memory>
         requires { base.0 < length self.now.glyphs }
-        ensures { OnOk result (lines.new ≡ lines.old ++ flat_map line_text (table_lines self.now base.0 table)) }
+        ensures { OnOk result (lines.new
+            ≡ lines.old ++ flat_map line_text (table_lines self.now base.0 table)) }
     {
         match table {
             Table::Variants(axis) => self.print_variants(base, axis, lines),
@@ -120,7 +123,8 @@ impl Metrics {
         lines: &mut PrintedLines,
     ) -> Result<(), Memory>
         requires { base.0 < length self.now.glyphs }
-        ensures { OnOk result (lines.new ≡ lines.old ++ flat_map line_text (table_lines self.now base.0 (Variants axis))) }
+        ensures { OnOk result (lines.new
+            ≡ lines.old ++ flat_map line_text (table_lines self.now base.0 (Variants axis))) }
     {
         let keyword = Table::Variants(axis).keyword();
         let base_name = self.name(base);
@@ -137,7 +141,8 @@ impl Metrics {
 
     fn print_parts(&self, base: GlyphId, axis: Axis, lines: &mut PrintedLines) -> Result<(), Memory>
         requires { base.0 < length self.now.glyphs }
-        ensures { OnOk result (lines.new ≡ lines.old ++ flat_map line_text (table_lines self.now base.0 (Parts axis))) }
+        ensures { OnOk result (lines.new
+            ≡ lines.old ++ flat_map line_text (table_lines self.now base.0 (Parts axis))) }
     {
         let keyword = Table::Parts(axis).keyword();
         let base_name = self.name(base);
@@ -165,7 +170,8 @@ impl Metrics {
         lines: &mut PrintedLines,
     ) -> Result<(), Memory>
         requires { base.0 < length self.now.glyphs }
-        ensures { OnOk result (lines.new ≡ lines.old ++ flat_map line_text (table_lines self.now base.0 (Kerns corner))) }
+        ensures { OnOk result (lines.new
+            ≡ lines.old ++ flat_map line_text (table_lines self.now base.0 (Kerns corner))) }
     {
         let base_name = self.name(base);
         for kern in self.kerns(base, corner) {
@@ -184,7 +190,8 @@ fn kern_words<'a>(
     kern: &Kern,
 ) -> Result<Vec<Word<'a>>, Memory>
     ensures { IfOk result (λ words. map word_text words.items
-        ≡ base_name.now ∷ corner_text corner ∷ signed_decimal kern.now.lowest ∷ flat_map step_words kern.now.steps) }
+        ≡ base_name.now ∷ corner_text corner ∷ signed_decimal kern.now.lowest
+        ∷ flat_map step_words kern.now.steps) }
 {
     let mut words = Vec::new(alloc);
     words.push(Word::Text(base_name))?;
@@ -222,7 +229,8 @@ fn print_constants(constants: &ConstantTable, lines: &mut PrintedLines) -> Resul
 }
 
 fn print_glyphs(glyphs: &GlyphTable, lines: &mut PrintedLines) -> Result<(), Memory>
-    ensures { OnOk result (lines.new ≡ lines.old ++ flat_map line_text (map glyph_words glyphs.now)) }
+    ensures { OnOk result (lines.new
+        ≡ lines.old ++ flat_map line_text (map glyph_words glyphs.now)) }
 {
     for place in 0..glyphs.len() {
         print_glyph(glyphs.name(place), glyphs.glyph(place), lines)?;

@@ -56,7 +56,8 @@ impl PrintedLines {
 
     /// A line: its first word, and the others one space apart.
     pub fn add_line(&mut self, keyword: &str, words: &[Word<'_>]) -> Result<(), Memory>
-        ensures { OnOk result (self.new ≡ self.old ++ line_text (keyword.now ∷ map word_text words.now)) }
+        ensures { OnOk result (self.new
+            ≡ self.old ++ line_text (keyword.now ∷ map word_text words.now)) }
     {
         self.add_text(keyword)?;
         for word in words {

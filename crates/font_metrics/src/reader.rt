@@ -25,8 +25,8 @@ impl Given {
         Ok(Given::nothing(alloc, version))
     }
 
-    /// Takes all lines of a file behind the first, from which this was begun, and tells what metrics
-    /// need of them.
+    /// Takes all lines of a file behind the first, from which this was begun, and tells what
+    /// metrics need of them.
     pub fn take_lines(&mut self, alloc: Global, bytes: &[u8]) -> Result<Needed, MetricsRefusal>
         requires few { length bytes.now ≤ most_file_bytes }
         requires begun { Begins (lines_of bytes.now) self.old }

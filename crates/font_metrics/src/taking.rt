@@ -116,7 +116,8 @@ impl Given {
         fields: &[&[u8]],
     ) -> Result<(), LineRefusal>
         requires { length self.old.glyphs ≤ most_glyphs }
-        ensures { Takes (after_fields self.old (VariantsOf axis) (lent fields.now)) self.new result }
+        ensures { Takes (after_fields self.old (VariantsOf axis) (lent fields.now)) self.new
+            result }
     {
         let (place, variant) = variant_line(&self.glyphs, fields)?;
         self.tables

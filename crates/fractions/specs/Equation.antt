@@ -17,7 +17,8 @@ clear_shift_of usual gap ink edge = int_max usual (gap +ℤ ink +ℤ edge)
 unfoldable pub rule_shifts_of : RuleLengths → MathBox → MathBox → ℤ → Shifts
 rule_shifts_of font top bottom thickness = record {
   up = clear_shift_of font.shift_up font.gap_above top.ink_descent (font.axis +ℤ halved thickness);
-  down = clear_shift_of font.shift_down font.gap_below bottom.ink_ascent (halved thickness -ℤ font.axis);
+  down = clear_shift_of font.shift_down font.gap_below bottom.ink_ascent (halved thickness
+      -ℤ font.axis);
 }
 
 -- ---- a stack
@@ -25,7 +26,8 @@ rule_shifts_of font top bottom thickness = record {
 -- what the gap between the ink lacks of the least one, at the usual shifts
 unfoldable pub lack_of : StackLengths → MathBox → MathBox → ℤ
 lack_of font top bottom =
-    int_max (font.gap -ℤ ((font.shift_up -ℤ top.ink_descent) +ℤ (font.shift_down -ℤ bottom.ink_ascent))) (pos 0)
+    int_max (font.gap -ℤ ((font.shift_up -ℤ top.ink_descent)
+    +ℤ (font.shift_down -ℤ bottom.ink_ascent))) (pos 0)
 
 -- each part makes up for half of the lack, and the lower one for an odd unit
 unfoldable pub stack_shifts_of : StackLengths → MathBox → MathBox → Shifts

@@ -32,10 +32,13 @@ abbrev pub odd_unit : ℤ → ℤ
 odd_unit n = n -ℤ pos 2 *ℤ halved n
 
 -- there is a rule, and the least gap above it, but for an odd unit, and below it
-pub record KeepsGaps (font : RuleLengths) (top bottom : MathBox) (thickness : ℤ) (fraction : Fraction) : Type 0 where
+pub record KeepsGaps (font : RuleLengths) (top bottom : MathBox) (thickness : ℤ)
+    (fraction : Fraction) : Type 0 where
   pub rule : IsSome fraction.rule
-  pub above : IfSome fraction.rule (λ mark. (font.gap_above -ℤ odd_unit thickness) ≤ℤ (upper_edge mark -ℤ ink_end top fraction))
-  pub below : IfSome fraction.rule (λ mark. font.gap_below ≤ℤ (ink_start bottom fraction -ℤ lower_edge mark))
+  pub above : IfSome fraction.rule (λ mark. (font.gap_above -ℤ odd_unit thickness)
+      ≤ℤ (upper_edge mark -ℤ ink_end top fraction))
+  pub below : IfSome fraction.rule (λ mark. font.gap_below
+      ≤ℤ (ink_start bottom fraction -ℤ lower_edge mark))
 
 -- what is free ahead of a part of a width, and behind it
 abbrev pub ahead : Spot → ℤ

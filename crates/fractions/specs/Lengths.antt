@@ -1,4 +1,5 @@
--- The constants of fractions at a font size: some are one in display style and another in text style.
+-- The constants of fractions at a font size: some are one in display style and another in text
+-- style.
 use Rattle.std.specs.Prelude.{ℕ, ℤ, Bool, if◌then◌else◌}
 use Rattle.fixed_units.specs.Numbers.{IsWithin}
 use Rattle.font_metrics.specs.Metrics.{MetricsValue, constant_of}
@@ -14,17 +15,22 @@ in_style display in_display in_text = if display then in_display else in_text
 unfoldable pub rule_lengths_of : MetricsValue → ℤ → Bool → RuleLengths
 rule_lengths_of m size display = record {
   axis = constant_of m AxisHeight size;
-  shift_up = constant_of m (in_style display FractionNumeratorDisplayStyleShiftUp FractionNumeratorShiftUp) size;
-  gap_above = constant_of m (in_style display FractionNumDisplayStyleGapMin FractionNumeratorGapMin) size;
-  shift_down = constant_of m (in_style display FractionDenominatorDisplayStyleShiftDown FractionDenominatorShiftDown) size;
-  gap_below = constant_of m (in_style display FractionDenomDisplayStyleGapMin FractionDenominatorGapMin) size;
+  shift_up = constant_of m (in_style display FractionNumeratorDisplayStyleShiftUp
+      FractionNumeratorShiftUp) size;
+  gap_above = constant_of m (in_style display FractionNumDisplayStyleGapMin FractionNumeratorGapMin)
+      size;
+  shift_down = constant_of m
+      (in_style display FractionDenominatorDisplayStyleShiftDown FractionDenominatorShiftDown) size;
+  gap_below = constant_of m
+      (in_style display FractionDenomDisplayStyleGapMin FractionDenominatorGapMin) size;
 }
 
 -- a stack
 unfoldable pub stack_lengths_of : MetricsValue → ℤ → Bool → StackLengths
 stack_lengths_of m size display = record {
   shift_up = constant_of m (in_style display StackTopDisplayStyleShiftUp StackTopShiftUp) size;
-  shift_down = constant_of m (in_style display StackBottomDisplayStyleShiftDown StackBottomShiftDown) size;
+  shift_down = constant_of m
+      (in_style display StackBottomDisplayStyleShiftDown StackBottomShiftDown) size;
   gap = constant_of m (in_style display StackDisplayStyleGapMin StackGapMin) size;
 }
 

@@ -75,5 +75,6 @@ abbrev pub fraction_of : MetricsValue → MathBox → MathBox → ℤ → Bool �
 fraction_of m top bottom thickness display size =
     let font = rule_lengths_of m size display in
     if int_lt (pos 0) thickness
-    then with_rule_of (placed_of top bottom (rule_shifts_of font top bottom thickness)) font.axis thickness
+    then with_rule_of (placed_of top bottom (rule_shifts_of font top bottom thickness)) font.axis
+    thickness
     else placed_of top bottom (stack_shifts_of (stack_lengths_of m size display) top bottom)

@@ -11,7 +11,8 @@ ghost use Rattle.fractions.specs.Laws.{KeepsGaps, ink_gap, StandsInTheMiddle};
 /// The ink of a denominator keeps its least gap to the rule, and that of a numerator does but for
 /// the odd unit of an odd thickness.
 pub fn ink_keeps_its_gaps_to_the_rule()
-    ensures { (m : MetricsValue) (top bottom : MathBox) (thickness : ℤ) (display : Bool) (size : ℤ) →
+    ensures { (m : MetricsValue) (top bottom : MathBox) (thickness : ℤ) (display : Bool) (size : ℤ)
+        →
         pos 0 <ℤ thickness →
         KeepsGaps (rule_lengths_of m size display) top bottom thickness
         (fraction_of m top bottom thickness display size) }
@@ -20,9 +21,11 @@ pub fn ink_keeps_its_gaps_to_the_rule()
 /// A stack has no rule, and at least the least gap between the ink of its parts. A thickness below
 /// 0 counts as 0.
 pub fn the_ink_of_a_stack_keeps_the_least_gap()
-    ensures rule { (m : MetricsValue) (top bottom : MathBox) (thickness : ℤ) (display : Bool) (size : ℤ) →
+    ensures rule { (m : MetricsValue) (top bottom : MathBox) (thickness : ℤ) (display : Bool)
+        (size : ℤ) →
         thickness ≤ℤ pos 0 → (fraction_of m top bottom thickness display size).rule ≡ None }
-    ensures gap { (m : MetricsValue) (top bottom : MathBox) (thickness : ℤ) (display : Bool) (size : ℤ) →
+    ensures gap { (m : MetricsValue) (top bottom : MathBox) (thickness : ℤ) (display : Bool)
+        (size : ℤ) →
         thickness ≤ℤ pos 0 →
         (stack_lengths_of m size display).gap
         ≤ℤ ink_gap top bottom (fraction_of m top bottom thickness display size) }
@@ -30,6 +33,7 @@ pub fn the_ink_of_a_stack_keeps_the_least_gap()
 
 /// Both parts stand in the middle, to the unit, and 1 px or more from both ends.
 pub fn parts_stand_in_the_middle()
-    ensures { (m : MetricsValue) (top bottom : MathBox) (thickness : ℤ) (display : Bool) (size : ℤ) →
+    ensures { (m : MetricsValue) (top bottom : MathBox) (thickness : ℤ) (display : Bool) (size : ℤ)
+        →
         StandsInTheMiddle top bottom (fraction_of m top bottom thickness display size) }
 {}

@@ -10,7 +10,8 @@ pieces sums count = sums.fixed_count + count * sums.extender_count
 -- how long they are, where each overlaps the one before it so far
 unfoldable pub length_of : Sums → ℕ → ℕ → ℤ
 length_of sums count overlap =
-    pos (sums.fixed_length + count * sums.extender_length) -ℤ pos (overlap * (pieces sums count - 1))
+    pos (sums.fixed_length + count * sums.extender_length)
+    -ℤ pos (overlap * (pieces sums count - 1))
 
 -- an assembly is valid where it has extenders, and is longer with one more of each
 abbrev pub grows : Sums → Bool
@@ -56,10 +57,11 @@ pub record IsGreatestOverlap (sums : Sums) (target : ℤ) (count widest overlap 
   pub low : sums.overlap ≤ overlap
   pub high : overlap ≤ widest
   pub reaches : target ≤ℤ length_of sums count overlap
-  pub greatest : (other : ℕ) → other ≤ widest → target ≤ℤ length_of sums count other → other ≤ overlap
+  pub greatest : (other : ℕ) → other ≤ widest → target ≤ℤ length_of sums count other
+      → other ≤ overlap
 
--- the first overlap that reaches the target, from the widest one down; the least overlap where there
--- is no joint, or the connectors allow less than it
+-- the first overlap that reaches the target, from the widest one down; the least overlap where
+-- there is no joint, or the connectors allow less than it
 unfoldable pub greatest_overlap : Sums → ℤ → ℕ → Option ℕ → ℕ
 greatest_overlap sums target count None = sums.overlap
 greatest_overlap sums target count (Some widest) =

@@ -31,8 +31,8 @@ glyph_frame metrics glyph size =
 abbrev pub frame_at : MetricsValue → ℕ → ℤ → MathBox
 frame_at metrics place size = glyph_frame metrics (glyph_at metrics place) size
 
--- how far it reaches along an axis: the height of its ink, above and below the baseline each rounded
--- by itself, or its advance
+-- how far it reaches along an axis: the height of its ink, above and below the baseline each
+-- rounded by itself, or its advance
 unfoldable pub glyph_reach : Axis → MetricsValue → Glyph → ℤ → ℤ
 glyph_reach Block metrics glyph size =
     scale_of metrics glyph.ink_ascent size +ℤ scale_of metrics glyph.ink_descent size

@@ -16,7 +16,8 @@ abbrev pub IsShort : MetricsValue → ℤ → ℤ → LargerGlyph → Type 0
 IsShort metrics size target variant = scale_of metrics variant.measure size <ℤ target
 
 -- one of the variants is that glyph and reaches the target, and those before it fall short
-pub record IsFirstReaching (metrics : MetricsValue) (size target : ℤ) (variants : List LargerGlyph) (glyph : GlyphId) : Type 0 where
+pub record IsFirstReaching (metrics : MetricsValue) (size target : ℤ) (variants : List LargerGlyph)
+    (glyph : GlyphId) : Type 0 where
   pub before : List LargerGlyph
   pub variant : LargerGlyph
   pub behind : List LargerGlyph
@@ -26,12 +27,14 @@ pub record IsFirstReaching (metrics : MetricsValue) (size target : ℤ) (variant
   pub short : All (IsShort metrics size target) before
 
 -- neither the glyph itself nor a variant reaches the target
-pub record FallsShort (metrics : MetricsValue) (place : ℕ) (axis : Axis) (target size : ℤ) : Type 0 where
-  pub glyph : reach_at metrics place axis size <ℤ target
-  pub variants : All (IsShort metrics size target) (variants_of metrics place axis)
+pub record FallsShort (metrics : MetricsValue) (place : ℕ) (axis : Axis) (target size : ℤ) : Type 0
+  where
+    pub glyph : reach_at metrics place axis size <ℤ target
+    pub variants : All (IsShort metrics size target) (variants_of metrics place axis)
 
 -- an assembly is made only where nothing else reaches the target, and it does, with the least count
-pub record IsAssembled (metrics : MetricsValue) (place : ℕ) (axis : Axis) (target size count overlap : ℤ) : Type 0 where
+pub record IsAssembled (metrics : MetricsValue) (place : ℕ) (axis : Axis)
+    (target size count overlap : ℤ) : Type 0 where
   pub short : FallsShort metrics place axis target size
   pub times : ℕ
   pub over : ℕ
@@ -41,7 +44,8 @@ pub record IsAssembled (metrics : MetricsValue) (place : ℕ) (axis : Axis) (tar
   pub reaches : target ≤ℤ length_of (sums_of metrics size (parts_of metrics place axis)) times over
 
 -- nothing reaches it, and there is no valid assembly
-pub record NothingReaches (metrics : MetricsValue) (place : ℕ) (axis : Axis) (target size : ℤ) : Type 0 where
+pub record NothingReaches (metrics : MetricsValue) (place : ℕ) (axis : Axis) (target size : ℤ) :
+    Type 0 where
   pub short : FallsShort metrics place axis target size
   pub assembly : IsFalse (grows (sums_of metrics size (parts_of metrics place axis)))
 

@@ -42,8 +42,8 @@ repeats count part = if part.extender then count else 1
 abbrev pub sequence : ℕ → List Part → List Part
 sequence count parts = flat_map (λ part. replicate (repeats count part) part) parts
 
--- how far two neighbours may overlap: no more than the connector at the end of the first and the one
--- at the start of the second
+-- how far two neighbours may overlap: no more than the connector at the end of the first and the
+-- one at the start of the second
 abbrev pub joint : MetricsValue → ℤ → Part → Part → ℕ
 joint metrics size before after =
     min (length_at metrics size before.end) (length_at metrics size after.start)
@@ -73,7 +73,8 @@ largest (number ∷ numbers) = fold int_max number numbers
 abbrev pub measure_at : Measure → MetricsValue → ℤ → ℕ → ℤ
 measure_at Advance metrics size place = scale_of metrics (glyph_at metrics place).advance size
 measure_at InkAscent metrics size place = scale_of metrics (glyph_at metrics place).ink_ascent size
-measure_at InkDescent metrics size place = scale_of metrics (glyph_at metrics place).ink_descent size
+measure_at InkDescent metrics size place = scale_of metrics (glyph_at metrics place).ink_descent
+    size
 
 abbrev pub measure_of : Measure → MetricsValue → ℤ → Part → ℤ
 measure_of measure metrics size part = measure_at measure metrics size part.glyph.0

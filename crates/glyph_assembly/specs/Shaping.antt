@@ -23,7 +23,10 @@ abbrev pub base : MetricsValue → ℕ → ℤ → Shaped
 base metrics place size = record { shape = Base; frame = frame_at metrics place size }
 
 abbrev pub larger : MetricsValue → ℤ → GlyphId → Shaped
-larger metrics size variant = record { shape = Variant variant; frame = frame_at metrics variant.0 size }
+larger metrics size variant = record {
+  shape = Variant variant;
+  frame = frame_at metrics variant.0 size;
+}
 
 abbrev pub reaches : MetricsValue → ℤ → ℤ → LargerGlyph → Bool
 reaches metrics size target variant = int_le target (scale_of metrics variant.measure size)
@@ -36,7 +39,8 @@ first_reaching metrics size target variants =
 -- the last of the variants, or the base glyph without any
 abbrev pub largest_glyph : MetricsValue → ℕ → ℤ → List LargerGlyph → Shaped
 largest_glyph metrics place size variants =
-    option_map_or (λ variant. larger metrics size variant.glyph) (slice_get variants (length variants - 1))
+    option_map_or (λ variant. larger metrics size variant.glyph)
+    (slice_get variants (length variants - 1))
     (base metrics place size)
 
 -- ---- an assembly
@@ -44,7 +48,8 @@ largest_glyph metrics place size variants =
 abbrev pub built : MetricsValue → List Part → Axis → ℤ → ℤ → ℕ → ℕ → Shaped
 built metrics parts axis target size count overlap = record {
   shape = Built (pos count) (pos overlap);
-  frame = built_frame axis metrics parts (length_of (sums_of metrics size parts) count overlap) size;
+  frame = built_frame axis metrics parts (length_of (sums_of metrics size parts) count overlap)
+      size;
 }
 
 -- with the least count and the greatest overlap that reach the target

@@ -58,7 +58,8 @@ unfoldable pub target_of : Pull → Bool → ℤ → Option ℤ → ℤ → Span
 target_of Free symmetric least most axis = (pos 0, pos 0)
 target_of (Block ascent descent) symmetric least most axis =
     bounded (covering (ascent, descent) symmetric axis) least most axis
-target_of (Inline width) symmetric least most axis = (int_max least (width_at_most width most), pos 0)
+target_of (Inline width) symmetric least most axis =
+    (int_max least (width_at_most width most), pos 0)
 
 -- ---- what is asked
 

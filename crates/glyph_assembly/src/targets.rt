@@ -5,9 +5,9 @@ ghost use Rattle.glyph_assembly.specs.Targets.{IsStretch, AreSizes, IsInReach, t
 use fixed_units::{Pull, Ratio, half, round};
 use op_dictionary::Properties;
 
-/// What a stretched operator is to cover, in units of 1/1024 px: an ascent and a descent, or a width
-/// and 0 (MathML Core 3.2.4.3). `least` and `most` are its `minsize` and `maxsize`; a symmetric one
-/// reaches equally far above and below the axis, whose height is `axis_height`.
+/// What a stretched operator is to cover, in units of 1/1024 px: an ascent and a descent, or a
+/// width and 0 (MathML Core 3.2.4.3). `least` and `most` are its `minsize` and `maxsize`; a
+/// symmetric one reaches equally far above and below the axis, whose height is `axis_height`.
 pub fn target(
     pull: Pull,
     properties: &Properties,

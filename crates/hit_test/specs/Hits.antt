@@ -60,4 +60,5 @@ hit_of inside px py items =
 abbrev pub ComesFirst : Inside → List PlacedBox → Type 0
 ComesFirst inside [] = Unit {0}
 ComesFirst inside (box ∷ boxes) =
-    All (λ (later : PlacedBox). inside later.id.0 box.id.0 ≡ false) (box ∷ boxes) × ComesFirst inside boxes
+    All (λ (later : PlacedBox). inside later.id.0 box.id.0 ≡ false) (box ∷ boxes)
+    × ComesFirst inside boxes

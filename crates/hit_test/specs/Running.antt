@@ -33,7 +33,10 @@ pub record Spans {A : Type 0} (test : A → Bool) (items : List A) (most from to
 
 -- with the child at an index, which leads to one of the two or doesn't
 abbrev pub with_kid : Span → ℕ → Bool → Span
-with_kid span index leads = if leads then record { from = min span.from index; to = index + 1 } else span
+with_kid span index leads = if leads then record {
+  from = min span.from index;
+  to = index + 1;
+} else span
 
 -- an element with what is known of it, and its children that lead to the two
 pub record IsSpanned (first second : ℕ) (found : Found) : Type 0 where
@@ -41,11 +44,13 @@ pub record IsSpanned (first second : ℕ) (found : Found) : Type 0 where
   pub few : element_count found.node.now ≤ 65536
   pub within : found.span.to ≤ length (children_of (flow_tree found.node.now))
   pub cut : between (leads first second) (children_of (flow_tree found.node.now))
-      ≡ take (found.span.to - found.span.from) (drop found.span.from (children_of (flow_tree found.node.now)))
+      ≡ take (found.span.to - found.span.from)
+      (drop found.span.from (children_of (flow_tree found.node.now)))
 
 abbrev pub Finds : ℕ → ℕ → Option Node → Option Found → Type 0
 Finds first second low None = low ≡ None
-Finds first second low (Some found) = (low ≡ Some (flow_tree found.node.now)) × IsSpanned first second found
+Finds first second low (Some found) = (low ≡ Some (flow_tree found.node.now))
+    × IsSpanned first second found
 
 -- what an element in flow is or contains of two others
 pub record Sees (first second : ℕ) (root : Node) (sight : Sight) : Type 0 where

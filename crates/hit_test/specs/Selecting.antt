@@ -43,8 +43,8 @@ from_first test (item ∷ items) = if test item then item ∷ items else from_fi
 unfoldable pub between : {A : Type 0} → (A → Bool) → List A → List A
 between test items = reverse (from_first test (reverse (from_first test items)))
 
--- the lowest element itself, where it is one of the two; else its children from the one that leads to
--- one of them to the one that leads to the other
+-- the lowest element itself, where it is one of the two; else its children from the one that leads
+-- to one of them to the one that leads to the other
 abbrev pub marked_below : ℕ → ℕ → Node → List Node
 marked_below first second element =
     if has_id first element || has_id second element then element ∷ []
@@ -52,7 +52,8 @@ marked_below first second element =
 
 unfoldable pub marked_ids : ℕ → ℕ → Node → List ℕ
 marked_ids first second root =
-    option_map_or (λ element. map id_of (marked_below first second element)) (lowest first second root) []
+    option_map_or (λ element. map id_of (marked_below first second element))
+    (lowest first second root) []
 
 -- the first of the two that isn't there
 unfoldable pub missing_id : ℕ → ℕ → Node → Option ℕ

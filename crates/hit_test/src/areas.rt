@@ -64,7 +64,8 @@ fn add_if(areas: &mut List<Area>, placed: &PlacedBox, is_marked: bool) -> Result
 
 /// The ids as a set.
 fn set_of(alloc: Global, ids: &[NodeId]) -> Result<BTreeSet<u32>, Memory>
-    ensures { IfOk result (λ set. (id : ℕ) → contains nat_cmp set id ≡ list_any (nat_eq id) (map (λ i. i.0) ids.now)) }
+    ensures { IfOk result (λ set. (id : ℕ)
+        → contains nat_cmp set id ≡ list_any (nat_eq id) (map (λ i. i.0) ids.now)) }
 {
     let mut set = BTreeSet::new(alloc);
     for id in ids {

@@ -9,9 +9,9 @@ use fixed_units::{List, Memory};
 use math_tree::NodeId;
 use std::alloc::Global;
 
-/// The elements to mark where this one is the lowest over two others: itself, where it is one of them,
-/// else its children in flow from the one that leads to one of them to the one that leads to the
-/// other.
+/// The elements to mark where this one is the lowest over two others: itself, where it is one of
+/// them, else its children in flow from the one that leads to one of them to the one that leads to
+/// the other.
 pub fn chosen(
     alloc: Global,
     found: &Found,

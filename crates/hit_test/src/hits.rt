@@ -5,11 +5,11 @@ ghost use Rattle.hit_test.specs.Running.{or_last};
 use box_writer::{Placed, PlacedBox, PlacedItem};
 use math_tree::NodeId;
 
-/// The element that a point lies in: the last of the deepest ones whose boxes hold it. A box holds its
-/// left and its upper edge, but not the others. It takes no memory.
+/// The element that a point lies in: the last of the deepest ones whose boxes hold it. A box holds
+/// its left and its upper edge, but not the others. It takes no memory.
 ///
-/// Boxes stand in document order, each before those inside its element. So the last one that holds the
-/// point is the last of the deepest.
+/// Boxes stand in document order, each before those inside its element. So the last one that holds
+/// the point is the last of the deepest.
 pub fn hit(placed: &Placed, x: i64, y: i64) -> Option<NodeId>
     ensures last { result ≡ id_of_box (last_of (holding x y placed.now)) }
     ensures deepest { (inside : ℕ → ℕ → Bool) → ComesFirst inside (boxes_of placed.now)

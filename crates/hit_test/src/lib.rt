@@ -5,9 +5,9 @@
 //! from one element to another.
 //!
 //! - Models: hit testing and selection of an editor, which are own.
-//! - Proved: `hit` gives `hit_of` (`specs/Hits.antt`), exactly, and takes no memory; `selection` gives
-//!   `selected_areas` (`specs/Selecting.antt`), exactly, or tells the first id that no element in
-//!   flow has.
+//! - Proved: `hit` gives `hit_of` (`specs/Hits.antt`), exactly, and takes no memory; `selection`
+//!   gives `selected_areas` (`specs/Selecting.antt`), exactly, or tells the first id that no
+//!   element in flow has.
 //! - Knows nothing of: fonts, marks, how a tree is laid out.
 //! - Change what is hit: `specs/Hits.antt`, then `src/hits.rt`. Change what is marked:
 //!   `specs/Selecting.antt`, then `src/chosen.rt`.

@@ -24,8 +24,8 @@ pub enum SelectRefusal {
     Memory,
 }
 
-/// The areas to mark between two elements, in document order. Only elements in flow count. Where the
-/// lowest element that is or contains both is one of them, that is its box; else those of its
+/// The areas to mark between two elements, in document order. Only elements in flow count. Where
+/// the lowest element that is or contains both is one of them, that is its box; else those of its
 /// children from the one that is or contains one of them to the one that is or contains the other.
 /// An element without a box on the page gives nothing.
 pub fn selection(
@@ -36,7 +36,8 @@ pub fn selection(
     second: NodeId,
 ) -> Result<List<Area>, SelectRefusal>
     requires { All IsInReach placed.now }
-    ensures exact { IfOk result (λ areas. areas ≡ selected_areas first.0 second.0 (flow_tree tree.now.root) placed.now) }
+    ensures exact { IfOk result (λ areas. areas
+        ≡ selected_areas first.0 second.0 (flow_tree tree.now.root) placed.now) }
     ensures there { OnOk result (missing_id first.0 second.0 (flow_tree tree.now.root) ≡ None) }
     ensures missing { IfErr result (IsMissing first.0 second.0 (flow_tree tree.now.root)) }
 {

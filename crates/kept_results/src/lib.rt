@@ -12,11 +12,11 @@
 //!
 //! - `facts_are`: it is known what the element is among operators.
 //! - `as_many`: there is one memo for each child.
-//! - `sound`: an entry that is no older one keeps the layout of its element as the tree is now, with
-//!   what was asked for it and answered, of which all is kept (`IsSound`).
+//! - `sound`: an entry that is no older one keeps the layout of its element as the tree is now,
+//!   with what was asked for it and answered, of which all is kept (`IsSound`).
 //! - `apart`: no two of these entries are in one context.
-//! - `stays`: where layout sees the same as before the edit but for one child, a regular older entry
-//!   has what the element asks now, and but for that child what is answered now (`StaysBut`).
+//! - `stays`: where layout sees the same as before the edit but for one child, a regular older
+//!   entry has what the element asks now, and but for that child what is answered now (`StaysBut`).
 //!
 //! An entry is read by `Entry::outcome` and `Entry::answer` alone; what it keeps is `Stores`.
 //!

@@ -12,7 +12,8 @@ no_answer = record { frame = empty_box; before = pos 0; after = pos 0; cells = [
 
 -- the answers to a child, where each question has its answer at the same place
 abbrev pub answers_to : ℕ → List Question → List Answer → List Answer
-answers_to kid asks answers = map (λ asked. asked.1) (filter (λ asked. nat_eq asked.0.kid kid) (zip asks answers))
+answers_to kid asks answers = map (λ asked. asked.1)
+    (filter (λ asked. nat_eq asked.0.kid kid) (zip asks answers))
 
 -- the last of a list, where there is one
 abbrev pub last_some : {A : Type 0} → List A → Option A

@@ -39,10 +39,11 @@ stretch_of (Inline width) = Sideways width
 
 -- whether an attribute is `true`, in any case of ASCII letters
 abbrev pub is_true : List ℕ → List Attribute → Bool
-is_true name attributes = option_map_or (λ value. is_word value (codes "true")) (value_of name attributes) false
+is_true name attributes = option_map_or (λ value. is_word value (codes "true"))
+    (value_of name attributes) false
 
--- the subscripts of a valid `mmultiscripts`, before and behind the base: scripts come in pairs behind
--- the base, and the subscript is the first of each
+-- the subscripts of a valid `mmultiscripts`, before and behind the base: scripts come in pairs
+-- behind the base, and the subscript is the first of each
 abbrev pub is_subscript : Seen → ℕ → Bool
 is_subscript seen index = is_multiscripts seen.facts.laid && nat_eq (index % 2) 1
 
@@ -59,7 +60,8 @@ place_of seen index = record {
 -- the style of the child in flow at a place, below an element of this style
 unfoldable pub kid_style : MetricsValue → Seen → Style → ℕ → Style
 kid_style m seen style index =
-    option_map_or (λ kid. child_style_of m style (place_of seen index) kid.head) (slice_get seen.kids index) style
+    option_map_or (λ kid. child_style_of m style (place_of seen index) kid.head)
+    (slice_get seen.kids index) style
 
 -- ---- the context
 
@@ -74,7 +76,8 @@ kid_context m seen context index stretch = record {
 -- the axis along which a child in flow stretches in its form, where it does
 unfoldable pub kid_axis : MetricsValue → Seen → Form → ℕ → Option Axis
 kid_axis m seen form index =
-    option_and_then (λ kid. stretch_axis kid.facts (form_at seen index form) m.operators) (slice_get seen.kids index)
+    option_and_then (λ kid. stretch_axis kid.facts (form_at seen index form) m.operators)
+    (slice_get seen.kids index)
 
 abbrev pub kid_pull : MetricsValue → Seen → Form → ℕ → KidPull
 kid_pull m seen form index = record { axis = kid_axis m seen form index }

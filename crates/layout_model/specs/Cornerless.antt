@@ -19,19 +19,24 @@ use Rattle.layout_model.specs.declared.outcome.Outcome.{Outcome}
 
 abbrev pub cornerless_sub : Element → Outcome
 cornerless_sub e =
-    let scripted = sub_of e.metrics (frame_at e 0) (has_large_base e) (frame_at e 1) no_corners (font e) in
+    let scripted = sub_of e.metrics (frame_at e 0) (has_large_base e) (frame_at e 1) no_corners
+    (font e) in
     outcome e scripted.frame
-    (placed_in e scripted.frame 0 (pos 0) (pos 0) ∷ placed_in e scripted.frame 1 scripted.sub.x scripted.sub.y ∷ []) []
+    (placed_in e scripted.frame 0 (pos 0) (pos 0)
+    ∷ placed_in e scripted.frame 1 scripted.sub.x scripted.sub.y ∷ []) []
 
 abbrev pub cornerless_sup : Element → Outcome
 cornerless_sup e =
-    let scripted = sup_of e.metrics (frame_at e 0) (has_large_base e) e.context.style.cramped (frame_at e 1) no_corners (font e) in
+    let scripted = sup_of e.metrics (frame_at e 0) (has_large_base e) e.context.style.cramped
+    (frame_at e 1) no_corners (font e) in
     outcome e scripted.frame
-    (placed_in e scripted.frame 0 (pos 0) (pos 0) ∷ placed_in e scripted.frame 1 scripted.sup.x scripted.sup.y ∷ []) []
+    (placed_in e scripted.frame 0 (pos 0) (pos 0)
+    ∷ placed_in e scripted.frame 1 scripted.sup.x scripted.sup.y ∷ []) []
 
 abbrev pub cornerless_sub_sup : Element → Outcome
 cornerless_sub_sup e =
-    let scripted = sub_sup_of e.metrics (frame_at e 0) (has_large_base e) e.context.style.cramped (frame_at e 1) (frame_at e 2)
+    let scripted = sub_sup_of e.metrics (frame_at e 0) (has_large_base e) e.context.style.cramped
+    (frame_at e 1) (frame_at e 2)
     no_corners (font e) in
     outcome e scripted.frame
     (placed_in e scripted.frame 0 (pos 0) (pos 0)
@@ -59,8 +64,8 @@ cornerless m seen context ask =
       kids = last_answers m seen context one (map ask (second m seen context one));
     }
 
--- where no glyph has a kern, each element of each tree is laid out without corners, over the layouts of its
--- children
+-- where no glyph has a kern, each element of each tree is laid out without corners, over the
+-- layouts of its children
 abbrev pub CornerlessLaw : Type 0
 CornerlessLaw = (m : MetricsValue) (node : Node) (context : Context) → HasNoKerns m →
     lay m node context ≡ cornerless m (seen_of node) context (answer_of m node)

@@ -1,5 +1,5 @@
--- The direction of an element: from right to left, what stands in it is mirrored. Glyphs aren't mirrored, nor is
--- the order of the letters of a token.
+-- The direction of an element: from right to left, what stands in it is mirrored. Glyphs aren't
+-- mirrored, nor is the order of the letters of a token.
 use Rattle.std.specs.Prelude.{◌≡◌, ℤ, ◌-ℤ◌, Bool, if◌then◌else◌}
 use Rattle.font_metrics.specs.declared.corner.Corner.{Corner}
 use Rattle.font_metrics.specs.declared.corner.Corner.TheVariants.{TopRight, TopLeft, BottomRight, BottomLeft}
@@ -10,8 +10,8 @@ use Rattle.font_metrics.specs.declared.mark.Mark.TheVariants.{Glyph, Rule, Built
 unfoldable pub mirrored : ℤ → ℤ → ℤ → ℤ
 mirrored whole part x = (whole -ℤ x) -ℤ part
 
--- where a part begins in an element whose direction is from right to left or isn't, where it is laid out from left
--- to right at x
+-- where a part begins in an element whose direction is from right to left or isn't, where it is
+-- laid out from left to right at x
 abbrev pub turned : Bool → ℤ → ℤ → ℤ → ℤ
 turned rtl whole part x = if rtl then mirrored whole part x else x
 

@@ -42,8 +42,8 @@ frames_of e = map (λ answer. answer.frame) e.kids
 
 -- ---- spaces round an operator
 
--- the place of the child that leads to the core of an embellished element: that of the base, or that of
--- the only child that isn't space-like
+-- the place of the child that leads to the core of an embellished element: that of the base, or
+-- that of the only child that isn't space-like
 abbrev pub lead_place : Seen → ℕ
 lead_place seen = if is_led_by_its_base seen.facts.laid then 0 else leading seen.kids
 
@@ -57,9 +57,16 @@ abbrev pub offset : ℕ → ℤ → ℤ → Offset
 offset kid x y = record { kid = kid; x = x; y = y }
 
 -- an element with this box, its children at these places, and these marks
-unfoldable pub outcome_with : Element → MathBox → List ℤ → List CellSpan → List Offset → List Mark → Outcome
+unfoldable pub outcome_with : Element → MathBox → List ℤ → List CellSpan → List Offset → List Mark
+    → Outcome
 outcome_with e frame cells spans offsets marks = record {
-  answer = record { frame = frame; before = (spaces_of e).before; after = (spaces_of e).after; cells = cells; spans = spans };
+  answer = record {
+    frame = frame;
+    before = (spaces_of e).before;
+    after = (spaces_of e).after;
+    cells = cells;
+    spans = spans;
+  };
   offsets = offsets;
   marks = marks;
 }
@@ -69,17 +76,24 @@ outcome e frame offsets marks = outcome_with e frame [] [] offsets marks
 
 -- the child at a place in a box, in the direction of the element
 abbrev pub placed_in : Element → MathBox → ℕ → ℤ → ℤ → Offset
-placed_in e frame kid x y = offset kid (turned e.context.style.rtl frame.width (frame_at e kid).width x) y
+placed_in e frame kid x y = offset kid
+    (turned e.context.style.rtl frame.width (frame_at e kid).width x) y
 
 -- ---- the children in a row
 
 abbrev pub is_embellished_kid : Seen → ℕ → Bool
-is_embellished_kid seen index = option_map_or (λ kid. is_some kid.facts.core) (slice_get seen.kids index) (false)
+is_embellished_kid seen index = option_map_or (λ kid. is_some kid.facts.core)
+    (slice_get seen.kids index) (false)
 
 abbrev pub row_kid : Element → ℕ → RowKid
 row_kid e index =
     let answer = answer_at e index in
-    record { frame = answer.frame; before = answer.before; after = answer.after; embellished = is_embellished_kid e.seen index }
+    record {
+      frame = answer.frame;
+      before = answer.before;
+      after = answer.after;
+      embellished = is_embellished_kid e.seen index;
+    }
 
 abbrev pub row_kids : Element → List RowKid
 row_kids e = list_to (length e.seen.kids) (row_kid e)
@@ -97,7 +111,8 @@ row_in e = row_of (shows_spaces e.seen) (row_kids e)
 
 -- where a child begins in a row, in the direction of the element
 abbrev pub row_x : Element → Row → ℕ → ℤ
-row_x e row kid = turned e.context.style.rtl row.frame.width (frame_at e kid).width (slice_index_or row.offsets kid (pos 0))
+row_x e row kid = turned e.context.style.rtl row.frame.width (frame_at e kid).width
+    (slice_index_or row.offsets kid (pos 0))
 
 abbrev pub along_row : Element → Row → ℤ → ℤ → ℕ → Offset
 along_row e row start y kid = offset kid (start +ℤ row_x e row kid) y

@@ -1,5 +1,5 @@
--- How each kind of element is laid out over the answers of its children: one arm a kind, which names
--- its equation (MathML Core 3).
+-- How each kind of element is laid out over the answers of its children: one arm a kind, which
+-- names its equation (MathML Core 3).
 use Rattle.std.specs.Prelude.{ℕ, ◌+◌, ◌*◌, ◌-◌, ◌/◌, ◌%◌, nat_eq, nat_le, ℤ, pos, ◌-ℤ◌, Bool, true, false, if◌then◌else◌, codes, List, [], ◌∷◌, length, map, Option, Some, None, option_map, slice_get, slice_index_or}
 use Rattle.std.specs.Int.{int_max}
 use Rattle.std.specs.Option.{option_and_then, option_map_or}
@@ -55,7 +55,13 @@ use Rattle.layout_model.specs.declared.outcome.Outcome.{Outcome}
 
 abbrev pub leaf_outcome : Leaf → Outcome
 leaf_outcome leaf = record {
-  answer = record { frame = leaf.frame; before = leaf.before; after = leaf.after; cells = []; spans = [] };
+  answer = record {
+    frame = leaf.frame;
+    before = leaf.before;
+    after = leaf.after;
+    cells = [];
+    spans = [];
+  };
   offsets = [];
   marks = leaf.marks;
 }
@@ -65,7 +71,8 @@ token_outcome e = leaf_outcome (token_of e.metrics e.seen.head (font e))
 
 abbrev pub operator_with : Element → Core → Outcome
 operator_with e core =
-    leaf_outcome (operator_of e.metrics e.seen.head core e.context.style (font e) e.context.form (pull_of e.context.stretch))
+    leaf_outcome (operator_of e.metrics e.seen.head core e.context.style (font e) e.context.form
+    (pull_of e.context.stretch))
 
 -- an operator has a core of its own
 unfoldable pub operator_outcome : Element → Outcome
@@ -86,10 +93,11 @@ abbrev pub padded_outcome : Element → Outcome
 padded_outcome e =
     let attributes = e.seen.head.attributes in
     outcome e (padded_of e.metrics (font e) attributes (row_in e).frame)
-    (along e (row_in e) (padded_start e.metrics (font e) attributes) (pos 0 -ℤ padded_rise e.metrics (font e) attributes)) []
+    (along e (row_in e) (padded_start e.metrics (font e) attributes) (pos 0
+    -ℤ padded_rise e.metrics (font e) attributes)) []
 
--- the surd, which ends where the base begins, and the rule over a base of this width, in the direction of the
--- element
+-- the surd, which ends where the base begins, and the rule over a base of this width, in the
+-- direction of the element
 abbrev pub root_marks : Element → ℤ → Radical → List Mark
 root_marks e base root =
     turned_mark e.context.style.rtl root.frame.width (root.base.x -ℤ x_of root.surd) root.surd
@@ -98,23 +106,27 @@ root_marks e base root =
 abbrev pub root_sign_over : Element → Radical → Outcome
 root_sign_over e root =
     let row = row_in e in
-    outcome e root.frame (along e row (turned e.context.style.rtl root.frame.width row.frame.width root.base.x) root.base.y)
+    outcome e root.frame (along e row
+    (turned e.context.style.rtl root.frame.width row.frame.width root.base.x) root.base.y)
     (root_marks e row.frame.width root)
 
 abbrev pub square_root_outcome : Element → Outcome
-square_root_outcome e = root_sign_over e (square_root_of e.metrics (row_in e).frame e.context.style.display (font e))
+square_root_outcome e = root_sign_over e
+    (square_root_of e.metrics (row_in e).frame e.context.style.display (font e))
 
 abbrev pub cell_outcome : Element → Outcome
-cell_outcome e = outcome e (cell_of e.metrics (row_in e).frame (font e)) (along e (row_in e) (cell_start_of (font e)) (pos 0)) []
+cell_outcome e = outcome e (cell_of e.metrics (row_in e).frame (font e))
+    (along e (row_in e) (cell_start_of (font e)) (pos 0)) []
 
 -- ---- fractions and roots
 
--- the thickness of the rule: that of the attribute, of which a percentage is of the font's own, or else
--- the font's own; it is never negative
+-- the thickness of the rule: that of the attribute, of which a percentage is of the font's own, or
+-- else the font's own; it is never negative
 unfoldable pub thickness_of : Element → ℤ
 thickness_of e =
     let own = constant_of e.metrics FractionRuleThickness (font e) in
-    int_max (pos 0) (option_map_or (λ length. resolved length (font e) (ex_of e.metrics (font e)) own)
+    int_max (pos 0) (option_map_or
+    (λ length. resolved length (font e) (ex_of e.metrics (font e)) own)
     (option_and_then length_of (value_of (codes "linethickness") e.seen.head.attributes)) own)
 
 abbrev pub marks_if : Option Mark → List Mark
@@ -123,39 +135,60 @@ marks_if (Some mark) = mark ∷ []
 
 abbrev pub over_and_under : Element → Fraction → Outcome
 over_and_under e fraction =
-    outcome e fraction.frame (offset 0 fraction.top.x fraction.top.y ∷ offset 1 fraction.bottom.x fraction.bottom.y ∷ []) (marks_if fraction.rule)
+    outcome e fraction.frame (offset 0 fraction.top.x fraction.top.y
+    ∷ offset 1 fraction.bottom.x fraction.bottom.y ∷ []) (marks_if fraction.rule)
 
 abbrev pub fraction_outcome : Element → Outcome
-fraction_outcome e = over_and_under e (fraction_of e.metrics (frame_at e 0) (frame_at e 1) (thickness_of e) e.context.style.display (font e))
+fraction_outcome e = over_and_under e
+    (fraction_of e.metrics (frame_at e 0) (frame_at e 1) (thickness_of e) e.context.style.display
+    (font e))
 
 abbrev pub with_index : Element → Radical → Outcome
 with_index e root =
     outcome e root.frame
-    (placed_in e root.frame 0 root.base.x root.base.y ∷ placed_in e root.frame 1 root.index.x root.index.y ∷ [])
+    (placed_in e root.frame 0 root.base.x root.base.y
+    ∷ placed_in e root.frame 1 root.index.x root.index.y ∷ [])
     (root_marks e (frame_at e 0).width root)
 
 abbrev pub root_outcome : Element → Outcome
-root_outcome e = with_index e (root_with_index_of e.metrics (frame_at e 0) (frame_at e 1) e.context.style.display (font e))
+root_outcome e = with_index e
+    (root_with_index_of e.metrics (frame_at e 0) (frame_at e 1) e.context.style.display (font e))
 
 -- ---- scripts
 
 -- whether the base is a large operator
 abbrev pub has_large_base : Element → Bool
-has_large_base e = option_map_or (λ base. base.largeop) (base_properties e.metrics e.seen e.context) false
+has_large_base e = option_map_or (λ base. base.largeop) (base_properties e.metrics e.seen e.context)
+    false
 
--- the corner of a child in flow that shows one glyph alone, at its own font size, in the direction of the element
+-- the corner of a child in flow that shows one glyph alone, at its own font size, in the direction
+-- of the element
 unfoldable pub corner_at : Element → Corner → ℕ → Option Inked
 corner_at e corner index =
-    option_map (λ glyph. record { glyph = glyph; corner = turned_corner e.context.style.rtl corner; size = size_of e.metrics (kid_style e.metrics e.seen e.context.style index) })
+    option_map (λ glyph. record {
+      glyph = glyph;
+      corner = turned_corner e.context.style.rtl corner;
+      size = size_of e.metrics (kid_style e.metrics e.seen e.context.style index);
+    })
     (option_and_then (λ kid. token_glyph_of e.metrics kid.head) (slice_get e.seen.kids index))
 
--- from left to right a subscript stands at the bottom right of its base, which stands at the top left of it; a
--- superscript at the top right, and its base at the bottom left
+-- from left to right a subscript stands at the bottom right of its base, which stands at the top
+-- left of it; a superscript at the top right, and its base at the bottom left
 abbrev pub sub_corners : Element → KernFrom
-sub_corners e = record { base_sub = corner_at e BottomRight 0; sub = corner_at e TopLeft 1; base_sup = None; sup = None }
+sub_corners e = record {
+  base_sub = corner_at e BottomRight 0;
+  sub = corner_at e TopLeft 1;
+  base_sup = None;
+  sup = None;
+}
 
 abbrev pub sup_corners : Element → KernFrom
-sup_corners e = record { base_sub = None; sub = None; base_sup = corner_at e TopRight 0; sup = corner_at e BottomLeft 1 }
+sup_corners e = record {
+  base_sub = None;
+  sub = None;
+  base_sup = corner_at e TopRight 0;
+  sup = corner_at e BottomLeft 1;
+}
 
 abbrev pub sub_sup_corners : Element → KernFrom
 sub_sup_corners e = record {
@@ -167,19 +200,24 @@ sub_sup_corners e = record {
 
 abbrev pub sub_outcome : Element → Outcome
 sub_outcome e =
-    let scripted = sub_of e.metrics (frame_at e 0) (has_large_base e) (frame_at e 1) (sub_corners e) (font e) in
+    let scripted = sub_of e.metrics (frame_at e 0) (has_large_base e) (frame_at e 1) (sub_corners e)
+    (font e) in
     outcome e scripted.frame
-    (placed_in e scripted.frame 0 (pos 0) (pos 0) ∷ placed_in e scripted.frame 1 scripted.sub.x scripted.sub.y ∷ []) []
+    (placed_in e scripted.frame 0 (pos 0) (pos 0)
+    ∷ placed_in e scripted.frame 1 scripted.sub.x scripted.sub.y ∷ []) []
 
 abbrev pub sup_outcome : Element → Outcome
 sup_outcome e =
-    let scripted = sup_of e.metrics (frame_at e 0) (has_large_base e) e.context.style.cramped (frame_at e 1) (sup_corners e) (font e) in
+    let scripted = sup_of e.metrics (frame_at e 0) (has_large_base e) e.context.style.cramped
+    (frame_at e 1) (sup_corners e) (font e) in
     outcome e scripted.frame
-    (placed_in e scripted.frame 0 (pos 0) (pos 0) ∷ placed_in e scripted.frame 1 scripted.sup.x scripted.sup.y ∷ []) []
+    (placed_in e scripted.frame 0 (pos 0) (pos 0)
+    ∷ placed_in e scripted.frame 1 scripted.sup.x scripted.sup.y ∷ []) []
 
 abbrev pub sub_sup_outcome : Element → Outcome
 sub_sup_outcome e =
-    let scripted = sub_sup_of e.metrics (frame_at e 0) (has_large_base e) e.context.style.cramped (frame_at e 1) (frame_at e 2)
+    let scripted = sub_sup_of e.metrics (frame_at e 0) (has_large_base e) e.context.style.cramped
+    (frame_at e 1) (frame_at e 2)
     (sub_sup_corners e) (font e) in
     outcome e scripted.frame
     (placed_in e scripted.frame 0 (pos 0) (pos 0)
@@ -188,7 +226,8 @@ sub_sup_outcome e =
 
 -- ---- scripts in pairs
 
--- scripts stand behind the base two and two, the subscript first; those from the mark on are prescripts
+-- scripts stand behind the base two and two, the subscript first; those from the mark on are
+-- prescripts
 abbrev pub pair_at : Element → ℕ → Pair
 pair_at e index = record {
   sub = frame_at e (2 * index + 1);
@@ -217,7 +256,8 @@ with_pairs e multi = outcome e multi.frame (list_to (length e.seen.kids) (offset
 
 unfoldable pub multi_outcome : Element → Outcome
 multi_outcome e =
-    with_pairs e (multi_of e.metrics (frame_at e 0) (has_large_base e) e.context.style.cramped (pairs_of e) (font e))
+    with_pairs e (multi_of e.metrics (frame_at e 0) (has_large_base e) e.context.style.cramped
+    (pairs_of e) (font e))
 
 -- ---- limits
 
@@ -234,27 +274,32 @@ limit_case e =
 abbrev pub limits_in : Element → Option MathBox → Option MathBox → Limits
 limits_in e under over =
     let attributes = e.seen.head.attributes in
-    under_over_of e.metrics (frame_at e 0) under over (limit_case e) (is_true (codes "accent") attributes) (is_true (codes "accentunder") attributes) (font e)
+    under_over_of e.metrics (frame_at e 0) under over (limit_case e)
+    (is_true (codes "accent") attributes) (is_true (codes "accentunder") attributes) (font e)
 
 abbrev pub under_outcome : Element → Outcome
 under_outcome e =
     let limits = limits_in e (Some (frame_at e 1)) None in
-    outcome e limits.frame (offset 0 limits.base.x limits.base.y ∷ offset 1 limits.under.x limits.under.y ∷ []) []
+    outcome e limits.frame (offset 0 limits.base.x limits.base.y
+    ∷ offset 1 limits.under.x limits.under.y ∷ []) []
 
 abbrev pub over_outcome : Element → Outcome
 over_outcome e =
     let limits = limits_in e None (Some (frame_at e 1)) in
-    outcome e limits.frame (offset 0 limits.base.x limits.base.y ∷ offset 1 limits.over.x limits.over.y ∷ []) []
+    outcome e limits.frame (offset 0 limits.base.x limits.base.y
+    ∷ offset 1 limits.over.x limits.over.y ∷ []) []
 
 abbrev pub under_over_outcome : Element → Outcome
 under_over_outcome e =
     let limits = limits_in e (Some (frame_at e 1)) (Some (frame_at e 2)) in
     outcome e limits.frame
-    (offset 0 limits.base.x limits.base.y ∷ offset 1 limits.under.x limits.under.y ∷ offset 2 limits.over.x limits.over.y ∷ []) []
+    (offset 0 limits.base.x limits.base.y ∷ offset 1 limits.under.x limits.under.y
+    ∷ offset 2 limits.over.x limits.over.y ∷ []) []
 
 -- limits, or where they are moved beside the base, scripts
 abbrev pub unless_moved : Element → Outcome → Outcome → Outcome
-unless_moved e limits scripts = if has_moved_limits e.metrics e.seen e.context then scripts else limits
+unless_moved e limits scripts = if has_moved_limits e.metrics e.seen e.context then scripts else
+    limits
 
 -- ---- tables
 

@@ -17,9 +17,9 @@ use Rattle.layout_model.specs.declared.context.Stretch.TheVariants.{None as Unst
 use Rattle.layout_model.specs.declared.outcome.Answer.{Answer}
 use Rattle.layout_model.specs.declared.reply.Reply.{Reply}
 
--- what stretches can be stored; of columns, the width of each (the width of all may be too large, and
--- then the row that is asked with it can't be stored); slots reach as far as the widths of all columns
--- of a table may
+-- what stretches can be stored; of columns, the width of each (the width of all may be too large,
+-- and then the row that is asked with it can't be stored); slots reach as far as the widths of all
+-- columns of a table may
 abbrev pub IsStretch : Stretch → Type 0
 IsStretch Unstretched = ⊤
 IsStretch (Block ascent descent) = IsWithin farthest ascent × IsWithin farthest descent
@@ -50,24 +50,28 @@ pub record AreSpans (answer : Answer) : Type 0 where
   pub each : (answer.spans ≡ []) ⊎ (length answer.spans ≡ length answer.cells)
   pub limits : All IsSpan answer.spans
 
--- answers can be stored, and there are no more of them, and of no more cells, than a tree has elements
+-- answers can be stored, and there are no more of them, and of no more cells, than a tree has
+-- elements
 pub record AreAnswers (answers : List Answer) : Type 0 where
   pub fit : AllPass answer_fits answers
   pub count : length answers ≤ 65_536
   pub few : cell_count answers ≤ 65_536
   pub spans : All AreSpans answers
 
--- the answers to exactly what an element asks in both waves, each in a context whose font size is in range
-pub record AnswersAll (m : MetricsValue) (seen : Seen) (context : Context) (one two : List Answer) : Type 0 where
+-- the answers to exactly what an element asks in both waves, each in a context whose font size is
+-- in range
+pub record AnswersAll (m : MetricsValue) (seen : Seen) (context : Context) (one two : List Answer) :
+    Type 0 where
   pub ones : length one ≡ length (first m seen context)
   pub twos : length two ≡ length (second m seen context one)
   pub one_fits : AreAnswers one
   pub two_fits : AreAnswers two
   pub fonts : All (HasFont m) (first m seen context ++ second m seen context one)
 
--- replies to exactly what an element asks in both waves, of which all answers can be stored, each in a
--- context whose font size is in range
-pub record RepliesAll (m : MetricsValue) (seen : Seen) (context : Context) (one two : List Reply) : Type 0 where
+-- replies to exactly what an element asks in both waves, of which all answers can be stored, each
+-- in a context whose font size is in range
+pub record RepliesAll (m : MetricsValue) (seen : Seen) (context : Context) (one two : List Reply) :
+    Type 0 where
   pub one_asked : questions_in one ≡ first m seen context
   pub two_asked : questions_in two ≡ second m seen context (answers_in one)
   pub one_fits : AreAnswers (answers_in one)

@@ -50,19 +50,22 @@ draws_of_font m outcome = list_all (is_of_font m) outcome.marks
 
 -- ---- laws
 
--- where all layouts that are made for an element can be stored, each outcome in its laid-out tree can
+-- where all layouts that are made for an element can be stored, each outcome in its laid-out tree
+-- can
 abbrev pub StoredLaw : Type 0
 StoredLaw = (m : MetricsValue) (node : Node) (context : Context) → in_range m node context ≡ true
     → all_outcomes outcome_fits (laid m node context) ≡ true
 
 -- and each mark in it names a glyph of the font
 abbrev pub DrawnLaw : Type 0
-DrawnLaw = (m : MetricsValue) (node : Node) (context : Context) → IsTaken m → in_range m node context ≡ true
+DrawnLaw = (m : MetricsValue) (node : Node) (context : Context) → IsTaken m
+    → in_range m node context ≡ true
     → all_outcomes (draws_of_font m) (laid m node context) ≡ true
 
 -- an element has no more levels as it is laid out than it has
 abbrev pub LevelsLaw : Type 0
-LevelsLaw = (m : MetricsValue) (node : Node) (context : Context) (most : ℕ) → All (λ e. e.level ≤ most) (listed 1 node)
+LevelsLaw = (m : MetricsValue) (node : Node) (context : Context) (most : ℕ)
+    → All (λ e. e.level ≤ most) (listed 1 node)
     → levels (laid m node context) ≤ most
 
 -- ---- each child in flow
@@ -70,9 +73,11 @@ LevelsLaw = (m : MetricsValue) (node : Node) (context : Context) (most : ℕ) �
 -- an outcome has one offset for each child in flow, in order
 abbrev pub OffsetsLaw : Type 0
 OffsetsLaw = (m : MetricsValue) (node : Node) (context : Context) →
-    map (λ offset. offset.kid) (lay m node context).offsets ≡ list_to (length (flow_nodes node)) (λ place. place)
+    map (λ offset. offset.kid) (lay m node context).offsets
+    ≡ list_to (length (flow_nodes node)) (λ place. place)
 
 -- a laid-out element has its children in flow, in order
 abbrev pub LaidKidsLaw : Type 0
 LaidKidsLaw = (m : MetricsValue) (node : Node) (context : Context) →
-    map (λ kid. (out-Laid kid).head) (out-Laid (laid m node context)).kids ≡ map (λ kid. (out-Node kid).head) (flow_nodes node)
+    map (λ kid. (out-Laid kid).head) (out-Laid (laid m node context)).kids
+    ≡ map (λ kid. (out-Node kid).head) (flow_nodes node)

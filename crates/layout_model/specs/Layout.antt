@@ -33,17 +33,25 @@ use Rattle.layout_model.specs.declared.outcome.Outcome.{Outcome}
 -- ---- one element, over the answers of its children
 
 -- the answer that counts of each child in flow, from those to both waves
-unfoldable pub last_answers : MetricsValue → Seen → Context → List Answer → List Answer → List Answer
+unfoldable pub last_answers : MetricsValue → Seen → Context → List Answer → List Answer
+    → List Answer
 last_answers m seen context one two =
-    list_to (length seen.kids) (last_answer (first m seen context ++ second m seen context one) (one ++ two))
+    list_to (length seen.kids)
+    (last_answer (first m seen context ++ second m seen context one) (one ++ two))
 
 unfoldable pub equation : MetricsValue → Seen → Context → List Answer → List Answer → Outcome
 equation m seen context one two =
-    outcome_of record { metrics = m; seen = seen; context = context; kids = last_answers m seen context one two }
+    outcome_of record {
+      metrics = m;
+      seen = seen;
+      context = context;
+      kids = last_answers m seen context one two;
+    }
 
 -- all that an element asks, where `ask` answers it
 unfoldable pub questions : MetricsValue → Seen → Context → (Question → Answer) → List Question
-questions m seen context ask = first m seen context ++ second m seen context (map ask (first m seen context))
+questions m seen context ask = first m seen context
+    ++ second m seen context (map ask (first m seen context))
 
 -- an element, where `ask` answers its questions
 unfoldable pub lay_by : MetricsValue → Seen → Context → (Question → Answer) → Outcome
@@ -59,8 +67,8 @@ pub record Visit : Type 0 where
   pub context : Context
   pub outcome : Outcome
 
--- what an element of a tree is; in each context how it is laid out, which layouts are made for that, and
--- the same with all elements in flow below it
+-- what an element of a tree is; in each context how it is laid out, which layouts are made for
+-- that, and the same with all elements in flow below it
 pub record Subtree : Type 0 where
   pub head : Head
   pub facts : Facts
@@ -76,19 +84,23 @@ shown_subtree kid = record { head = kid.head; facts = kid.facts }
 
 -- the answer of the child that a question names
 abbrev pub ask : List Subtree → Question → Answer
-ask flow question = option_map_or (λ kid. (kid.lay question.context).answer) (slice_get flow question.kid) no_answer
+ask flow question = option_map_or (λ kid. (kid.lay question.context).answer)
+    (slice_get flow question.kid) no_answer
 
 -- the layouts that are made for it
 abbrev pub visits_for : List Subtree → Question → List Visit
-visits_for flow question = option_map_or (λ kid. kid.visits question.context) (slice_get flow question.kid) []
+visits_for flow question = option_map_or (λ kid. kid.visits question.context)
+    (slice_get flow question.kid) []
 
 -- the context of the last question to a child, where there is one
 abbrev pub last_context : List Question → ℕ → Option Context
-last_context asks kid = last_some (map (λ question. question.context) (filter (λ question. nat_eq question.kid kid) asks))
+last_context asks kid = last_some
+    (map (λ question. question.context) (filter (λ question. nat_eq question.kid kid) asks))
 
 -- the child in flow at a place, as the last question to it has it
 abbrev pub laid_kid : List Subtree → List Question → ℕ → Option Laid
-laid_kid flow asks place = option_and_then (λ kid. option_map kid.laid (last_context asks place)) (slice_get flow place)
+laid_kid flow asks place = option_and_then (λ kid. option_map kid.laid (last_context asks place))
+    (slice_get flow place)
 
 -- what there is of what may be there
 abbrev pub somes : {A : Type 0} → List (Option A) → List A

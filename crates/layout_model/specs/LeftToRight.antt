@@ -59,10 +59,12 @@ abbrev pub forward_padded : Element → Outcome
 forward_padded e =
     let attributes = e.seen.head.attributes in
     outcome e (padded_of e.metrics (font e) attributes (row_in e).frame)
-    (forward e (row_in e) (padded_start e.metrics (font e) attributes) (pos 0 -ℤ padded_rise e.metrics (font e) attributes)) []
+    (forward e (row_in e) (padded_start e.metrics (font e) attributes) (pos 0
+    -ℤ padded_rise e.metrics (font e) attributes)) []
 
 abbrev pub forward_cell : Element → Outcome
-forward_cell e = outcome e (cell_of e.metrics (row_in e).frame (font e)) (forward e (row_in e) (cell_start_of (font e)) (pos 0)) []
+forward_cell e = outcome e (cell_of e.metrics (row_in e).frame (font e))
+    (forward e (row_in e) (cell_start_of (font e)) (pos 0)) []
 
 abbrev pub forward_table_row : Element → Outcome
 forward_table_row e =
@@ -72,36 +74,58 @@ forward_table_row e =
 -- ---- roots
 
 abbrev pub forward_sign_over : Element → Radical → Outcome
-forward_sign_over e root = outcome e root.frame (forward e (row_in e) root.base.x root.base.y) (root.surd ∷ root.rule ∷ [])
+forward_sign_over e root = outcome e root.frame (forward e (row_in e) root.base.x root.base.y)
+    (root.surd ∷ root.rule ∷ [])
 
 abbrev pub forward_square_root : Element → Outcome
-forward_square_root e = forward_sign_over e (square_root_of e.metrics (row_in e).frame e.context.style.display (font e))
+forward_square_root e = forward_sign_over e
+    (square_root_of e.metrics (row_in e).frame e.context.style.display (font e))
 
 abbrev pub forward_with_index : Element → Radical → Outcome
 forward_with_index e root =
-    outcome e root.frame (offset 0 root.base.x root.base.y ∷ offset 1 root.index.x root.index.y ∷ []) (root.surd ∷ root.rule ∷ [])
+    outcome e root.frame (offset 0 root.base.x root.base.y ∷ offset 1 root.index.x root.index.y
+    ∷ []) (root.surd ∷ root.rule ∷ [])
 
 abbrev pub forward_root : Element → Outcome
-forward_root e = forward_with_index e (root_with_index_of e.metrics (frame_at e 0) (frame_at e 1) e.context.style.display (font e))
+forward_root e = forward_with_index e
+    (root_with_index_of e.metrics (frame_at e 0) (frame_at e 1) e.context.style.display (font e))
 
 -- ---- scripts
 
 abbrev pub forward_corner : Element → Corner → ℕ → Option Inked
 forward_corner e corner index =
-    option_map (λ glyph. record { glyph = glyph; corner = corner; size = size_of e.metrics (kid_style e.metrics e.seen e.context.style index) })
+    option_map (λ glyph. record {
+      glyph = glyph;
+      corner = corner;
+      size = size_of e.metrics (kid_style e.metrics e.seen e.context.style index);
+    })
     (option_and_then (λ kid. token_glyph_of e.metrics kid.head) (slice_get e.seen.kids index))
 
 abbrev pub forward_sub : Element → Outcome
 forward_sub e =
-    let from : KernFrom = record { base_sub = forward_corner e BottomRight 0; sub = forward_corner e TopLeft 1; base_sup = None; sup = None } in
-    let scripted = sub_of e.metrics (frame_at e 0) (has_large_base e) (frame_at e 1) from (font e) in
-    outcome e scripted.frame (offset 0 (pos 0) (pos 0) ∷ offset 1 scripted.sub.x scripted.sub.y ∷ []) []
+    let from : KernFrom = record {
+      base_sub = forward_corner e BottomRight 0;
+      sub = forward_corner e TopLeft 1;
+      base_sup = None;
+      sup = None;
+    } in
+    let scripted = sub_of e.metrics (frame_at e 0) (has_large_base e) (frame_at e 1) from (font e)
+    in
+    outcome e scripted.frame (offset 0 (pos 0) (pos 0) ∷ offset 1 scripted.sub.x scripted.sub.y
+    ∷ []) []
 
 abbrev pub forward_sup : Element → Outcome
 forward_sup e =
-    let from : KernFrom = record { base_sub = None; sub = None; base_sup = forward_corner e TopRight 0; sup = forward_corner e BottomLeft 1 } in
-    let scripted = sup_of e.metrics (frame_at e 0) (has_large_base e) e.context.style.cramped (frame_at e 1) from (font e) in
-    outcome e scripted.frame (offset 0 (pos 0) (pos 0) ∷ offset 1 scripted.sup.x scripted.sup.y ∷ []) []
+    let from : KernFrom = record {
+      base_sub = None;
+      sub = None;
+      base_sup = forward_corner e TopRight 0;
+      sup = forward_corner e BottomLeft 1;
+    } in
+    let scripted = sup_of e.metrics (frame_at e 0) (has_large_base e) e.context.style.cramped
+    (frame_at e 1) from (font e) in
+    outcome e scripted.frame (offset 0 (pos 0) (pos 0) ∷ offset 1 scripted.sup.x scripted.sup.y
+    ∷ []) []
 
 abbrev pub forward_sub_sup : Element → Outcome
 forward_sub_sup e =
@@ -111,20 +135,24 @@ forward_sub_sup e =
       base_sup = forward_corner e TopRight 0;
       sup = forward_corner e BottomLeft 2;
     } in
-    let scripted = sub_sup_of e.metrics (frame_at e 0) (has_large_base e) e.context.style.cramped (frame_at e 1) (frame_at e 2)
+    let scripted = sub_sup_of e.metrics (frame_at e 0) (has_large_base e) e.context.style.cramped
+    (frame_at e 1) (frame_at e 2)
     from (font e) in
     outcome e scripted.frame
-    (offset 0 (pos 0) (pos 0) ∷ offset 1 scripted.sub.x scripted.sub.y ∷ offset 2 scripted.sup.x scripted.sup.y ∷ []) []
+    (offset 0 (pos 0) (pos 0) ∷ offset 1 scripted.sub.x scripted.sub.y
+    ∷ offset 2 scripted.sup.x scripted.sup.y ∷ []) []
 
 abbrev pub forward_spot : Multi → ℕ → Offset
 forward_spot multi kid = offset kid (spot_of multi kid).x (spot_of multi kid).y
 
 abbrev pub forward_with_pairs : Element → Multi → Outcome
-forward_with_pairs e multi = outcome e multi.frame (list_to (length e.seen.kids) (forward_spot multi)) []
+forward_with_pairs e multi = outcome e multi.frame
+    (list_to (length e.seen.kids) (forward_spot multi)) []
 
 abbrev pub forward_multi : Element → Outcome
 forward_multi e =
-    forward_with_pairs e (multi_of e.metrics (frame_at e 0) (has_large_base e) e.context.style.cramped (pairs_of e) (font e))
+    forward_with_pairs e (multi_of e.metrics (frame_at e 0) (has_large_base e)
+    e.context.style.cramped (pairs_of e) (font e))
 
 -- ---- one arm a kind
 
@@ -167,12 +195,14 @@ lay_forward m seen context ask =
 
 -- an element whose `dir` isn't from right to left
 abbrev pub IsNotTurned : Head → Type 0
-IsNotTurned head = option_and_then direction_of_word (value_of (codes "dir") head.attributes) ≢ Some true
+IsNotTurned head = option_and_then direction_of_word (value_of (codes "dir") head.attributes)
+    ≢ Some true
 
--- where no element of a tree is from right to left, each layout that is made for that of the tree is one from left
--- to right, over the layouts of the children
+-- where no element of a tree is from right to left, each layout that is made for that of the tree
+-- is one from left to right, over the layouts of the children
 abbrev pub LeftToRightLaw : Type 0
-LeftToRightLaw = (m : MetricsValue) (tree : TreeValue) → All (λ e. IsNotTurned e.head) (listed 1 tree.root) →
+LeftToRightLaw = (m : MetricsValue) (tree : TreeValue)
+    → All (λ e. IsNotTurned e.head) (listed 1 tree.root) →
     (path : List ℕ) (element : Node) (made : Context) →
     IsMade m path tree.root (root_context m (out-Node tree.root).head) element made →
     lay m element made ≡ lay_forward m (seen_of element) made (answer_of m element)

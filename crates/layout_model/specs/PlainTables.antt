@@ -8,8 +8,8 @@ use Rattle.layout_model.specs.declared.outcome.Answer.{Answer}
 abbrev pub TellsNone : Answer → Type 0
 TellsNone row = row.spans ≡ []
 
--- a table of which no row tells what a cell spans is a plain one: its columns, its rows, and what these
--- are asked with
+-- a table of which no row tells what a cell spans is a plain one: its columns, its rows, and what
+-- these are asked with
 abbrev pub PlainTablesLaw : Type 0
 PlainTablesLaw = (rows : List Answer) → All TellsNone rows →
     (table_columns rows ≡ columns_over rows)

@@ -52,13 +52,16 @@ asking_of other = AsRow
 -- the properties of the first child's core in the form in which that child is asked, where it is an
 -- embellished operator
 unfoldable pub base_properties : MetricsValue → Seen → Context → Option Properties
-base_properties m seen context = option_and_then (λ kid. option_map (λ core. properties_at core (form_at seen 0 context.form) m.operators) kid.facts.core) (slice_get seen.kids 0)
+base_properties m seen context = option_and_then
+    (λ kid. option_map (λ core. properties_at core (form_at seen 0 context.form) m.operators)
+    kid.facts.core) (slice_get seen.kids 0)
 
--- limits of a base with `movablelimits` stand beside it as scripts, unless the element is in display
--- style (MathML Core 3.4.2)
+-- limits of a base with `movablelimits` stand beside it as scripts, unless the element is in
+-- display style (MathML Core 3.4.2)
 abbrev pub has_moved_limits : MetricsValue → Seen → Context → Bool
 has_moved_limits m seen context =
-    not context.style.display && option_map_or (λ base. base.movablelimits) (base_properties m seen context) false
+    not context.style.display
+    && option_map_or (λ base. base.movablelimits) (base_properties m seen context) false
 
 abbrev pub asked_as : Asking → Bool → Asking
 asked_as AsLimits true = ForTheBase
@@ -105,7 +108,10 @@ unfoldable pub kid_pulls : MetricsValue → Seen → Context → List KidPull
 kid_pulls m seen context = list_to (length seen.kids) (kid_pull m seen context.form)
 
 abbrev pub asked : MetricsValue → Seen → Context → Ask → Question
-asked m seen context ask = record { kid = ask.kid; context = kid_context m seen context ask.kid (stretch_of ask.pull) }
+asked m seen context ask = record {
+  kid = ask.kid;
+  context = kid_context m seen context ask.kid (stretch_of ask.pull);
+}
 
 abbrev pub asked_all : MetricsValue → Seen → Context → List Ask → List Question
 asked_all m seen context asks = map (asked m seen context) asks
@@ -113,11 +119,15 @@ asked_all m seen context asks = map (asked m seen context) asks
 -- the questions of wave one
 unfoldable pub first : MetricsValue → Seen → Context → List Question
 first m seen context =
-    asked_all m seen context (first_asks (asking m seen context) (kid_pulls m seen context) (pull_of context.stretch))
+    asked_all m seen context (first_asks (asking m seen context) (kid_pulls m seen context)
+    (pull_of context.stretch))
 
 -- a row of a table is asked with its columns or slots, over the answers of all rows
 abbrev pub row_asked : MetricsValue → Seen → Context → List Answer → ℕ → Question
-row_asked m seen context rows index = record { kid = index; context = kid_context m seen context index (stretch_at rows index) }
+row_asked m seen context rows index = record {
+  kid = index;
+  context = kid_context m seen context index (stretch_at rows index);
+}
 
 abbrev pub rows_asked : MetricsValue → Seen → Context → List Answer → List Question
 rows_asked m seen context rows = list_to (length seen.kids) (row_asked m seen context rows)
@@ -125,7 +135,8 @@ rows_asked m seen context rows = list_to (length seen.kids) (row_asked m seen co
 abbrev pub second_as : Asking → MetricsValue → Seen → Context → List Answer → List Question
 second_as AsTable m seen context answers = rows_asked m seen context answers
 second_as asking m seen context answers =
-    asked_all m seen context (second_asks asking (kid_pulls m seen context) (pull_of context.stretch) (map (λ answer. answer.frame) answers))
+    asked_all m seen context (second_asks asking (kid_pulls m seen context)
+    (pull_of context.stretch) (map (λ answer. answer.frame) answers))
 
 -- the questions of wave two, over the answers to those of wave one
 unfoldable pub second : MetricsValue → Seen → Context → List Answer → List Question

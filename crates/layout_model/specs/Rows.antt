@@ -36,14 +36,17 @@ abbrev pub absolute : MetricsValue → ℤ → LengthUnit → LengthText → Opt
 absolute m size Percent length = None
 absolute m size unit length = Some (resolved length size (ex_of m size) (pos 0))
 
--- the length that an attribute gives; percentages count as absent (own choice), as do invalid values
+-- the length that an attribute gives; percentages count as absent (own choice), as do invalid
+-- values
 unfoldable pub length_in : MetricsValue → ℤ → List Attribute → List ℕ → Option ℤ
 length_in m size attributes name =
-    option_and_then (λ length. absolute m size length.unit length) (option_and_then length_of (value_of name attributes))
+    option_and_then (λ length. absolute m size length.unit length)
+    (option_and_then length_of (value_of name attributes))
 
 -- a length that counts as 0 where it is negative, or else a default
 abbrev pub measure : MetricsValue → ℤ → List Attribute → List ℕ → ℤ → ℤ
-measure m size attributes name default = option_map_or (λ length. int_max (pos 0) length) (length_in m size attributes name) default
+measure m size attributes name default = option_map_or (λ length. int_max (pos 0) length)
+    (length_in m size attributes name) default
 
 unfoldable pub padded_width : MetricsValue → ℤ → List Attribute → MathBox → ℤ
 padded_width m size attributes row = measure m size attributes (codes "width") row.width
@@ -59,7 +62,8 @@ unfoldable pub padded_start : MetricsValue → ℤ → List Attribute → ℤ
 padded_start m size attributes = measure m size attributes (codes "lspace") (pos 0)
 
 unfoldable pub padded_rise : MetricsValue → ℤ → List Attribute → ℤ
-padded_rise m size attributes = option_map_or (λ length. length) (length_in m size attributes (codes "voffset")) (pos 0)
+padded_rise m size attributes = option_map_or (λ length. length)
+    (length_in m size attributes (codes "voffset")) (pos 0)
 
 -- ink is that of the row where it stands
 unfoldable pub padded_of : MetricsValue → ℤ → List Attribute → MathBox → MathBox

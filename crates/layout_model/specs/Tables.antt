@@ -41,7 +41,8 @@ single = record { columns = 1; rows = 1; ascent = pos 0; descent = pos 0 }
 -- what the cell at a place of a row spans
 unfoldable pub cell_span : Element → ℕ → CellSpan
 cell_span e index =
-    option_map_or (λ kid. span_over kid.head.attributes (frame_at e index)) (slice_get e.seen.kids index) single
+    option_map_or (λ kid. span_over kid.head.attributes (frame_at e index))
+    (slice_get e.seen.kids index) single
 
 abbrev pub is_spanning : CellSpan → Bool
 is_spanning span = nat_lt 1 span.columns || nat_lt 1 span.rows
@@ -87,7 +88,8 @@ columns_over rows = columns_of (map (λ row. row.cells) rows)
 
 -- those of one in which a cell does
 abbrev pub spanned_columns : List Answer → List ℤ
-spanned_columns rows = let cells = cells_of_rows rows in span_columns_of cells (first_columns_of cells)
+spanned_columns rows = let cells = cells_of_rows rows in span_columns_of cells
+    (first_columns_of cells)
 
 unfoldable pub table_columns : List Answer → List ℤ
 table_columns rows = if has_spans rows then spanned_columns rows else columns_over rows
@@ -103,7 +105,8 @@ columns_at rows index =
     let widths = columns_over rows in
     Columns (table_width_of widths ∷ take (length (cells_at rows index)) widths)
 
--- where a cell of the table spans, the width of the whole table, and the slots of the row's own cells
+-- where a cell of the table spans, the width of the whole table, and the slots of the row's own
+-- cells
 unfoldable pub stretch_at : List Answer → ℕ → Stretch
 stretch_at rows index =
     if has_spans rows then Slots (slots_at (cells_of_rows rows) index) else columns_at rows index
@@ -115,7 +118,8 @@ height_of_row frame = record { ascent = frame.ascent; descent = frame.descent }
 
 -- the heights of rows of which the last one under each cell over several is as deep as that needs
 abbrev pub spanned_heights : List Answer → List RowHeight
-spanned_heights rows = span_heights_of (cells_of_rows rows) (map (λ row. height_of_row row.frame) rows)
+spanned_heights rows = span_heights_of (cells_of_rows rows)
+    (map (λ row. height_of_row row.frame) rows)
 
 abbrev pub with_height : MathBox → RowHeight → MathBox
 with_height frame height = record frame { ascent = height.ascent; descent = height.descent }

@@ -43,8 +43,8 @@ pub record StretchesIn (m : MetricsValue) (own : Facts) (form : Form) (axis : Ax
   pub along : stretch_axis own form m.operators ≡ Some axis
   pub by_attribute : IfSome own.core (λ core. unwrap_or core.form form ≡ form)
 
--- what an element may be asked with: a pull, along the axis along which it stretches; columns or slots,
--- where it is a row of a table
+-- what an element may be asked with: a pull, along the axis along which it stretches; columns or
+-- slots, where it is a row of a table
 abbrev pub MayCarry : MetricsValue → Facts → Form → Stretch → Type 0
 MayCarry m own form Unstretched = ⊤
 MayCarry m own form (Block ascent descent) = StretchesIn m own form Upwards
@@ -75,13 +75,18 @@ abbrev pub AskedLaw : Type 0
 AskedLaw = (m : MetricsValue) (node : Node) (context : Context) (one : List Answer) (kid : ℕ) →
     kid < length (seen_of node).kids → 1 ≤ times_asked kid (both_waves m (seen_of node) context one)
 
--- a question to a child has its place's style and form; of two to one child, both have a stretch or none
--- does, and then they are the same, but for the rows of a table
-pub record AsksAlike (m : MetricsValue) (seen : Seen) (context : Context) (one : List Answer) : Type 0 where
-  pub place : All (λ question. question.context ≡ kid_context m seen context question.kid question.context.stretch) (both_waves m seen context one)
-  pub alike : (q r : Question) → Contains (both_waves m seen context one) q → Contains (both_waves m seen context one) r →
+-- a question to a child has its place's style and form; of two to one child, both have a stretch or
+-- none does, and then they are the same, but for the rows of a table
+pub record AsksAlike (m : MetricsValue) (seen : Seen) (context : Context) (one : List Answer) : Type
+    0 where
+  pub place : All (λ question. question.context
+      ≡ kid_context m seen context question.kid question.context.stretch)
+      (both_waves m seen context one)
+  pub alike : (q r : Question) → Contains (both_waves m seen context one) q
+      → Contains (both_waves m seen context one) r →
       q.kid ≡ r.kid → is_stretched q.context.stretch ≡ is_stretched r.context.stretch
-  pub alone : (q r : Question) → Contains (both_waves m seen context one) q → Contains (both_waves m seen context one) r →
+  pub alone : (q r : Question) → Contains (both_waves m seen context one) q
+      → Contains (both_waves m seen context one) r →
       q.kid ≡ r.kid → is_stretched q.context.stretch ≡ false → q ≡ r
 
 abbrev pub AlikeLaw : Type 0
@@ -109,4 +114,5 @@ MayAsk m seen question =
 -- who may be asked something asks its children what they may be asked
 abbrev pub HandedLaw : Type 0
 HandedLaw = (m : MetricsValue) (node : Node) (context : Context) (one : List Answer) →
-    MayBeAsked m node context → All (MayAsk m (seen_of node)) (both_waves m (seen_of node) context one)
+    MayBeAsked m node context
+    → All (MayAsk m (seen_of node)) (both_waves m (seen_of node) context one)

@@ -22,8 +22,8 @@ pub enum Stretch {
     /// A row of a table to the columns of the table: the width of the whole table, and then that of
     /// the column of each of its cells.
     Columns(List<i64>),
-    /// The same of a table in which a cell spans: the width of the whole table, and then of each cell of
-    /// the row where its slot begins and how wide that is.
+    /// The same of a table in which a cell spans: the width of the whole table, and then of each
+    /// cell of the row where its slot begins and how wide that is.
     Slots(List<i64>),
 }
 

@@ -28,8 +28,8 @@ pub fn where_no_cell_spans_a_table_is_plain()
     ensures { PlainTablesLaw }
 {}
 
-/// Where no glyph has a kern, scripts are laid out without corners: every tree has the boxes that it had
-/// before files had kerns.
+/// Where no glyph has a kern, scripts are laid out without corners: every tree has the boxes that
+/// it had before files had kerns.
 pub fn without_kerns_no_tree_has_corners()
     ensures { CornerlessLaw }
 {}
@@ -50,8 +50,8 @@ pub fn what_is_asked_is_made()
     ensures { VisitsLaw }
 {}
 
-/// A tree that is laid out has, below each element, its children in flow, each in the context of the
-/// last question to it.
+/// A tree that is laid out has, below each element, its children in flow, each in the context of
+/// the last question to it.
 pub fn children_are_laid_out_as_asked_last()
     ensures { LaidLaw }
 {}
@@ -61,8 +61,8 @@ pub fn each_wave_asks_a_child_at_most_once()
     ensures { EachWaveLaw }
 {}
 
-/// An element that is asked with a stretch asks each of its children just once in both waves, and so
-/// does a row of a table.
+/// An element that is asked with a stretch asks each of its children just once in both waves, and
+/// so does a row of a table.
 pub fn who_is_stretched_asks_each_child_once()
     ensures { OnceLaw }
 {}
@@ -73,8 +73,8 @@ pub fn each_child_in_flow_is_asked()
 {}
 
 /// A question to a child has the style and the form of the child's place. All that one element asks
-/// one child have a stretch or none has, and without one they are the same question; but for the rows
-/// of a table.
+/// one child have a stretch or none has, and without one they are the same question; but for the
+/// rows of a table.
 pub fn a_child_is_asked_alike()
     ensures { AlikeLaw }
 {}
@@ -107,8 +107,8 @@ pub fn no_element_is_laid_out_in_three_contexts()
     ensures { TwoContextsLaw }
 {}
 
-/// Where all layouts that are made for an element can be stored, so can each outcome in its laid-out
-/// tree.
+/// Where all layouts that are made for an element can be stored, so can each outcome in its
+/// laid-out tree.
 pub fn what_is_laid_out_can_be_stored()
     ensures { StoredLaw }
 {}

@@ -30,7 +30,13 @@ impl Answer {
 
     /// That of a box, with no space round it, and no cells. It takes no memory.
     pub fn of_box(alloc: Global, frame: MathBox) -> Answer
-        ensures { result ≡ record { frame = frame; before = pos 0; after = pos 0; cells = []; spans = [] } }
+        ensures { result ≡ record {
+          frame = frame;
+          before = pos 0;
+          after = pos 0;
+          cells = [];
+          spans = [];
+        } }
     {
         Answer {
             frame,

@@ -1,5 +1,5 @@
-//! A box taken apart to its raw pointer, and made a box again, over any type. What C holds of a value
-//! between two calls is such a pointer.
+//! A box taken apart to its raw pointer, and made a box again, over any type. What C holds of a
+//! value between two calls is such a pointer.
 //!
 //! - Models: `Box::into_raw` and `Box::from_raw` of std.
 //! - Proved: a box that is made again has the value that it had. Both proofs are by hand.

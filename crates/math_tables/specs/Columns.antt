@@ -30,5 +30,6 @@ widened (width ∷ widths) (cell ∷ cells) = int_max width cell ∷ widened wid
 -- the column at a place widened to a cell, or one more behind the last
 abbrev pub widened_at : List ℤ → ℕ → ℤ → List ℤ
 widened_at widths place cell =
-    if nat_lt place (length widths) then slice_set widths place (int_max (slice_index_or widths place (pos 0)) cell)
+    if nat_lt place (length widths) then slice_set widths place
+    (int_max (slice_index_or widths place (pos 0)) cell)
     else widths ++ cell ∷ []

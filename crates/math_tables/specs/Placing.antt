@@ -54,8 +54,8 @@ row_of_slots_of cells slots total = record {
 
 -- ---- down a table
 
--- how far a row may reach up and down: cells over several rows may make the last of them deeper than
--- any box that can be stored
+-- how far a row may reach up and down: cells over several rows may make the last of them deeper
+-- than any box that can be stored
 pub record HasHeights (row : MathBox) : Type 0 where
   pub ascent : IsWithin (2 ^ 44) row.ascent
   pub descent : IsWithin (2 ^ 44) row.descent

@@ -21,9 +21,10 @@ pub fn cells_stand_in_their_columns()
         StandInColumns cells widths (row_of_cells_of cells widths total) }
 {}
 
-/// The rows of a table stand one under the other, its middle lies on the axis, and it is as wide as its
-/// columns together.
+/// The rows of a table stand one under the other, its middle lies on the axis, and it is as wide as
+/// its columns together.
 pub fn rows_stand_one_under_the_other()
     ensures { (m : MetricsValue) (rows : List MathBox) (widths : List ℤ) (size : ℤ) →
-        StandInLines m rows widths size (table_frame_of m rows widths size) (row_offsets_of m rows size) }
+        StandInLines m rows widths size (table_frame_of m rows widths size)
+        (row_offsets_of m rows size) }
 {}

@@ -35,8 +35,8 @@ pub fn row_of_cells(
     })
 }
 
-/// Sets the cells of a row in the middle of their slots. Of each slot `slots` has where it begins, and
-/// then how wide it is. `total` is the width of the table.
+/// Sets the cells of a row in the middle of their slots. Of each slot `slots` has where it begins,
+/// and then how wide it is. `total` is the width of the table.
 pub fn row_of_slots(
     alloc: Global,
     cells: &List<MathBox>,
@@ -130,8 +130,8 @@ fn width_at(widths: &[i64], place: usize) -> i64
     }
 }
 
-/// Sets the rows of a table one under the other, so that its middle lies on the axis. The second part
-/// of the answer is, for each row, how far its baseline lies below that of the table.
+/// Sets the rows of a table one under the other, so that its middle lies on the axis. The second
+/// part of the answer is, for each row, how far its baseline lies below that of the table.
 pub fn table_finish(
     alloc: Global,
     rows: &List<MathBox>,
@@ -145,7 +145,8 @@ pub fn table_finish(
     requires widths_within { All IsColumn widths.now }
     requires size_low { pos 0 ≤ℤ size }
     requires size_high { size ≤ℤ pos (2 ^ 20) }
-    ensures frame { IfOk result (λ table. table.0 ≡ table_frame_of metrics.now rows.now widths.now size) }
+    ensures frame { IfOk result (λ table. table.0
+        ≡ table_frame_of metrics.now rows.now widths.now size) }
     ensures offsets { IfOk result (λ table. table.1 ≡ row_offsets_of metrics.now rows.now size) }
 {
     let height = total_height(rows.as_slice());

@@ -4,8 +4,8 @@ ghost use Rattle.math_tables.specs.Columns.{widened, widened_at, columns_of};
 use fixed_units::{List, Memory};
 use std::alloc::Global;
 
-/// The widths of a table's columns, from the widths of the cells of each row: a column is as wide as
-/// its widest cell, and there are as many as the longest row has cells.
+/// The widths of a table's columns, from the widths of the cells of each row: a column is as wide
+/// as its widest cell, and there are as many as the longest row has cells.
 pub fn columns(alloc: Global, rows: &List<List<i64>>) -> Result<List<i64>, Memory>
     ensures { IfOk result (λ widths. widths ≡ columns_of rows.now) }
 {

@@ -48,7 +48,8 @@ kind_of name = option_map_or (λ row. row.1) (find (λ row. bytes_eq row.0 name)
 
 -- the same in any rows, as a program lists them
 unfoldable pub kind_among : List (Bor (List ℕ) × Kind) → List ℕ → Kind
-kind_among rows name = option_map_or (λ row. row.1) (find (λ row. bytes_eq row.0.now name) rows) Unknown
+kind_among rows name = option_map_or (λ row. row.1) (find (λ row. bytes_eq row.0.now name) rows)
+    Unknown
 
 -- the elements that have a text and no children; all others may have children and no text
 abbrev pub is_text_kind : Kind → Bool

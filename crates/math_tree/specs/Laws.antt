@@ -16,7 +16,8 @@ use Rattle.math_tree.specs.declared.node.Node.TheViews.{out-Node}
 -- one more, and the bytes are those of all elements up to it
 abbrev pub HasFault : List Element → ℕ → Option ElementFault → Type 0
 HasFault list index fault = (element : Element) × (slice_get list index ≡ Some element)
-    × (fault_of Whole (index + 1) (sum_by (λ e. bytes_held e.value) (take (index + 1) list)) element ≡ fault)
+    × (fault_of Whole (index + 1) (sum_by (λ e. bytes_held e.value) (take (index + 1) list)) element
+    ≡ fault)
 
 -- it is that of an element before which no element has one
 pub record IsFirstFault (list : List Element) (found : TreeFault) : Type 0 where
@@ -28,7 +29,8 @@ pub record IsFirstFault (list : List Element) (found : TreeFault) : Type 0 where
 
 -- the fault of a value is the first of its elements
 abbrev pub FirstFaultLaw : Type 0
-FirstFaultLaw = (value : Data) (found : TreeFault) → tree_of value ≡ Err found → IsFirstFault (elements 1 value) found
+FirstFaultLaw = (value : Data) (found : TreeFault) → tree_of value ≡ Err found
+    → IsFirstFault (elements 1 value) found
 
 -- an element of a value, under an id, as its tree lists it
 abbrev pub entry : ℕ → Element → Listed
@@ -56,7 +58,8 @@ TreeLaw = (value : Data) (tree : TreeValue) → tree_of value ≡ Ok tree → Is
 -- fewer children than elements, and each child has fewer elements than it
 pub record IsCounted (node : Node) : Type 0 where
   pub elements : element_count node ≡ 1 + sum_by element_count (out-Node node).children
-  pub bytes : byte_count node ≡ bytes_of_head (out-Node node).head + sum_by byte_count (out-Node node).children
+  pub bytes : byte_count node
+      ≡ bytes_of_head (out-Node node).head + sum_by byte_count (out-Node node).children
   pub few : length (out-Node node).children < element_count node
   pub below : (index : ℕ) (child : Node) → slice_get (out-Node node).children index ≡ Some child
       → element_count child < element_count node

@@ -31,7 +31,8 @@ nodes_of id values = nodes_from id (map (over planted) values)
 
 -- a part's elements have no fault, it is what they mean from the next id on, and they are seen too;
 -- or the first of their faults
-abbrev pub ReadsPart : {A : Type 0} → Portion → List Element → (ℕ → A) → Seen → Seen → Result A TreeRefusal
+abbrev pub ReadsPart : {A : Type 0} → Portion → List Element → (ℕ → A) → Seen → Seen
+    → Result A TreeRefusal
     → Type 0
 ReadsPart portion elements meant before after (Ok read) =
     (fault_behind portion before elements ≡ None)
@@ -45,7 +46,8 @@ ReadsPart portion elements meant before after (Err Memory) = Unit {0}
 abbrev pub ReadsElement : Portion → ℕ → Data → Seen → Seen → Result Node TreeRefusal → Type 0
 ReadsElement portion level value = ReadsPart portion (elements level value) (λ id. node_of id value)
 
-abbrev pub ReadsElements : Portion → ℕ → List Data → Seen → Seen → Result (List Node) TreeRefusal → Type 0
+abbrev pub ReadsElements : Portion → ℕ → List Data → Seen → Seen → Result (List Node) TreeRefusal
+    → Type 0
 ReadsElements portion level values =
     ReadsPart portion (flat_map (elements level) values) (λ id. nodes_of id values)
 

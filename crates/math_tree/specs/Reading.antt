@@ -45,7 +45,10 @@ node_of id value = (over planted value).node id
 
 abbrev pub tree_without : Option TreeFault → Data → Result TreeValue TreeFault
 tree_without (Some fault) value = Err fault
-tree_without None value = Ok record { root = node_of 1 value; next_id = 1 + length (elements 1 value) }
+tree_without None value = Ok record {
+  root = node_of 1 value;
+  next_id = 1 + length (elements 1 value);
+}
 
 -- the first fault of a value's elements in document order, or else the tree of them all
 unfoldable pub tree_of : Data → Result TreeValue TreeFault

@@ -149,7 +149,8 @@ impl Attributes {
     /// Where the attribute of that name is, or where it would go.
     fn search(&self, name: &str) -> Result<usize, usize>
         ensures range { IsSearchInRange result (length self.now) }
-        ensures ends { IsBinarySearchResult (λ a. slice_cmp nat_cmp a.name name.now) self.now result }
+        ensures ends { IsBinarySearchResult (λ a. slice_cmp nat_cmp a.name name.now) self.now
+            result }
         ensures order { IsInOrder self.now }
     {
         let items = self.items.as_slice();
@@ -176,8 +177,8 @@ impl Attributes {
     }
 }
 
-/// So many attributes are looked at one by one, which is faster than in halves: most names differ in
-/// length already.
+/// So many attributes are looked at one by one, which is faster than in halves: most names differ
+/// in length already.
 const FEW: usize = 8;
 
 /// The value of the first of these attributes that has the name.

@@ -142,7 +142,8 @@ fn attribute_bytes(keys: &Keys) -> u64
 /// The bytes of the names and values of these members, likewise.
 fn member_bytes(members: &Map<String, Value>) -> u64
     ensures { result
-        ≡ min (bytes_of_attributes (attributes_of (members_view members.now.entries))) (2 ^ 64 - 1) }
+        ≡ min (bytes_of_attributes (attributes_of (members_view members.now.entries)))
+        (2 ^ 64 - 1) }
 {
     let mut bytes: u64 = 0;
     for (name, value) in members.iter() {

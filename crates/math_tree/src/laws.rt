@@ -1,4 +1,5 @@
-//! Laws of the definitions. Each is a contract, so that it is proved; the functions compute nothing.
+//! Laws of the definitions. Each is a contract, so that it is proved; the functions compute
+//! nothing.
 ghost use Rattle.math_tree.specs.Laws.{FirstFaultLaw, TreeLaw, CountLaw};
 ghost use Rattle.math_tree.specs.Print.{PrintReadsBack};
 

@@ -2,9 +2,9 @@
 //!
 //! `read_tree` takes what `serde_json` made of a text and gives the tree: elements with an id, a
 //! name, a kind, attributes and a text each, and the id that the next new element gets. Or it
-//! answers the first faulty element, and its fault. `read_part` reads an element that is to stand in
-//! a tree by the same rules. A tree is copied, and `exchange` puts another root into it, by which a
-//! crate above edits it in place; attributes are put in and taken out without memory.
+//! answers the first faulty element, and its fault. `read_part` reads an element that is to stand
+//! in a tree by the same rules. A tree is copied, and `exchange` puts another root into it, by
+//! which a crate above edits it in place; attributes are put in and taken out without memory.
 //!
 //! - Models: the elements of MathML Core 2 and 3; their JSON form is this project's own.
 //! - Proved: the answer is `tree_of` of the value (`specs/Reading.antt`), which goes by a list of
@@ -12,7 +12,8 @@
 //!   the tree are those of this list, one by one (`specs/Laws.antt`); every `Tree` is whole,
 //!   `IsWhole` (`specs/Trees.antt`), also after an `exchange`; an attribute is `put` in, or the
 //!   rest is `without` it (`specs/Attributes.antt`); a copy is equal; `print` is the text of
-//!   `value_of` (`specs/Print.antt`), and reading it gives the same tree with its ids numbered anew.
+//!   `value_of` (`specs/Print.antt`), and reading it gives the same tree with its ids numbered
+//!   anew.
 //! - Knows nothing of: bytes and files, fonts, styles, layout.
 //! - Change what is a tree: `specs/Elements.antt` for a key, `specs/Faults.antt` for a fault, then
 //!   the file of the same matter in `src/`, then `rt check`.

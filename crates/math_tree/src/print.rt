@@ -13,8 +13,8 @@ use serde_json::{Map, Value};
 use std::alloc::Global;
 
 impl Tree {
-    /// The canonical print: the compact JSON text of the tree, without its ids. JSON reads it as the
-    /// value of the tree, and that stands for the same tree, with its ids numbered anew.
+    /// The canonical print: the compact JSON text of the tree, without its ids. JSON reads it as
+    /// the value of the tree, and that stands for the same tree, with its ids numbered anew.
     pub fn print(&self, alloc: Global) -> Result<List<u8>, Memory>
         ensures print { IfOk result (λ text. text ≡ print_of self.now) }
         ensures reads_back { IfOk result

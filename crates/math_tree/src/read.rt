@@ -32,8 +32,8 @@ pub fn read_tree(alloc: Global, value: &Value) -> Result<Tree, TreeRefusal>
 }
 
 /// Reads an element with all below it that is to stand in a tree, as a line of a script has it. The
-/// rules are those of a tree, but that it needn't be `math`; levels, places and ids are counted from
-/// 1 as there, and it gets its own when it is put into a tree.
+/// rules are those of a tree, but that it needn't be `math`; levels, places and ids are counted
+/// from 1 as there, and it gets its own when it is put into a tree.
 pub fn read_part(alloc: Global, value: &Value) -> Result<Node, TreeRefusal>
     ensures reads { Reads (part_of (view value.now)) result }
     ensures sound { IfOk result IsPart }

@@ -82,7 +82,8 @@ fn exit_code<I: Inputs, O: Sink, L: Ledger>(
         (I.told inputs.old) (I.told inputs.new)
         (O.told out.old) (O.told out.new) result) }
     ensures no_memory { IfErr words.entry (λ kind. kind ≡ ErrorKind.OutOfMemory →
-        (exit_status result ≡ number_of Status.Memory) × (inputs.new ≡ inputs.old) × (out.new ≡ out.old)) }
+        (exit_status result ≡ number_of Status.Memory) × (inputs.new ≡ inputs.old)
+        × (out.new ≡ out.old)) }
 {
     match words {
         Ok(words) => run(alloc, words, inputs, out, steps).exit_code(),

@@ -150,7 +150,8 @@ impl MemoTree {
         ensures stays { OnOk result (EntriesStay self.old edit self.new) }
         ensures counted { OnOk result (MissingIsCounted self.old edit self.new) }
         ensures reversal { IfOk result (λ reversal. Reverses reversal self.new self.old) }
-        ensures back { IfOk result (λ reversal. edit_of reversal.taken ≡ inverse self.old.tree edit) }
+        ensures back { IfOk result (λ reversal. edit_of reversal.taken
+            ≡ inverse self.old.tree edit) }
         ensures refused { IfErr result (IsReason self.old.tree edit) }
         ensures unchanged { OnErr result (self.new ≡ self.old) }
     {

@@ -28,7 +28,8 @@ all_shifts_of m size cramped base pairs = largest_of (map (alone_of m size cramp
 -- the boxes of all scripts there
 abbrev pub moved : Shifts → List Pair → List MathBox
 moved shifts [] = []
-moved shifts (pair ∷ pairs) = below pair.sub shifts.down ∷ raised pair.sup shifts.up ∷ moved shifts pairs
+moved shifts (pair ∷ pairs) = below pair.sub shifts.down ∷ raised pair.sup shifts.up
+    ∷ moved shifts pairs
 
 abbrev pub union_of : MathBox → Shifts → List Pair → MathBox
 union_of base shifts pairs = all_joined (base ∷ moved shifts pairs)

@@ -8,7 +8,8 @@ use Rattle.scripts.specs.declared.parts.Scripted.{Scripted}
 use Rattle.scripts.specs.declared.parts.Spot.{Spot}
 
 -- the scripts of the pair at a place stand there
-pub record StandAt (pairs : List Pair) (multi : Multi) (place : ℕ) (pair : Pair) (sub sup : Spot) : Type 0 where
+pub record StandAt (pairs : List Pair) (multi : Multi) (place : ℕ) (pair : Pair) (sub sup : Spot) :
+    Type 0 where
   pub pair_is : slice_get pairs place ≡ Some pair
   pub sub_is : slice_get multi.subs place ≡ Some sub
   pub sup_is : slice_get multi.sups place ≡ Some sup
@@ -22,7 +23,8 @@ ink_gap pair sub sup = (sub.y -ℤ pair.sub.ink_ascent) -ℤ (sup.y +ℤ pair.su
 -- in each pair at least that
 abbrev pub AllKeepGap : ℤ → List Pair → Multi → Type 0
 AllKeepGap gap pairs multi =
-    (place : ℕ) (pair : Pair) (sub sup : Spot) → StandAt pairs multi place pair sub sup → gap ≤ℤ ink_gap pair sub sup
+    (place : ℕ) (pair : Pair) (sub sup : Spot) → StandAt pairs multi place pair sub sup
+    → gap ≤ℤ ink_gap pair sub sup
 
 -- ---- along the line
 
@@ -33,23 +35,27 @@ end_of place script = place.x +ℤ script.width
 -- the two prescripts of each pair end together
 abbrev pub PrescriptsEndTogether : List Pair → Multi → Type 0
 PrescriptsEndTogether pairs multi =
-    (place : ℕ) (pair : Pair) (sub sup : Spot) → StandAt pairs multi place pair sub sup → pair.before ≡ true
+    (place : ℕ) (pair : Pair) (sub sup : Spot) → StandAt pairs multi place pair sub sup
+    → pair.before ≡ true
     → end_of sub pair.sub ≡ end_of sup pair.sup
 
 -- all pairs ahead of a place are prescripts
 abbrev pub AllBefore : List Pair → ℕ → Type 0
-AllBefore pairs place = (earlier : ℕ) (other : Pair) → earlier < place → slice_get pairs earlier ≡ Some other → other.before ≡ true
+AllBefore pairs place = (earlier : ℕ) (other : Pair) → earlier < place
+    → slice_get pairs earlier ≡ Some other → other.before ≡ true
 
 -- the scripts of the first pair behind the base stand apart by its italic correction
 abbrev pub FirstPairLeans : MathBox → List Pair → Multi → Type 0
 FirstPairLeans base pairs multi =
-    (place : ℕ) (pair : Pair) (sub sup : Spot) → StandAt pairs multi place pair sub sup → pair.before ≡ false
+    (place : ℕ) (pair : Pair) (sub sup : Spot) → StandAt pairs multi place pair sub sup
+    → pair.before ≡ false
     → AllBefore pairs place → sup.x ≡ sub.x +ℤ base.italic
 
 -- those of each later one begin together
 abbrev pub LaterPairsDont : List Pair → Multi → Type 0
 LaterPairsDont pairs multi =
-    (place earlier : ℕ) (pair other : Pair) (sub sup : Spot) → StandAt pairs multi place pair sub sup → pair.before ≡ false
+    (place earlier : ℕ) (pair other : Pair) (sub sup : Spot)
+    → StandAt pairs multi place pair sub sup → pair.before ≡ false
     → earlier < place → slice_get pairs earlier ≡ Some other → other.before ≡ false → sup.x ≡ sub.x
 
 -- ---- one pair

@@ -1,5 +1,5 @@
--- The box of a base with pairs of scripts, and the places of all. Places count x from the box's start
--- and y downward from its baseline.
+-- The box of a base with pairs of scripts, and the places of all. Places count x from the box's
+-- start and y downward from its baseline.
 use Rattle.std.specs.Prelude.{ℤ, pos, ◌+ℤ◌, Bool, List, length}
 use Rattle.fixed_units.specs.Numbers.{halved}
 use Rattle.fixed_units.specs.declared.boxes.MathBox.{MathBox}
@@ -19,7 +19,11 @@ placed_of space base large pairs shifts =
     let end = line.ahead +ℤ base.width in
     let width = end +ℤ line.behind in
     record {
-      frame = record (union_of base shifts pairs) { width = width; italic = pos 0; accent = halved width };
+      frame = record (union_of base shifts pairs) {
+        width = width;
+        italic = pos 0;
+        accent = halved width;
+      };
       base = spot line.ahead (pos 0);
       subs = sub_spots_of space end base large pairs shifts.down (length pairs);
       sups = sup_spots_of space end base large pairs shifts.up (length pairs);
@@ -27,4 +31,5 @@ placed_of space base large pairs shifts =
 
 abbrev pub multi_of : MetricsValue → MathBox → Bool → Bool → List Pair → ℤ → Multi
 multi_of m base large cramped pairs size =
-    placed_of (constant_of m SpaceAfterScript size) base large pairs (all_shifts_of m size cramped base pairs)
+    placed_of (constant_of m SpaceAfterScript size) base large pairs
+    (all_shifts_of m size cramped base pairs)

@@ -85,8 +85,8 @@ impl Lean {
 /// Over a pair that isn't the first one behind its base, the base doesn't lean.
 const UPRIGHT: Lean = Lean { back: 0, forth: 0 };
 
-/// How far some pairs reach: before the base from the start, behind it from its end; and how the base
-/// leans over the next pair behind it.
+/// How far some pairs reach: before the base from the start, behind it from its end; and how the
+/// base leans over the next pair behind it.
 #[derive(Clone, Copy, Debug)]
 pub struct Line {
     pub ahead: i64,
@@ -98,7 +98,11 @@ impl Line {
     /// Before the first pair.
     fn start(base: &MathBox, large: bool) -> Line
         requires { IsStored base.now }
-        ensures value { result ≡ record { ahead = pos 0; behind = pos 0; lean = base_lean_of base.now large } }
+        ensures value { result ≡ record {
+          ahead = pos 0;
+          behind = pos 0;
+          lean = base_lean_of base.now large;
+        } }
     {
         Line {
             ahead: 0,
@@ -152,7 +156,8 @@ impl Line {
         requires fits { IsPairStored pair.now }
         requires space_in { IsWithin (2 ^ 32) space }
         requires end_in { IsWithin (2 ^ 51) end }
-        ensures { result ≡ room_x_of space end self.now pair.now +ℤ sub_start_of self.now.lean pair.now }
+        ensures { result ≡ room_x_of space end self.now pair.now
+            +ℤ sub_start_of self.now.lean pair.now }
     {
         self.room_x(pair, space, end) + self.lean.sub_start(pair)
     }
@@ -163,7 +168,8 @@ impl Line {
         requires fits { IsPairStored pair.now }
         requires space_in { IsWithin (2 ^ 32) space }
         requires end_in { IsWithin (2 ^ 51) end }
-        ensures { result ≡ room_x_of space end self.now pair.now +ℤ sup_start_of self.now.lean pair.now }
+        ensures { result ≡ room_x_of space end self.now pair.now
+            +ℤ sup_start_of self.now.lean pair.now }
     {
         self.room_x(pair, space, end) + self.lean.sup_start(pair)
     }
@@ -209,8 +215,10 @@ pub fn place_pairs(
     requires end_in { IsWithin (2 ^ 51) end }
     requires up_in { IsWithin (2 ^ 40) shifts.now.up }
     requires down_in { IsWithin (2 ^ 40) shifts.now.down }
-    ensures subs { IfOk result (λ spots. spots.subs ≡ sub_spots_of space end base.now large pairs.now shifts.now.down (length pairs.now)) }
-    ensures sups { IfOk result (λ spots. spots.sups ≡ sup_spots_of space end base.now large pairs.now shifts.now.up (length pairs.now)) }
+    ensures subs { IfOk result (λ spots. spots.subs
+        ≡ sub_spots_of space end base.now large pairs.now shifts.now.down (length pairs.now)) }
+    ensures sups { IfOk result (λ spots. spots.sups
+        ≡ sup_spots_of space end base.now large pairs.now shifts.now.up (length pairs.now)) }
 {
     let mut subs = List::make(alloc);
     let mut sups = List::make(alloc);

@@ -11,8 +11,8 @@ pub struct Pair {
     pub before: bool,
 }
 
-/// A base with pairs of scripts that is laid out. The places of subscripts and of superscripts are in
-/// the order of their pairs.
+/// A base with pairs of scripts that is laid out. The places of subscripts and of superscripts are
+/// in the order of their pairs.
 #[derive(Debug, Drop)]
 pub struct Multi {
     pub frame: MathBox,

@@ -15,8 +15,8 @@ use std::alloc::Global;
 /// A base with pairs of scripts behind it and before it (MathML Core 3.4.3, "Prescripts and Tensor
 /// Indices").
 ///
-/// Lengths are in units of 1/1024 px, and `size` is the font size of the element. `large` says that the
-/// base is a large operator, and `cramped` that the style of the element is.
+/// Lengths are in units of 1/1024 px, and `size` is the font size of the element. `large` says that
+/// the base is a large operator, and `cramped` that the style of the element is.
 pub fn multi(
     alloc: Global,
     base: &MathBox,
@@ -31,7 +31,8 @@ pub fn multi(
     requires pairs_fit { All IsPairStored pairs.now }
     requires size_low { pos 0 ≤ℤ size }
     requires size_high { size ≤ℤ pos (2 ^ 20) }
-    ensures { IfOk result (λ multi. multi ≡ multi_of metrics.now base.now large cramped pairs.now size) }
+    ensures { IfOk result (λ multi. multi
+        ≡ multi_of metrics.now base.now large cramped pairs.now size) }
 {
     let items = pairs.as_slice();
     let space = metrics.constant(ConstName::SpaceAfterScript, size);

@@ -84,7 +84,8 @@ category_of text form fixed lines =
 
 -- that of the first line with the base text, else that of the built-in list
 abbrev pub axis_of_base : OpText → List OperatorLine → Axis
-axis_of_base text lines = unwrap_or (line_axis lines text) (if is_inline text then Inline else Block)
+axis_of_base text lines = unwrap_or (line_axis lines text)
+    (if is_inline text then Inline else Block)
 
 unfoldable pub axis_of : OpText → List OperatorLine → Axis
 axis_of text lines = axis_of_base (base_text text) lines

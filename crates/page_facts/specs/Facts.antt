@@ -31,7 +31,8 @@ ReachLaw = (m : MetricsValue) (tree : TreeValue) → HasPage m tree → All IsIn
 
 -- what is drawn can be painted
 abbrev pub PaintLaw : Type 0
-PaintLaw = (m : MetricsValue) (tree : TreeValue) → HasPage m tree → All (IsPaintable m) (page_of m tree)
+PaintLaw = (m : MetricsValue) (tree : TreeValue) → HasPage m tree
+    → All (IsPaintable m) (page_of m tree)
 
 -- no element is inside itself, or inside one whose box comes later
 abbrev pub OrderLaw : Type 0
@@ -39,4 +40,5 @@ OrderLaw = (m : MetricsValue) (tree : TreeValue) → HasPage m tree
     → ComesFirst (inside_in (flow_tree tree.root)) (boxes_of (page_of m tree))
 
 abbrev pub RootLaw : Type 0
-RootLaw = (m : MetricsValue) (tree : TreeValue) → HasPage m tree → IsStored (lay_tree m tree).answer.frame
+RootLaw = (m : MetricsValue) (tree : TreeValue) → HasPage m tree
+    → IsStored (lay_tree m tree).answer.frame

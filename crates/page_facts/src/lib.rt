@@ -1,5 +1,5 @@
-//! What holds of the page of a tree that can be laid out: what painting it, hitting it and marking on
-//! it need to know.
+//! What holds of the page of a tree that can be laid out: what painting it, hitting it and marking
+//! on it need to know.
 //!
 //! A law is proved where it is a contract, so `laws` has functions with one that compute nothing;
 //! proofs above cite `proofs/` itself.

@@ -16,7 +16,15 @@ abbrev pub paints_of_mark : MetricsValue → Mark → List Paint
 paints_of_mark m (mark.Glyph x y size glyph) = Glyph x y size glyph ∷ []
 paints_of_mark m (mark.Rule x y width height) = Rule x y width height ∷ []
 paints_of_mark m (mark.Built x y size axis glyph count overlap) =
-    built_paints m record { x = x; y = y; size = size; axis = axis; glyph = glyph; count = count; overlap = overlap }
+    built_paints m record {
+      x = x;
+      y = y;
+      size = size;
+      axis = axis;
+      glyph = glyph;
+      count = count;
+      overlap = overlap;
+    }
 
 -- nothing of a box
 abbrev pub paints_of : MetricsValue → PlacedItem → List Paint
@@ -36,7 +44,15 @@ abbrev pub IsPaintableMark : MetricsValue → Mark → Type 0
 IsPaintableMark m (mark.Glyph x y size glyph) = IsKnown m glyph
 IsPaintableMark m (mark.Rule x y width height) = Unit {0}
 IsPaintableMark m (mark.Built x y size axis glyph count overlap) =
-    IsAssembly m record { x = x; y = y; size = size; axis = axis; glyph = glyph; count = count; overlap = overlap }
+    IsAssembly m record {
+      x = x;
+      y = y;
+      size = size;
+      axis = axis;
+      glyph = glyph;
+      count = count;
+      overlap = overlap;
+    }
 
 abbrev pub IsPaintable : MetricsValue → PlacedItem → Type 0
 IsPaintable m (Frame placed) = Unit {0}

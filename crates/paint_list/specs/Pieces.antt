@@ -73,8 +73,8 @@ built_paints m built =
 
 -- ---- which assemblies are painted
 
--- its glyph is one of the font's, its size is a font size, and no number of it is so large that a piece
--- stands out of reach
+-- its glyph is one of the font's, its size is a font size, and no number of it is so large that a
+-- piece stands out of reach
 pub record IsAssembly (m : MetricsValue) (built : Assembly) : Type 0 where
   pub known : IsKnown m built.glyph
   pub size_low : pos 0 ≤ℤ built.size

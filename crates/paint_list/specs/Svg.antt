@@ -9,23 +9,26 @@ use Rattle.font_metrics.specs.Metrics.{MetricsValue, name_at}
 use Rattle.paint_list.specs.declared.paints.Paint.{Paint}
 use Rattle.paint_list.specs.declared.paints.Paint.TheVariants.{Glyph, Rule}
 
--- the first line: what is shown begins at the root's left edge and so far below its baseline, and is so
--- wide and so high
+-- the first line: what is shown begins at the root's left edge and so far below its baseline, and
+-- is so wide and so high
 abbrev pub window_line : ℤ → ℤ → ℤ → List ℕ
 window_line top width height =
-    codes "<svg xmlns=\"http://www.w3.org/2000/svg\" viewBox=\"0" ++ spaced_numbers (top ∷ width ∷ height ∷ [])
+    codes "<svg xmlns=\"http://www.w3.org/2000/svg\" viewBox=\"0"
+    ++ spaced_numbers (top ∷ width ∷ height ∷ [])
     ++ codes "\">\n"
 
 -- by the root's box: from its top, as wide and as high as it is
 unfoldable pub head_line : MathBox → List ℕ
 head_line frame =
-    window_line (neg_ℤ frame.ascent) (int_max frame.width (pos 0)) (int_max (frame.ascent +ℤ frame.descent) (pos 0))
+    window_line (neg_ℤ frame.ascent) (int_max frame.width (pos 0))
+    (int_max (frame.ascent +ℤ frame.descent) (pos 0))
 
--- a glyph is the outline under its name, with one em as one unit: it grows to its size, and moves to
--- its place
+-- a glyph is the outline under its name, with one em as one unit: it grows to its size, and moves
+-- to its place
 abbrev pub use_end : ℤ → ℤ → ℤ → List ℕ
 use_end x y size =
-    codes "\" transform=\"translate(" ++ signed_decimal x ++ spaced (signed_decimal y) ++ codes ") scale("
+    codes "\" transform=\"translate(" ++ signed_decimal x ++ spaced (signed_decimal y)
+    ++ codes ") scale("
     ++ signed_decimal size ++ codes ")\"/>\n"
 
 abbrev pub use_line : ℤ → ℤ → ℤ → List ℕ → List ℕ
@@ -33,7 +36,8 @@ use_line x y size name = codes "<use href=\"#" ++ (name ++ use_end x y size)
 
 abbrev pub rect_line : ℤ → ℤ → ℤ → ℤ → List ℕ
 rect_line x y width height =
-    codes "<rect x=\"" ++ signed_decimal x ++ codes "\" y=\"" ++ signed_decimal y ++ codes "\" width=\""
+    codes "<rect x=\"" ++ signed_decimal x ++ codes "\" y=\"" ++ signed_decimal y
+    ++ codes "\" width=\""
     ++ signed_decimal width ++ codes "\" height=\"" ++ signed_decimal height ++ codes "\"/>\n"
 
 -- a rule is shown where it has width and height

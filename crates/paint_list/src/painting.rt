@@ -17,7 +17,8 @@ pub fn paint(alloc: Global, placed: &Placed, metrics: &Metrics) -> Result<List<P
     ensures exact { IfOk result (λ paints. paints ≡ painted metrics.now placed.now) }
     ensures glyphs { IfOk result (All (IsOfFont metrics.now)) }
     ensures few { OnOk result (length (painted metrics.now placed.now) ≤ most_paints) }
-    ensures too_many { result ≡ Err TooMany → most_paints < length (painted metrics.now placed.now) }
+    ensures too_many { result ≡ Err TooMany
+        → most_paints < length (painted metrics.now placed.now) }
     ensures refused { most_paints < length (painted metrics.now placed.now) → result ≡ Err TooMany }
 {
     paint_items(alloc, placed.items.as_slice(), metrics)

@@ -58,9 +58,11 @@ fn add_part(
     requires few { times built.now.count part.now ≤ most_paints }
     requires start { IsWithin (2 ^ 59) start }
     ensures added { OnOk result (paints.new
-        ≡ paints.old ++ laid_from metrics.now built.now start (replicate (times built.now.count part.now) part.now)) }
+        ≡ paints.old ++ laid_from metrics.now built.now start
+        (replicate (times built.now.count part.now) part.now)) }
     ensures next { IfOk result (λ next. next
-        ≡ start_after metrics.now built.now start (replicate (times built.now.count part.now) part.now)) }
+        ≡ start_after metrics.now built.now start
+        (replicate (times built.now.count part.now) part.now)) }
 {
     let step = step_of(built, part, metrics);
     let mut next = start;
@@ -71,8 +73,8 @@ fn add_part(
     Ok(next)
 }
 
-/// A piece that begins so far from the mark's place. Along the block axis it goes up from there, and
-/// its ink begins there.
+/// A piece that begins so far from the mark's place. Along the block axis it goes up from there,
+/// and its ink begins there.
 fn piece_at(built: &Assembly, part: &Part, start: i64, metrics: &Metrics) -> Paint
     requires built { IsAssembly metrics.now built.now }
     requires part { IsPart (length metrics.now.glyphs) part.now }

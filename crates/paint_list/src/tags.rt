@@ -15,8 +15,8 @@ use itoa::Buffer;
 /// The last line.
 pub const END: &str = "</svg>\n";
 
-/// The first line: what is shown begins at the root's left edge and at its top, and is as wide and as
-/// high as its box.
+/// The first line: what is shown begins at the root's left edge and at its top, and is as wide and
+/// as high as its box.
 pub fn head_line(frame: &MathBox) -> ShortText
     requires { IsStored frame.now }
     ensures { result ≡ head_line frame.now }

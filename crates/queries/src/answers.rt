@@ -23,11 +23,12 @@ pub enum Answer {
 impl Answer {
     /// Writes the answer. It takes no memory.
     ///
-    /// `WriteFault` comes only where the sink counted a fault, and a front of the answer was written
-    /// then.
+    /// `WriteFault` comes only where the sink counted a fault, and a front of the answer was
+    /// written then.
     pub fn write<O: Sink>(&self, out: &mut O, metrics: &Metrics) -> Result<(), WriteFault>
         requires { IsWritable metrics.now self.now }
-        ensures { WritesAll (O.told out.old) (O.told out.new) (bytes_of metrics.now self.now) result }
+        ensures { WritesAll (O.told out.old) (O.told out.new) (bytes_of metrics.now self.now)
+            result }
     {
         match self {
             Answer::Picture(frame, paints) => write_svg(out, frame, paints, metrics),

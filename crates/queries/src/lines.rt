@@ -23,7 +23,8 @@ pub fn write_areas<O: Sink>(out: &mut O, areas: &[Area]) -> Result<(), WriteFaul
 
 /// Puts the line of an area.
 fn put_area<O: Sink>(piece: &mut Piece, out: &mut O, area: &Area) -> Result<(), WriteFault>
-    ensures { Puts (O.told out.old) (O.told out.new) piece.old piece.new (area_line area.now) result }
+    ensures { Puts (O.told out.old) (O.told out.new) piece.old piece.new (area_line area.now)
+        result }
 {
     piece.put(out, area_line(area).as_str())
 }

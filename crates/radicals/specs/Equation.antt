@@ -55,7 +55,8 @@ share_of percent length = rounded (percent *ℤ length) (pos 100)
 -- the height of the index: its ink ends that share of the root's ink above the foot of that ink
 unfoldable pub index_height_of : IndexLengths → MathBox → MathBox → ℤ
 index_height_of font root index =
-    (share_of font.raise (root.ink_ascent +ℤ root.ink_descent) -ℤ root.ink_descent) +ℤ index.ink_descent
+    (share_of font.raise (root.ink_ascent +ℤ root.ink_descent) -ℤ root.ink_descent)
+    +ℤ index.ink_descent
 
 -- ---- what is asked of what stands under a root
 

@@ -22,7 +22,8 @@ spot x y = record { x = x; y = y }
 
 -- ---- a surd over its base
 
--- the surd begins at a start, and its ink ends at the rule's upper edge; base and rule stand behind it
+-- the surd begins at a start, and its ink ends at the rule's upper edge; base and rule stand behind
+-- it
 unfoldable pub covered_of : RootLengths → MathBox → Shaped → GlyphId → ℤ → ℤ → Radical
 covered_of font base surd glyph start size =
     let top = top_of font base in

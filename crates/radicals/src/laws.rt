@@ -13,7 +13,8 @@ pub fn ink_keeps_its_gap_to_the_rule()
     ensures square_root { (m : MetricsValue) (base : MathBox) (display : Bool) (size : ℤ) →
         gap_under_rule base (square_root_of m base display size)
         ≡ (root_lengths_of m size display).gap }
-    ensures root_with_index { (m : MetricsValue) (base index : MathBox) (display : Bool) (size : ℤ) →
+    ensures root_with_index { (m : MetricsValue) (base index : MathBox) (display : Bool) (size : ℤ)
+        →
         gap_under_rule base (root_with_index_of m base index display size)
         ≡ (root_lengths_of m size display).gap }
 {}

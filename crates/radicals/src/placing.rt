@@ -14,7 +14,8 @@ use glyph_assembly::{Shaped, shape};
 use op_dictionary::Axis;
 
 /// A square root over what has this box, in units of 1/1024 px (MathML Core 3.3.3.2, "Square Root
-/// (msqrt)"). `size` is the font size of the root, and `display` says that its style is display style.
+/// (msqrt)"). `size` is the font size of the root, and `display` says that its style is display
+/// style.
 pub fn square_root(base: &MathBox, display: bool, size: i64, metrics: &Metrics) -> Radical
     requires base_in { IsRow base.now }
     requires size_low { pos 0 ≤ℤ size }

@@ -47,7 +47,8 @@ advance_at spaces kids place = advance_of spaces (kid_at kids place)
 
 -- what the first n children take
 unfoldable pub room_of : Bool → List RowKid → ℕ → ℤ
-room_of spaces kids n = sum_to n (λ place. ahead_at spaces kids place +ℤ advance_at spaces kids place)
+room_of spaces kids n = sum_to n (λ place. ahead_at spaces kids place
+    +ℤ advance_at spaces kids place)
 
 -- where the child at a place begins
 unfoldable pub offset_of : Bool → List RowKid → ℕ → ℤ

@@ -35,7 +35,10 @@ pub record StandSideBySide (spaces : Bool) (kids : List RowKid) (row : Row) : Ty
   pub count : length row.offsets ≡ length kids
   pub first : 0 < length kids → slice_get row.offsets 0 ≡ Some (ahead_at spaces kids 0)
   pub next : (place : ℕ) (x : ℤ) → place + 1 < length kids → slice_get row.offsets place ≡ Some x →
-      slice_get row.offsets (place + 1) ≡ Some (x +ℤ advance_at spaces kids place +ℤ ahead_at spaces kids (place + 1))
+      slice_get row.offsets (place + 1)
+      ≡ Some (x +ℤ advance_at spaces kids place +ℤ ahead_at spaces kids (place + 1))
   pub last : (place : ℕ) (x : ℤ) → place + 1 ≡ length kids → slice_get row.offsets place ≡ Some x →
       row.frame.width ≡ x +ℤ advance_at spaces kids place
-  pub width : row.frame.width ≡ sum_to (length kids) (λ place. ahead_at spaces kids place) +ℤ sum_to (length kids) (λ place. advance_at spaces kids place)
+  pub width : row.frame.width
+      ≡ sum_to (length kids) (λ place. ahead_at spaces kids place)
+      +ℤ sum_to (length kids) (λ place. advance_at spaces kids place)

@@ -33,7 +33,8 @@ ask_of place (Some pull) = record { kid = place; pull = pull } ∷ []
 -- what a wave asks of children in their order, where the first stands at that place
 unfoldable pub asks_from : ℕ → Plan → List KidPull → List Ask
 asks_from place plan [] = []
-asks_from place plan (kid ∷ kids) = ask_of place (planned plan kid) ++ asks_from (place + 1) plan kids
+asks_from place plan (kid ∷ kids) = ask_of place (planned plan kid)
+    ++ asks_from (place + 1) plan kids
 
 -- ---- which waves there are
 

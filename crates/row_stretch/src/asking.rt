@@ -7,8 +7,8 @@ use fixed_units::{List, MathBox, Memory, Pull, join_all};
 use op_dictionary::Axis;
 use std::alloc::Global;
 
-/// Asks the children of a row in the first wave (MathML Core 3.3.1.2): under a pull of its own all of
-/// them, else those that don't stretch upward and downward.
+/// Asks the children of a row in the first wave (MathML Core 3.3.1.2): under a pull of its own all
+/// of them, else those that don't stretch upward and downward.
 pub fn row_wave_one(alloc: Global, kids: &List<KidPull>, own: Pull) -> Result<List<Ask>, Memory>
     requires few { length kids.now ≤ 65_536 }
     ensures { IfOk result (λ asks. asks ≡ first_asks_of kids.now own) }
@@ -71,8 +71,8 @@ impl Plan {
         }
     }
 
-    /// The first of two waves: the children that don't stretch. Where all do, they are asked with the
-    /// least pull.
+    /// The first of two waves: the children that don't stretch. Where all do, they are asked with
+    /// the least pull.
     pub fn first_of_two(kids: &[KidPull], axis: Axis, least: Pull) -> Plan
         ensures { result ≡ first_of_two kids.now axis least }
     {

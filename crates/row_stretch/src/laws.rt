@@ -11,8 +11,9 @@ ghost use Rattle.row_stretch.specs.Equation.{row_of};
 ghost use Rattle.row_stretch.specs.Laws.{IsPulled, AllStretch, asked, StandSideBySide};
 ghost use Rattle.row_stretch.specs.Questions.{first_asks_of, second_asks_of};
 
-/// Under a pull, and where some child doesn't stretch upward and downward, each child is asked once in
-/// both waves together. Where all stretch and nothing pulls them, each is asked once in each wave.
+/// Under a pull, and where some child doesn't stretch upward and downward, each child is asked once
+/// in both waves together. Where all stretch and nothing pulls them, each is asked once in each
+/// wave.
 pub fn each_child_is_asked()
     ensures once { (kids : List KidPull) (own : Pull) (first : List MathBox) (place : ℕ) →
         place < length kids → IsPulled own →
@@ -22,11 +23,13 @@ pub fn each_child_is_asked()
         asked place (first_asks_of kids Free) + asked place (second_asks_of kids Free first) ≡ 1 }
     ensures all { (kids : List KidPull) (first : List MathBox) (place : ℕ) →
         place < length kids → AllStretch kids →
-        (asked place (first_asks_of kids Free) ≡ 1) × (asked place (second_asks_of kids Free first) ≡ 1) }
+        (asked place (first_asks_of kids Free) ≡ 1)
+        × (asked place (second_asks_of kids Free first) ≡ 1) }
 {}
 
-/// The children of a row stand side by side, each behind all before it, and the row is as wide as its
-/// parts together.
+/// The children of a row stand side by side, each behind all before it, and the row is as wide as
+/// its parts together.
 pub fn children_stand_side_by_side()
-    ensures { (spaces : Bool) (kids : List RowKid) → StandSideBySide spaces kids (row_of spaces kids) }
+    ensures { (spaces : Bool) (kids : List RowKid)
+        → StandSideBySide spaces kids (row_of spaces kids) }
 {}

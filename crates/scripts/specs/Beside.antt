@@ -58,7 +58,8 @@ sup_of m base large cramped script from size =
       sup = spot x (pos 0 -ℤ up);
     }
 
-unfoldable pub sub_sup_of : MetricsValue → MathBox → Bool → Bool → MathBox → MathBox → KernFrom → ℤ → Scripted
+unfoldable pub sub_sup_of : MetricsValue → MathBox → Bool → Bool → MathBox → MathBox → KernFrom → ℤ
+    → Scripted
 sub_sup_of m base large cramped sub sup from size =
     let shifts = pair_shifts_of m size cramped base sub sup in
     let sub_x = sub_x_of base large +ℤ sub_kern_of m from base sub shifts.down in

@@ -1,5 +1,5 @@
--- How far scripts are moved in or out at the corners of their bases (own use of the records of OpenType
--- MATH, "MathKernInfo").
+-- How far scripts are moved in or out at the corners of their bases (own use of the records of
+-- OpenType MATH, "MathKernInfo").
 use Rattle.std.specs.Prelude.{ℕ, ◌<◌, ◌^◌, ℤ, pos, ◌+ℤ◌, ◌-ℤ◌, ◌≤ℤ◌, ◌≡◌, length, Option, Some, None, IfSome}
 use Rattle.std.specs.Int.{int_max}
 use Rattle.fixed_units.specs.declared.boxes.MathBox.{MathBox}
@@ -13,14 +13,16 @@ abbrev pub corner_kern : MetricsValue → Option Inked → ℤ → ℤ
 corner_kern m None height = pos 0
 corner_kern m (Some inked) height = kern_of m inked.glyph.0 inked.corner height inked.size
 
--- at a height above the baseline of the base: the kern of the base there and that of a script that is raised
--- so far
+-- at a height above the baseline of the base: the kern of the base there and that of a script that
+-- is raised so far
 abbrev pub kerns_meeting : MetricsValue → Option Inked → Option Inked → ℤ → ℤ → ℤ
-kerns_meeting m base script raised height = corner_kern m base height +ℤ corner_kern m script (height -ℤ raised)
+kerns_meeting m base script raised height = corner_kern m base height
+    +ℤ corner_kern m script (height -ℤ raised)
 
--- The superscript kern is the larger, over the height of the superscript's bottom and that of the base's top,
--- of the base's kern and the superscript's at that height; the subscript kern is the larger, over the height
--- of the subscript's top and that of the base's bottom, of the base's kern and the subscript's.
+-- The superscript kern is the larger, over the height of the superscript's bottom and that of the
+-- base's top, of the base's kern and the superscript's at that height; the subscript kern is the
+-- larger, over the height of the subscript's top and that of the base's bottom, of the base's kern
+-- and the subscript's.
 unfoldable pub sup_kern_of : MetricsValue → KernFrom → MathBox → MathBox → ℤ → ℤ
 sup_kern_of m from base sup up =
     int_max (kerns_meeting m from.base_sup from.sup up (up -ℤ sup.ink_descent))

@@ -18,15 +18,15 @@ abbrev pub ink_gap : MathBox → MathBox → Scripted → ℤ
 ink_gap sub sup scripted =
     (scripted.sub.y -ℤ sub.ink_ascent) -ℤ (scripted.sup.y +ℤ sup.ink_descent)
 
--- a subscript stands as low as the constants want it: by its shift, by how high its ink reaches, and by
--- how far its baseline lies below the ink of the base
+-- a subscript stands as low as the constants want it: by its shift, by how high its ink reaches,
+-- and by how far its baseline lies below the ink of the base
 pub record IsLowEnough (font : SubLengths) (base sub : MathBox) (place : Spot) : Type 0 where
   pub shift : font.shift ≤ℤ place.y
   pub top : (sub.ink_ascent -ℤ place.y) ≤ℤ font.top_max
   pub drop : font.drop_min ≤ℤ (place.y -ℤ base.ink_descent)
 
--- a superscript as high: by its shift, by how low its ink reaches, and by how far its baseline lies below
--- the top of the base's ink
+-- a superscript as high: by its shift, by how low its ink reaches, and by how far its baseline lies
+-- below the top of the base's ink
 pub record IsHighEnough (font : SupLengths) (base sup : MathBox) (place : Spot) : Type 0 where
   pub shift : font.shift ≤ℤ (pos 0 -ℤ place.y)
   pub bottom : font.bottom_min ≤ℤ ((pos 0 -ℤ place.y) -ℤ sup.ink_descent)
@@ -48,9 +48,12 @@ least_of (Stack shift least) = least
 least_of (Accent height) = pos 0
 least_of (Bar gap extra) = gap
 
-pub record KeepGaps (above below : Gap) (base : MathBox) (under over : Option MathBox) (limits : Limits) : Type 0 where
-  pub below_base : IfSome under (λ part. least_of below ≤ℤ (ink_start part limits.under -ℤ ink_end base limits.base))
-  pub above_base : IfSome over (λ part. least_of above ≤ℤ (ink_start base limits.base -ℤ ink_end part limits.over))
+pub record KeepGaps (above below : Gap) (base : MathBox) (under over : Option MathBox)
+    (limits : Limits) : Type 0 where
+  pub below_base : IfSome under (λ part. least_of below
+      ≤ℤ (ink_start part limits.under -ℤ ink_end base limits.base))
+  pub above_base : IfSome over (λ part. least_of above
+      ≤ℤ (ink_start base limits.base -ℤ ink_end part limits.over))
 
 -- what a limit counts, if there is one
 abbrev pub box_if : Option Placed → List MathBox
@@ -58,7 +61,8 @@ box_if None = []
 box_if (Some part) = part.frame ∷ []
 
 -- the base, and its limits as they count
-abbrev pub boxes_of : MetricsValue → MathBox → Option MathBox → Option MathBox → LimitCase → Bool → Bool → ℤ → List MathBox
+abbrev pub boxes_of : MetricsValue → MathBox → Option MathBox → Option MathBox → LimitCase → Bool
+    → Bool → ℤ → List MathBox
 boxes_of m base under over case accent accentunder size =
     base
     ∷ box_if (placed_if (λ part. under_limit_of m base part case accentunder size) under)
@@ -71,15 +75,17 @@ pub record IsInside (width : ℤ) (part : MathBox) (place : Spot) : Type 0 where
   pub start : pos 0 ≤ℤ place.x
   pub end : (place.x +ℤ part.width) ≤ℤ width
 
-pub record StandInside (base : MathBox) (under over : Option MathBox) (limits : Limits) : Type 0 where
-  pub base_is : IsInside limits.frame.width base limits.base
-  pub under_is : IfSome under (λ part. IsInside limits.frame.width part limits.under)
-  pub over_is : IfSome over (λ part. IsInside limits.frame.width part limits.over)
+pub record StandInside (base : MathBox) (under over : Option MathBox) (limits : Limits) : Type 0
+  where
+    pub base_is : IsInside limits.frame.width base limits.base
+    pub under_is : IfSome under (λ part. IsInside limits.frame.width part limits.under)
+    pub over_is : IfSome over (λ part. IsInside limits.frame.width part limits.over)
 
 -- as much of a base reaches out behind a part as ahead of it, or one unit more
 pub record IsCentred (base part : MathBox) (base_at part_at : Spot) : Type 0 where
   pub low : (part_at.x -ℤ base_at.x) ≤ℤ ((base_at.x +ℤ base.width) -ℤ (part_at.x +ℤ part.width))
-  pub high : ((base_at.x +ℤ base.width) -ℤ (part_at.x +ℤ part.width)) ≤ℤ (part_at.x -ℤ base_at.x +ℤ pos 1)
+  pub high : ((base_at.x +ℤ base.width) -ℤ (part_at.x +ℤ part.width))
+      ≤ℤ (part_at.x -ℤ base_at.x +ℤ pos 1)
 
 -- the accent of an overscript, that of its base and that of the whole stand at one place
 pub record AccentsMeet (base over : MathBox) (limits : Limits) : Type 0 where

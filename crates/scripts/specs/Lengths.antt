@@ -16,7 +16,8 @@ sub_lengths_of m size = record {
 
 unfoldable pub sup_lengths_of : MetricsValue → ℤ → Bool → SupLengths
 sup_lengths_of m size cramped = record {
-  shift = if cramped then constant_of m SuperscriptShiftUpCramped size else constant_of m SuperscriptShiftUp size;
+  shift = if cramped then constant_of m SuperscriptShiftUpCramped size else constant_of m
+      SuperscriptShiftUp size;
   bottom_min = constant_of m SuperscriptBottomMin size;
   drop_max = constant_of m SuperscriptBaselineDropMax size;
 }

@@ -11,17 +11,23 @@ use Rattle.scripts.specs.declared.parts.LimitCase.TheVariants.{Large, Stretchy, 
 
 -- of an overscript
 unfoldable pub above_of : MetricsValue → LimitCase → Bool → ℤ → Gap
-above_of m Large accent size = Limit (constant_of m UpperLimitBaselineRiseMin size) (constant_of m UpperLimitGapMin size)
-above_of m Stretchy accent size = Stack (constant_of m StretchStackTopShiftUp size) (constant_of m StretchStackGapAboveMin size)
+above_of m Large accent size = Limit (constant_of m UpperLimitBaselineRiseMin size)
+    (constant_of m UpperLimitGapMin size)
+above_of m Stretchy accent size = Stack (constant_of m StretchStackTopShiftUp size)
+    (constant_of m StretchStackGapAboveMin size)
 above_of m Plain true size = Accent (constant_of m AccentBaseHeight size)
-above_of m Plain false size = Bar (constant_of m OverbarVerticalGap size) (constant_of m OverbarExtraAscender size)
+above_of m Plain false size = Bar (constant_of m OverbarVerticalGap size)
+    (constant_of m OverbarExtraAscender size)
 
 -- of an underscript; one that is an accent touches the ink of the base
 unfoldable pub below_of : MetricsValue → LimitCase → Bool → ℤ → Gap
-below_of m Large accent size = Limit (constant_of m LowerLimitBaselineDropMin size) (constant_of m LowerLimitGapMin size)
-below_of m Stretchy accent size = Stack (constant_of m StretchStackBottomShiftDown size) (constant_of m StretchStackGapBelowMin size)
+below_of m Large accent size = Limit (constant_of m LowerLimitBaselineDropMin size)
+    (constant_of m LowerLimitGapMin size)
+below_of m Stretchy accent size = Stack (constant_of m StretchStackBottomShiftDown size)
+    (constant_of m StretchStackGapBelowMin size)
 below_of m Plain true size = Bar (pos 0) (pos 0)
-below_of m Plain false size = Bar (constant_of m UnderbarVerticalGap size) (constant_of m UnderbarExtraDescender size)
+below_of m Plain false size = Bar (constant_of m UnderbarVerticalGap size)
+    (constant_of m UnderbarExtraDescender size)
 
 -- from baseline to baseline; both inks are measured toward the other one
 unfoldable pub distance_of : Gap → ℤ → ℤ → ℤ

@@ -1,5 +1,5 @@
--- The box of a base with limits, and the places of the three. Places count x from the box's start and
--- y downward from its baseline.
+-- The box of a base with limits, and the places of the three. Places count x from the box's start
+-- and y downward from its baseline.
 use Rattle.std.specs.Prelude.{ℕ, ℤ, pos, ◌+ℤ◌, ◌-ℤ◌, Bool, true, false, Option, Some, None}
 use Rattle.std.specs.Int.{int_max, int_min}
 use Rattle.fixed_units.specs.Boxes.{joined, raised}
@@ -98,7 +98,8 @@ abbrev pub placed_if : {A B : Type 0} → (A → B) → Option A → Option B
 placed_if place None = None
 placed_if place (Some part) = Some (place part)
 
-abbrev pub under_over_of : MetricsValue → MathBox → Option MathBox → Option MathBox → LimitCase → Bool → Bool → ℤ → Limits
+abbrev pub under_over_of : MetricsValue → MathBox → Option MathBox → Option MathBox → LimitCase
+    → Bool → Bool → ℤ → Limits
 under_over_of m base under over case accent accentunder size =
     let below = placed_if (λ part. under_limit_of m base part case accentunder size) under in
     let above = placed_if (λ part. over_limit_of m base part case accent size) over in

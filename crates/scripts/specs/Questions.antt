@@ -30,7 +30,8 @@ first_limit_asks_of (base ∷ others) (Block ascent descent) =
 -- under a pull to the sides all are asked already
 abbrev pub second_limit_asks_of : List KidPull → Pull → List MathBox → List Ask
 second_limit_asks_of kids (Inline width) first = []
-second_limit_asks_of kids Free first = asks_from 0 (second_of_two Sideways (Inline (widest_of first))) kids
+second_limit_asks_of kids Free first = asks_from 0
+    (second_of_two Sideways (Inline (widest_of first))) kids
 second_limit_asks_of [] (Block ascent descent) first = []
 second_limit_asks_of (base ∷ others) (Block ascent descent) first =
     asks_from 1 (second_of_two Sideways (Inline (widest_of first))) others

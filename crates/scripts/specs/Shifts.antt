@@ -14,12 +14,14 @@ use Rattle.scripts.specs.Lengths.{sub_lengths_of, sup_lengths_of, pair_lengths_o
 -- baseline lies far enough below the base's ink; the largest of them
 unfoldable pub sub_shift_of : SubLengths → MathBox → MathBox → ℤ
 sub_shift_of font base sub =
-    int_max (int_max font.shift (sub.ink_ascent -ℤ font.top_max)) (font.drop_min +ℤ base.ink_descent)
+    int_max (int_max font.shift (sub.ink_ascent -ℤ font.top_max)) (font.drop_min
+    +ℤ base.ink_descent)
 
 -- a superscript alone
 unfoldable pub sup_shift_of : SupLengths → MathBox → MathBox → ℤ
 sup_shift_of font base sup =
-    int_max (int_max font.shift (font.bottom_min +ℤ sup.ink_descent)) (base.ink_ascent -ℤ font.drop_max)
+    int_max (int_max font.shift (font.bottom_min +ℤ sup.ink_descent)) (base.ink_ascent
+    -ℤ font.drop_max)
 
 -- the height at which a superscript's ink begins, and that at which a subscript's ends
 abbrev pub ink_bottom : Shifts → MathBox → ℤ
@@ -36,7 +38,8 @@ lack_of font shifts sub sup =
 -- as much of it as the superscript may make up for
 unfoldable pub rise_of : PairLengths → Shifts → MathBox → MathBox → ℤ
 rise_of font shifts sub sup =
-    int_max (int_min (font.bottom_max -ℤ ink_bottom shifts sup) (lack_of font shifts sub sup)) (pos 0)
+    int_max (int_min (font.bottom_max -ℤ ink_bottom shifts sup) (lack_of font shifts sub sup))
+    (pos 0)
 
 -- the superscript is moved up as far as it may be, and the subscript down for the rest
 unfoldable pub moved_apart_of : PairLengths → Shifts → MathBox → MathBox → Shifts

@@ -13,9 +13,9 @@ const REST: Plan = Plan {
     others: Some(Pull::Free),
 };
 
-/// Asks the children of an element with limits in the first wave (MathML Core 3.4.2): under a pull to
-/// the sides all of them, else those that don't stretch to the sides. A pull up and down goes to the
-/// base.
+/// Asks the children of an element with limits in the first wave (MathML Core 3.4.2): under a pull
+/// to the sides all of them, else those that don't stretch to the sides. A pull up and down goes to
+/// the base.
 pub fn limit_wave_one(alloc: Global, kids: &List<KidPull>, own: Pull) -> Result<List<Ask>, Memory>
     requires few { length kids.now ≤ 65_536 }
     ensures { IfOk result (λ asks. asks ≡ first_limit_asks_of kids.now own) }
@@ -38,8 +38,8 @@ pub fn limit_wave_one(alloc: Global, kids: &List<KidPull>, own: Pull) -> Result<
     }
 }
 
-/// Asks in the second wave the children that stretch to the sides, with the largest width of what the
-/// first wave answered.
+/// Asks in the second wave the children that stretch to the sides, with the largest width of what
+/// the first wave answered.
 pub fn limit_wave_two(
     alloc: Global,
     kids: &List<KidPull>,

@@ -40,8 +40,8 @@ pub fn sub(
     }
 }
 
-/// A base with a superscript (MathML Core 3.4.1.3, "Base with superscript"). `cramped` says that the
-/// style of the element is.
+/// A base with a superscript (MathML Core 3.4.1.3, "Base with superscript"). `cramped` says that
+/// the style of the element is.
 pub fn sup(
     base: &MathBox,
     large: bool,
@@ -124,7 +124,8 @@ fn sub_start(
     requires sub_fits { IsStored sub.now }
     requires down_in { IsWithin (2 ^ 40) down }
     requires from { AreInked (length metrics.now.glyphs) from.now }
-    ensures value { result ≡ sub_x_of base.now large +ℤ sub_kern_of metrics.now from.now base.now sub.now down }
+    ensures value { result ≡ sub_x_of base.now large
+        +ℤ sub_kern_of metrics.now from.now base.now sub.now down }
     ensures within { IsWithin (2 ^ 34) result }
 {
     sub_x(base, large) + sub_kern(from, base, sub, down, metrics)
@@ -143,7 +144,8 @@ fn sup_start(
     requires sup_fits { IsStored sup.now }
     requires up_in { IsWithin (2 ^ 40) up }
     requires from { AreInked (length metrics.now.glyphs) from.now }
-    ensures value { result ≡ sup_x_of base.now large +ℤ sup_kern_of metrics.now from.now base.now sup.now up }
+    ensures value { result ≡ sup_x_of base.now large
+        +ℤ sup_kern_of metrics.now from.now base.now sup.now up }
     ensures within { IsWithin (2 ^ 34) result }
 {
     sup_x(base, large) + sup_kern(from, base, sup, up, metrics)
@@ -163,8 +165,8 @@ fn sub_x(base: &MathBox, large: bool) -> i64
     }
 }
 
-/// Where a superscript begins without kerns: behind the base and what it leans, which the width of a large operator
-/// holds already.
+/// Where a superscript begins without kerns: behind the base and what it leans, which the width of
+/// a large operator holds already.
 #[tactic(auto, using(fixed_units::proofs::Signed::from_bits), unfolding(crate::specs::Beside::sup_x_of))]
 fn sup_x(base: &MathBox, large: bool) -> i64
     requires { IsStored base.now }

@@ -8,10 +8,11 @@
 //! - Models: MathML Core 3.4.1, "Subscripts and Superscripts", and 3.4.2, "Underscripts and
 //!   Overscripts"; the constants are those of OpenType MATH.
 //! - Proved: each call is its definition (`specs/Beside.antt`, `specs/Limits.antt`,
-//!   `specs/Questions.antt`), exactly; the ink of two scripts keeps its least gap, limits keep theirs
-//!   and stand inside their box (`laws`). `sub`, `sup`, `sub_sup` and `under_over` take no memory.
-//! - Knows nothing of: trees, styles, other elements. It sees boxes and numbers. How far scripts and
-//!   limits move up and down is found apart from where they stand along the line.
+//!   `specs/Questions.antt`), exactly; the ink of two scripts keeps its least gap, limits keep
+//!   theirs and stand inside their box (`laws`). `sub`, `sup`, `sub_sup` and `under_over` take no
+//!   memory.
+//! - Knows nothing of: trees, styles, other elements. It sees boxes and numbers. How far scripts
+//!   and limits move up and down is found apart from where they stand along the line.
 //! - Change how kerns at corners count: `specs/Kerns.antt`, then `src/kerns.rt`.
 //! - Change a shift: `specs/Shifts.antt`, then `src/shifts.rt`, then `rt check`; of a limit:
 //!   `specs/LimitGaps.antt`, then `src/spacing.rt`.

@@ -35,8 +35,8 @@ pub fn under_over(
     limits(base, extent, under, over)
 }
 
-/// A limit before the least start is known: where it begins, how far its baseline lies above that of
-/// the base, and its box as it counts there.
+/// A limit before the least start is known: where it begins, how far its baseline lies above that
+/// of the base, and its box as it counts there.
 #[derive(Clone, Copy, Debug)]
 pub struct Placed {
     pub x: i64,
@@ -65,7 +65,8 @@ fn under_if(
     requires under_fits { IfSome under IsStored }
     requires size_low { pos 0 ≤ℤ size }
     requires size_high { size ≤ℤ pos (2 ^ 20) }
-    ensures value { result ≡ placed_if (λ part. under_limit_of metrics.now base.now part case accent size) under }
+    ensures value { result ≡ placed_if
+        (λ part. under_limit_of metrics.now base.now part case accent size) under }
     ensures within { IfSome result (IsPlacedWithin (2 ^ 36)) }
 {
     match under {
@@ -87,7 +88,8 @@ fn over_if(
     requires over_fits { IfSome over IsStored }
     requires size_low { pos 0 ≤ℤ size }
     requires size_high { size ≤ℤ pos (2 ^ 20) }
-    ensures value { result ≡ placed_if (λ part. over_limit_of metrics.now base.now part case accent size) over }
+    ensures value { result ≡ placed_if
+        (λ part. over_limit_of metrics.now base.now part case accent size) over }
     ensures within { IfSome result (IsPlacedWithin (2 ^ 36)) }
 {
     match over {

@@ -1,8 +1,8 @@
 use fixed_units::MathBox;
 use font_metrics::{Corner, GlyphId};
 
-/// Where a part stands in the box of its parent, in units (1/1024 px): `x` from the box's start to the
-/// part's, `y` from baseline to baseline, downward.
+/// Where a part stands in the box of its parent, in units (1/1024 px): `x` from the box's start to
+/// the part's, `y` from baseline to baseline, downward.
 #[derive(Clone, Copy, Debug, PartialEq, Eq)]
 pub struct Spot {
     pub x: i64,
@@ -26,8 +26,8 @@ pub struct Inked {
     pub size: i64,
 }
 
-/// The corners whose kerns move scripts: those of the base toward each script, and those of the scripts
-/// toward the base. One that isn't there counts 0.
+/// The corners whose kerns move scripts: those of the base toward each script, and those of the
+/// scripts toward the base. One that isn't there counts 0.
 #[derive(Clone, Copy, Debug, PartialEq, Eq)]
 pub struct KernFrom {
     pub base_sub: Option<Inked>,
@@ -44,7 +44,8 @@ pub const NO_CORNERS: KernFrom = KernFrom {
     sup: None,
 };
 
-/// How far the baseline of superscripts lies above that of the base, and that of subscripts below it.
+/// How far the baseline of superscripts lies above that of the base, and that of subscripts below
+/// it.
 #[derive(Clone, Copy, Debug)]
 pub struct Shifts {
     pub up: i64,

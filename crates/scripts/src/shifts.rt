@@ -9,8 +9,8 @@ use crate::parts::Shifts;
 use fixed_units::MathBox;
 use font_metrics::Metrics;
 
-/// How far a subscript is moved down (MathML Core 3.4.1.2): the usual shift, or more, so that its ink
-/// reaches not too far up, and its baseline lies far enough below the ink of the base.
+/// How far a subscript is moved down (MathML Core 3.4.1.2): the usual shift, or more, so that its
+/// ink reaches not too far up, and its baseline lies far enough below the ink of the base.
 pub fn sub_shift(font: &SubLengths, base: &MathBox, sub: &MathBox) -> i64
     requires font_in { AreSubLengthsWithin (2 ^ 32) font.now }
     requires base_fits { IsStored base.now }
@@ -23,8 +23,8 @@ pub fn sub_shift(font: &SubLengths, base: &MathBox, sub: &MathBox) -> i64
         .max(font.drop_min + base.ink_descent)
 }
 
-/// How far a superscript is moved up (MathML Core 3.4.1.3): the usual shift, or more, so that its ink
-/// reaches not too far down, and its baseline lies high enough up the ink of the base.
+/// How far a superscript is moved up (MathML Core 3.4.1.3): the usual shift, or more, so that its
+/// ink reaches not too far down, and its baseline lies high enough up the ink of the base.
 pub fn sup_shift(font: &SupLengths, base: &MathBox, sup: &MathBox) -> i64
     requires font_in { AreSupLengthsWithin (2 ^ 32) font.now }
     requires base_fits { IsStored base.now }
@@ -64,8 +64,8 @@ pub fn pair_shifts(
     )
 }
 
-/// Moves scripts apart, so that there is the least gap between their ink: the superscript up as far as
-/// it may be, and the subscript down for the rest.
+/// Moves scripts apart, so that there is the least gap between their ink: the superscript up as far
+/// as it may be, and the subscript down for the rest.
 fn moved_apart(font: &PairLengths, shifts: &Shifts, sub: &MathBox, sup: &MathBox) -> Shifts
     requires font_in { ArePairLengthsWithin (2 ^ 32) font.now }
     requires shifts_in { AreShiftsWithin (2 ^ 34) shifts.now }

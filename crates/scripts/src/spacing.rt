@@ -8,8 +8,8 @@ use font_metrics::{ConstName, Metrics};
 /// What keeps a limit and its base apart at one size, in units.
 #[derive(Clone, Copy, Debug)]
 pub enum Gap {
-    /// A limit of a large operator: how far its baseline lies at least beyond the ink of the base, and
-    /// the least gap between their ink.
+    /// A limit of a large operator: how far its baseline lies at least beyond the ink of the base,
+    /// and the least gap between their ink.
     Limit { rise: i64, least: i64 },
     /// A limit of a base that stretches: its usual shift, and the least gap between their ink.
     Stack { shift: i64, least: i64 },
@@ -82,8 +82,8 @@ impl Gap {
         }
     }
 
-    /// How far the baseline of the limit lies from that of the base. Both inks are measured toward the
-    /// other one.
+    /// How far the baseline of the limit lies from that of the base. Both inks are measured toward
+    /// the other one.
     #[tactic(auto, using(fixed_units::proofs::Signed::from_bits), unfolding(crate::specs::LimitGaps::distance_of))]
     pub fn distance(self, base_ink: i64, limit_ink: i64) -> i64
         requires gap_in { IsGapWithin (2 ^ 32) self }

@@ -44,15 +44,15 @@ pub record IsLeastFree (taken : ℕ → Bool) (from column : ℕ) : Type 0 where
   pub passed : (k : ℕ) → from ≤ k → k < column → taken k ≡ true
   pub free : taken column ≡ false
 
--- that column, where at most `count` columns from `from` on are looked at: the one behind these counts
--- as free
+-- that column, where at most `count` columns from `from` on are looked at: the one behind these
+-- counts as free
 abbrev pub first_free_of : (ℕ → Bool) → ℕ → ℕ → ℕ
 first_free_of taken from zero = from
 first_free_of taken from (suc count) =
     if taken from then first_free_of taken (from + 1) count else from
 
--- the first columns of a row's cells: each the least that is after its predecessor's last column and
--- isn't taken. No column from `count` on is taken
+-- the first columns of a row's cells: each the least that is after its predecessor's last column
+-- and isn't taken. No column from `count` on is taken
 abbrev pub firsts_along : (ℕ → Bool) → ℕ → ℕ → List SpanCell → List ℕ
 firsts_along taken count from [] = []
 firsts_along taken count from (cell ∷ cells) =

@@ -45,10 +45,13 @@ fn row_firsts(
     covers: &mut Vec<Cover>,
 ) -> Result<List<u32>, Memory>
     requires row_in { row < 65_536 }
-    requires room { length covers.old.items + most_columns * length cells.now ≤ most_columns * most_cells }
+    requires room { length covers.old.items + most_columns * length cells.now
+        ≤ most_columns * most_cells }
     requires spans { All HasSpan cells.now }
     requires sound { IsSound covers.old.items }
-    ensures done { IfOk result (λ firsts. IsRowDone row cells.now (untils covers.old.items) (untils covers.new.items) firsts) }
+    ensures done { IfOk result
+        (λ firsts. IsRowDone row cells.now (untils covers.old.items) (untils covers.new.items)
+        firsts) }
     ensures sound { OnOk result (IsSound covers.new.items) }
 {
     let mut firsts = List::make(alloc);
@@ -111,7 +114,8 @@ fn cover_columns(covers: &mut Vec<Cover>, first: usize, end: usize, row: u32) ->
     requires end_in { end ≤ 2 ^ 23 }
     requires from_in { first ≤ length covers.old.items }
     requires sound { IsSound covers.old.items }
-    ensures covered { OnOk result (IsCovered (untils covers.old.items) (untils covers.new.items) first end row) }
+    ensures covered { OnOk result
+        (IsCovered (untils covers.old.items) (untils covers.new.items) first end row) }
     ensures sound { OnOk result (IsSound covers.new.items) }
 {
     add_columns(covers, end)?;
@@ -121,7 +125,8 @@ fn cover_columns(covers: &mut Vec<Cover>, first: usize, end: usize, row: u32) ->
 
 /// Adds free columns up to `end`, where there are fewer.
 fn add_columns(covers: &mut Vec<Cover>, end: usize) -> Result<(), Memory>
-    ensures { OnOk result (covers.new.items ≡ covers.old.items ++ replicate (end - length covers.old.items) free) }
+    ensures { OnOk result (covers.new.items
+        ≡ covers.old.items ++ replicate (end - length covers.old.items) free) }
 {
     if covers.len() < end {
         covers.resize(end, FREE)?;

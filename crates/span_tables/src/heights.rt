@@ -82,7 +82,9 @@ fn lack_below(heights: &[RowHeight], row: usize, end: usize, descent: i64) -> i6
     requires few { end ≤ row + 1_000 }
     requires inside { end ≤ length heights.now }
     requires descent_in { IsWithin farthest descent }
-    ensures value { result ≡ descent -ℤ ((height_at heights.now row).descent +ℤ height_over heights.now (row + 1) (end - (row + 1))) }
+    ensures value { result ≡ descent
+        -ℤ ((height_at heights.now row).descent
+        +ℤ height_over heights.now (row + 1) (end - (row + 1))) }
     ensures within { IsWithin (2 ^ 54) result }
 {
     descent - (heights[row].descent + height_over(heights, row + 1, end - (row + 1)))

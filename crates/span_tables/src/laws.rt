@@ -16,8 +16,8 @@ ghost use Rattle.span_tables.specs.Slots.{slots_of, AreInside};
 ghost use Rattle.span_tables.specs.Standing.{stand_rows, first_columns_of};
 ghost use Rattle.span_tables.specs.Widths.{width_over, shared, span_columns_of};
 
-/// Each cell begins in the least column that is after its predecessor's last one and that no cell of
-/// an earlier row covers. So none begins under a cell of an earlier row.
+/// Each cell begins in the least column that is after its predecessor's last one and that no cell
+/// of an earlier row covers. So none begins under a cell of an earlier row.
 pub fn cells_stand_where_columns_are_free()
     ensures { (rows : List (List SpanCell)) → StandWhereFree rows (first_columns_of rows) }
 {}

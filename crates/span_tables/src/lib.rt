@@ -2,9 +2,9 @@
 //! are, and which part of its row a cell may fill.
 //!
 //! `span_of` reads an attribute, `first_columns` finds where each cell begins, `span_columns` the
-//! widths of columns, `row_height` and `span_heights` the heights of rows; `slots_of_row` says where
-//! in its row each cell has its place. No cell spans more than 64 columns or 1000 rows, and a table
-//! has at most 65,536 cells, so it has at most 2^22 columns.
+//! widths of columns, `row_height` and `span_heights` the heights of rows; `slots_of_row` says
+//! where in its row each cell has its place. No cell spans more than 64 columns or 1000 rows, and a
+//! table has at most 65,536 cells, so it has at most 2^22 columns.
 //!
 //! - Models: MathML Core 3.5.3, "Entry in Table or Matrix", which gives a cell the spans of HTML;
 //!   where cells stand, how what a cell lacks is shared, and the limits are this project's own.

@@ -78,7 +78,9 @@ by_name kind style = style
 -- own choice: no depth is below 0 or above 15
 unfoldable pub by_level : ℕ → List Attribute → Style → Style
 by_level parent_depth attributes style = record style {
-  depth = min 15 (unwrap_or (option_and_then (level_of parent_depth) (value_of (codes "scriptlevel") attributes)) style.depth);
+  depth = min 15 (unwrap_or
+      (option_and_then (level_of parent_depth) (value_of (codes "scriptlevel") attributes))
+      style.depth);
 }
 
 -- HTML's `dir`
@@ -89,7 +91,8 @@ by_direction attributes style = record style {
 
 unfoldable pub by_display : List Attribute → Style → Style
 by_display attributes style = record style {
-  display = unwrap_or (option_and_then truth_of_word (value_of (codes "displaystyle") attributes)) style.display;
+  display = unwrap_or (option_and_then truth_of_word (value_of (codes "displaystyle") attributes))
+      style.display;
 }
 
 -- a length that isn't negative as it is written

@@ -19,14 +19,25 @@ by_attributes m parent attributes style =
 
 -- 16 px at depth 0, neither in display style nor cramped, from left to right
 abbrev pub initial : Style
-initial = record { base = pos 16384; base_depth = 0; depth = 0; display = false; cramped = false; rtl = false }
+initial = record {
+  base = pos 16384;
+  base_depth = 0;
+  depth = 0;
+  display = false;
+  cramped = false;
+  rtl = false;
+}
 
 -- whether the root is a formula of its own
 abbrev pub is_block : List Attribute → Bool
-is_block attributes = unwrap_or (option_map (λ value. is_word value (codes "block")) (value_of (codes "display") attributes)) false
+is_block attributes = unwrap_or
+    (option_map (λ value. is_word value (codes "block")) (value_of (codes "display") attributes))
+    false
 
 unfoldable pub root_style_of : MetricsValue → Head → Style
-root_style_of m root = by_attributes m initial root.attributes (record initial { display = is_block root.attributes })
+root_style_of m root = by_attributes m initial root.attributes
+    (record initial { display = is_block root.attributes })
 
 unfoldable pub child_style_of : MetricsValue → Style → Place → Head → Style
-child_style_of m parent place child = by_attributes m parent child.attributes (by_name child.kind (by_place place parent))
+child_style_of m parent place child = by_attributes m parent child.attributes
+    (by_name child.kind (by_place place parent))

@@ -13,7 +13,8 @@ use math_tree::Attributes;
 
 /// The truth value that `displaystyle` gives.
 pub fn displaystyle(attributes: &Attributes) -> Option<bool>
-    ensures { result ≡ option_and_then truth_of_word (value_of (codes "displaystyle") attributes.now) }
+    ensures { result ≡ option_and_then truth_of_word
+        (value_of (codes "displaystyle") attributes.now) }
 {
     truth_of_word(attributes.get("displaystyle")?)
 }

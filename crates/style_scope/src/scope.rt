@@ -79,7 +79,8 @@ fn sized(metrics: &Metrics, parent: &Style, length: LengthText, style: Style) ->
     requires length_in { IsWithin (10 ^ 15) length.millionths }
     requires length_low { pos 0 ≤ℤ length.millionths }
     requires style { IsStyle style }
-    ensures value { result ≡ by_size metrics.now (size_of metrics.now parent.now) (Some length) style }
+    ensures value { result ≡ by_size metrics.now (size_of metrics.now parent.now) (Some length)
+        style }
     ensures style { IsStyle result }
 {
     let size = font_size(parent, metrics).unwrap_or(0);

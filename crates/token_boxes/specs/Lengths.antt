@@ -31,4 +31,5 @@ length_in m size percent_of name attributes =
     option_map (at_size m size percent_of) (length_named name attributes)
 
 unfoldable pub absolute_in : MetricsValue → ℤ → List ℕ → List Attribute → Option ℤ
-absolute_in m size name attributes = option_map (at_size m size (pos 0)) (absolute_named name attributes)
+absolute_in m size name attributes = option_map (at_size m size (pos 0))
+    (absolute_named name attributes)

@@ -21,8 +21,8 @@ pub record Alphabet : Type 0 where
 abbrev alphabet : ℕ → ℕ → ℕ → Alphabet
 alphabet first last italic = record { first = first; last = last; italic = italic }
 
--- MathML Core C.1, "italic mapping". The italic h is the Planck constant, which was there before the
--- others; there is no capital letter between rho and sigma.
+-- MathML Core C.1, "italic mapping". The italic h is the Planck constant, which was there before
+-- the others; there is no capital letter between rho and sigma.
 abbrev pub alphabets : List Alphabet
 alphabets =
     alphabet 0x68 0x68 0x210E  -- h
@@ -49,7 +49,8 @@ italic_of letter = italic_in alphabets letter
 -- `normal` is the only value of `mathvariant` that counts
 abbrev pub is_upright : List Attribute → Bool
 is_upright attributes =
-    option_map_or (λ value. is_word value (codes "normal")) (value_of (codes "mathvariant") attributes) false
+    option_map_or (λ value. is_word value (codes "normal"))
+    (value_of (codes "mathvariant") attributes) false
 
 abbrev pub is_identifier : Kind → Bool
 is_identifier Mi = true
@@ -84,4 +85,5 @@ is_token other = false
 
 -- the one character that a token shows, where it shows just one
 abbrev pub shown_letter : Head → Option ℕ
-shown_letter head = if is_token head.kind then option_map (slanted head) (lone (letters_of head)) else None
+shown_letter head = if is_token head.kind then option_map (slanted head) (lone (letters_of head))
+    else None

@@ -50,7 +50,8 @@ largest_size = pos (2 ^ 28)
 -- by default, and as 100%, that of the glyph as it is; never below 0
 unfoldable pub least_of : MetricsValue → ℤ → List Attribute → ℤ → ℤ
 least_of m size attributes reach =
-    int_min (int_max (unwrap_or (length_in m size reach (codes "minsize") attributes) reach) (pos 0)) largest_size
+    int_min (int_max (unwrap_or (length_in m size reach (codes "minsize") attributes) reach)
+    (pos 0)) largest_size
 
 -- where there is one; never below the least
 unfoldable pub most_of : MetricsValue → ℤ → List Attribute → ℤ → ℤ → Option ℤ
@@ -86,7 +87,8 @@ unfoldable pub span_of : MetricsValue → ℤ → List Attribute → Bool → Ax
 span_of m size attributes symmetric axis pull letter =
     let reach = reach_at m (place_of_letter m letter) axis size in
     let least = least_of m size attributes reach in
-    target_of pull symmetric least (most_of m size attributes reach least) (constant_of m AxisHeight size)
+    target_of pull symmetric least (most_of m size attributes reach least)
+    (constant_of m AxisHeight size)
 
 -- upward and downward: its middle comes to be that of what it covers
 unfoldable pub upward : MetricsValue → ℤ → ℕ → Span → Drawn
@@ -119,14 +121,17 @@ lone_operator m size attributes properties display Free letter =
     if properties.largeop && display then large m size properties.symmetric letter
     else lone_letter m size letter
 lone_operator m size attributes properties display (Block ascent descent) letter =
-    upward m size letter (span_of m size attributes properties.symmetric Upward (Block ascent descent) letter)
+    upward m size letter (span_of m size attributes properties.symmetric Upward
+    (Block ascent descent) letter)
 lone_operator m size attributes properties display (Inline width) letter =
-    sideways m size letter (span_of m size attributes properties.symmetric Sideways (Inline width) letter)
+    sideways m size letter (span_of m size attributes properties.symmetric Sideways (Inline width)
+    letter)
 
 -- any other text is a token's
 abbrev pub unspaced_leaf : MetricsValue → ℤ → Head → Properties → Bool → Pull → Leaf
 unspaced_leaf m size head properties display pull =
-    option_map_or (λ letter. leaf_of (lone_operator m size head.attributes properties display pull letter))
+    option_map_or (λ letter. leaf_of
+    (lone_operator m size head.attributes properties display pull letter))
     (lone (letters_of head)) (word_leaf m size (letters_of head))
 
 abbrev pub spaced : MetricsValue → ℤ → List Attribute → Properties → Leaf → Leaf
@@ -138,7 +143,8 @@ spaced m size attributes properties leaf = record leaf {
 unfoldable pub operator_of : MetricsValue → Head → Core → Style → ℤ → Form → Pull → Leaf
 operator_of m head core style size form pull =
     let properties = properties_at core form m.operators in
-    spaced m size head.attributes properties (unspaced_leaf m size head properties style.display pull)
+    spaced m size head.attributes properties
+    (unspaced_leaf m size head properties style.display pull)
 
 -- ---- what is asked
 

@@ -10,7 +10,8 @@ use Rattle.token_boxes.specs.Lengths.{absolute_in}
 -- what an attribute gives, by default 0; own choice: a percentage counts as absent, and less than
 -- nothing as nothing
 unfoldable pub side_of : MetricsValue → Head → List ℕ → ℤ → ℤ
-side_of m head name size = int_max (unwrap_or (absolute_in m size name head.attributes) (pos 0)) (pos 0)
+side_of m head name size = int_max (unwrap_or (absolute_in m size name head.attributes) (pos 0))
+    (pos 0)
 
 -- it has no ink, and reaches as far as if it had
 unfoldable pub space_of : MetricsValue → Head → ℤ → MathBox

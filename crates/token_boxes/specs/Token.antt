@@ -49,7 +49,8 @@ lone_letter m size letter = record {
 
 -- what characters take along the line
 unfoldable pub width_of : MetricsValue → ℤ → List ℕ → ℤ
-width_of m size letters = fold (λ width letter. width +ℤ (letter_frame m size letter).width) (pos 0) letters
+width_of m size letters = fold (λ width letter. width
+    +ℤ (letter_frame m size letter).width) (pos 0) letters
 
 -- the ink of all characters on one baseline; none without any
 unfoldable pub inks_of : MetricsValue → ℤ → List ℕ → Option MathBox
@@ -58,7 +59,8 @@ inks_of m size letters = reduce joined (map (letter_frame m size) letters)
 -- the character at a place stands behind those before it
 abbrev pub mark_at : MetricsValue → ℤ → List ℕ → ℕ → Mark
 mark_at m size letters place =
-    Glyph (width_of m size (take place letters)) (pos 0) size (glyph_of m (slice_index_or letters place 0))
+    Glyph (width_of m size (take place letters)) (pos 0) size
+    (glyph_of m (slice_index_or letters place 0))
 
 unfoldable pub marks_of : MetricsValue → ℤ → List ℕ → List Mark
 marks_of m size letters = list_to (length letters) (mark_at m size letters)
@@ -78,14 +80,16 @@ word_frame_of m size inks width = record {
 -- without a character there is nothing, not even a line
 unfoldable pub word_leaf : MetricsValue → ℤ → List ℕ → Leaf
 word_leaf m size letters =
-    option_map_or (λ inks. leaf (word_frame_of m size inks (width_of m size letters)) (marks_of m size letters))
+    option_map_or (λ inks. leaf (word_frame_of m size inks (width_of m size letters))
+    (marks_of m size letters))
     (inks_of m size letters) (leaf empty_box [])
 
 -- ---- the token
 
 unfoldable pub token_of : MetricsValue → Head → ℤ → Leaf
 token_of m head size =
-    option_map_or (λ letter. leaf_of (lone_letter m size (slanted head letter))) (lone (letters_of head))
+    option_map_or (λ letter. leaf_of (lone_letter m size (slanted head letter)))
+    (lone (letters_of head))
     (word_leaf m size (letters_of head))
 
 -- the glyph of a token that shows one character
@@ -112,7 +116,8 @@ also_inked None frame = frame
 also_inked (Some inks) frame = joined inks frame
 
 -- so far it is exact, or too wide already
-pub record IsWord (m : MetricsValue) (size : ℤ) (letters : List ℕ) (width : ℤ) (inks : Option MathBox) (marks : List Mark) : Type 0 where
+pub record IsWord (m : MetricsValue) (size : ℤ) (letters : List ℕ) (width : ℤ)
+    (inks : Option MathBox) (marks : List Mark) : Type 0 where
   pub wide : pos 0 ≤ℤ width_of m size letters
   pub width_is : width ≡ int_min (width_of m size letters) (far +ℤ pos 1)
   pub inks_are : inks ≡ inks_of m size letters

@@ -31,7 +31,8 @@ fn is_upright(attributes: &Attributes) -> bool
     }
 }
 
-/// The italic form of a letter, or the letter where it has none (MathML Core C.1, "italic mapping").
+/// The italic form of a letter, or the letter where it has none (MathML Core C.1, "italic
+/// mapping").
 #[tactic(auto, unfolding(crate::specs::Letters::italic_of))]
 fn italic(letter: char) -> char
     ensures { result ≡ italic_of letter }

@@ -16,7 +16,8 @@ ghost use Rattle.token_boxes.specs.Token.{IsLeaf, far, width_of};
 /// box that can be stored. So it is the same to test the one or the other.
 pub fn what_can_be_stored_is_exact()
     ensures made { (exact leaf : Leaf) → IsLeaf exact leaf → IsStored leaf.frame → leaf ≡ exact }
-    ensures defined { (exact leaf : Leaf) → IsLeaf exact leaf → IsStored exact.frame → leaf ≡ exact }
+    ensures defined { (exact leaf : Leaf) → IsLeaf exact leaf → IsStored exact.frame
+        → leaf ≡ exact }
 {}
 
 /// No metrics make a text of up to 2^28 characters so wide that its leaf isn't exact.

@@ -14,9 +14,9 @@ use op_dictionary::{Axis, Form, Properties};
 use std::alloc::Global;
 use style_scope::Style;
 
-/// An `mo` in a form, at a font size (MathML Core 3.2.4.3, "Layout of operators"): stretched to what
-/// pulls it, or large in display style, where its text is one character; else like a token. Its
-/// spaces stand beside its box. `core` is what its attributes say of it.
+/// An `mo` in a form, at a font size (MathML Core 3.2.4.3, "Layout of operators"): stretched to
+/// what pulls it, or large in display style, where its text is one character; else like a token.
+/// Its spaces stand beside its box. `core` is what its attributes say of it.
 #[tactic(auto, using(fixed_units::proofs::Signed::from_bits), unfolding(crate::specs::Operator::operator_of))]
 pub fn operator(
     alloc: Global,

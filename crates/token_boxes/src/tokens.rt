@@ -32,8 +32,8 @@ pub fn token(alloc: Global, head: &Head, size: i64, metrics: &Metrics) -> Result
     }
 }
 
-/// The glyph of an `mi`, `mn`, `ms` or `mtext` that shows one character; of any other element there is
-/// none. What it takes of memory it gives back.
+/// The glyph of an `mi`, `mn`, `ms` or `mtext` that shows one character; of any other element there
+/// is none. What it takes of memory it gives back.
 #[tactic(auto, using(fixed_units::proofs::Signed::from_bits), unfolding(crate::specs::Token::token_glyph_of))]
 pub fn token_glyph(alloc: Global, head: &Head, metrics: &Metrics) -> Result<Option<GlyphId>, Memory>
     ensures value { IfOk result (λ glyph. glyph ≡ token_glyph_of metrics.now head.now) }

@@ -63,7 +63,8 @@ abbrev pub inverse : TreeValue → Edit → Edit
 inverse tree (Text id text) =
     Text id (option_map_or (λ e. (head_of e).text) (element_of id.0 tree) [])
 inverse tree (Attr id name value) =
-    Attr id name (option_and_then (λ e. value_of name (head_of e).attributes) (element_of id.0 tree))
+    Attr id name (option_and_then (λ e. value_of name (head_of e).attributes)
+    (element_of id.0 tree))
 inverse tree (Insert id index element) = Remove (record { 0 = tree.next_id })
 inverse tree (Remove id) =
     option_map_or (λ c. Graft c.over c.place c.element) (child_of id.0 tree) (Remove id)
@@ -109,8 +110,8 @@ pub record IsBack (tree : TreeValue) (edit : Edit) : Type 0 where
   pub settled : added edit ≡ 0
   pub accepted : refusal_of tree edit ≡ None
 
--- the edited tree takes the inverse, which gives the elements of before, with their ids; the next id
--- stays
+-- the edited tree takes the inverse, which gives the elements of before, with their ids; the next
+-- id stays
 abbrev pub InverseLaw : Type 0
 InverseLaw =
     (tree : TreeValue) (edit : Edit) → IsWhole tree → IsProperEdit edit →

@@ -11,8 +11,8 @@ use indexmap::IndexSet;
 use math_tree::{Node, Tree};
 use std::alloc::Global;
 
-/// Whether an edit keeps an id that stands twice in the element that it brings, wasn't given yet, or
-/// is that of an element of the tree.
+/// Whether an edit keeps an id that stands twice in the element that it brings, wasn't given yet,
+/// or is that of an element of the tree.
 pub fn is_taken(alloc: Global, tree: &Tree, edit: &Edit) -> Result<bool, Memory>
     ensures { IfOk result
         (λ taken. taken ≡ is_taken edit.now tree.now.next_id (listed 1 tree.now.root)) }

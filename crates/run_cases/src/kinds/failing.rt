@@ -36,9 +36,9 @@ enum Extent {
     Other,
 }
 
-/// Adds how the runs of the program end in which the first call of a side fails, then the second, and
-/// so on, up to the first run that ends as one without failing calls: the kinds `failing_reads` and
-/// `failing_writes`.
+/// Adds how the runs of the program end in which the first call of a side fails, then the second,
+/// and so on, up to the first run that ends as one without failing calls: the kinds `failing_reads`
+/// and `failing_writes`.
 pub fn add_failing(side: Side, case: Case, words: &mut String) -> Result<(), Fault> {
     let fields = Fields::of_value(case.value, &["words", "files", "cut"])?;
     let mut command = Vec::new(case.alloc);
