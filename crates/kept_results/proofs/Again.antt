@@ -36,6 +36,8 @@ use Rattle.layout_model.proofs.Fits.{answers_are as answers_are_stored, fonts_ar
 use Rattle.layout_model.proofs.Together.{AreApart}
 use Rattle.layout_model.proofs.Waves.{all_fit}
 use Rattle.child_questions.proofs.Unstretched.{one_wave}
+use Rattle.outcome_cells.specs.Store.{StoreValue}
+use Rattle.kept_results.specs.Backed.{Grows, IsBacked}
 use Rattle.kept_results.specs.Contexts.{IsProper, Suits}
 use Rattle.kept_results.specs.Ends.{undone, undone_from}
 use Rattle.kept_results.specs.Kept.{Agrees, IsKept, IsMemoOf, IsMissing, IsSound, Keeps, NamesKept, StaysBut, is_fresh, is_live, is_marked}
@@ -52,6 +54,7 @@ use Rattle.kept_results.specs.declared.memo.Origin.TheVariants.{Standing}
 use Rattle.kept_results.specs.declared.memo.Memo.TheOpen.{Memo-F}
 use Rattle.kept_results.specs.declared.memo.Memo.TheViews.{out-Memo, out-roll-Memo, roll-Memo}
 use Rattle.kept_results.proofs.Agreement.{has_put, names_renewed, renewed}
+use Rattle.kept_results.proofs.Backed.{grows_put}
 use Rattle.kept_results.proofs.Lists.{set_back, set_here, set_other}
 use Rattle.kept_results.proofs.Passing.{fresh_live, pair_at, passes_put, passes_under, under}
 use Rattle.kept_results.proofs.Restyling.{all_at, all_named_fit, kid_stays, map_was, mapped_at, other_stays}
@@ -341,16 +344,15 @@ module _ {m : MetricsValue} {node : Node} {memo : Memo} {context : Context} {bef
       pub told_now : answers_in (set (one_at (out-Memo now) before.entry) before.child reply) ≡ set (answers_in b.entry.one) before.child answer
       told_now = ap (λ (l : List Reply). answers_in (set l before.child reply)) one_now ∙ answers_set b.entry.one before.child reply
 
-    module _ (after : Memo) (outcome : Outcome) (reply : Reply) (made : IsMadeAgain now after before outcome reply) where
+    module _ {held holds : StoreValue} (after : Memo) (outcome : Outcome) (reply : Reply) (made : IsMadeAgain now after held holds before outcome reply) where
       abbrev pub entry_made : Entry
-      entry_made = remade (turned made.entry before.child reply) outcome before.child made.had
+      entry_made = remade (turned made.entry before.child reply) made.run before.child made.had
 
       pub was_entry : made.entry ≡ b.entry
       was_entry = same_Some made.entry b.entry (sym made.at ∙ entry_now)
 
-      pub made_holds : IsEntryOf entry_made context outcome record { one = set b.entry.one before.child reply; two = []; regular = true }
+      pub made_holds : IsEntryOf entry_made context record { one = set b.entry.one before.child reply; two = []; regular = true }
       made_holds = record {
-        stores = refl;
         in_context = ap (λ (e : Entry). e.context) was_entry ∙ b.serves.in_context;
         one_is = ap (λ (e : Entry). set e.one before.child reply) was_entry;
         two_is = ap (λ (e : Entry). e.two) was_entry ∙ stays.two;
@@ -364,7 +366,7 @@ module _ {m : MetricsValue} {node : Node} {memo : Memo} {context : Context} {bef
       same_before =
           (λ i. record {
             context = made.entry.context;
-            outcome = made.entry.outcome;
+            run = made.entry.run;
             one = set_back made.entry.one before.child reply made.had made.has i;
             two = made.entry.two;
             regular = made.entry.regular;
@@ -385,6 +387,11 @@ module _ {m : MetricsValue} {node : Node} {memo : Memo} {context : Context} {bef
           subst (λ (z : Memo). Passes m node (Needs m node context) now z from to true) (sym made.changed)
           (passes_put m node (Needs m node context) now before.entry made.entry entry_made context from to agrees made.at was_older same_before sound
           (missing_again (map restyle (questions_in b.entry.one)) refl before.child new missing) made_holds.in_context refl need step)
+
+      pub grow_again : (from to : ℕ) → Agrees m node now → IsBacked m held.runs node now → outcome ≡ lay m node context → to ≡ from + 1 → Grows m node now after held holds from to true
+      grow_again from to agrees backed is step =
+          subst (λ (z : Memo). Grows m node now z held holds from to true) (sym made.changed)
+          (grows_put m node now before.entry entry_made held holds outcome from to agrees backed made.puts (is ∙ ap (lay m node) (sym made_holds.in_context)) step)
 
       pub kept_again : IsKept (out-Memo after) context
       kept_again =

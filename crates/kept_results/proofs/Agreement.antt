@@ -189,7 +189,6 @@ module _ (m : MetricsValue) where
         sound = λ entry has.
             let s = here.sound entry record { place = has.place; at = has.at; live = has.live } in
             record {
-              stores = s.stores;
               suits = s.suits;
               fits = s.fits;
               ones = s.ones;

@@ -19,14 +19,11 @@ use Rattle.layout_model.specs.declared.outcome.Outcome.{Outcome}
 use Rattle.layout_model.proofs.Made.{answer_of_child}
 use Rattle.layout_model.proofs.Whole.{lay_waves}
 use Rattle.kept_results.specs.Closed.{ClosedLaw, IsClosed, IsReached, NamesAnswer}
-use Rattle.kept_results.specs.Kept.{Stores}
+use Rattle.outcome_cells.specs.Store.{HasOutcome, Runs}
+use Rattle.outcome_cells.proofs.Found.{one_for_run}
 use Rattle.kept_results.specs.declared.memo.Entry.{Entry}
 use Rattle.kept_results.specs.declared.memo.Memo.{Memo}
 use Rattle.kept_results.specs.declared.memo.Memo.TheViews.{out-Memo}
-
--- an entry keeps one outcome
-pub stored_once : (entry : Entry) (a b : Outcome) → Stores entry a → Stores entry b → a ≡ b
-stored_once entry a b h k = sym h ∙ k
 
 first_in : {X : Type 0} (x : X) (xs : List X) → Contains (x ∷ xs) x
 first_in x xs = (0, omega arith, refl)
@@ -34,12 +31,12 @@ first_in x xs = (0, omega arith, refl)
 later_in : {X : Type 0} (x : X) (xs : List X) (y : X) → Contains xs y → Contains (x ∷ xs) y
 later_in x xs y c = Contains-append_right (x ∷ []) xs y c
 
-module _ (m : MetricsValue) where
+module _ (m : MetricsValue) (runs : Runs) where
   abbrev AllClosed : Node → Memo → Entry → Type 0
-  AllClosed node memo entry = (path : List ℕ) (element : Node) (kept : Memo) (other : Entry) → IsReached path node memo entry element kept other → IsClosed m element (out-Memo kept).below other
+  AllClosed node memo entry = (path : List ℕ) (element : Node) (kept : Memo) (other : Entry) → IsReached path node memo entry element kept other → IsClosed m runs element (out-Memo kept).below other
 
   abbrev KeepsLayouts : Node → Type 0
-  KeepsLayouts node = (memo : Memo) (entry : Entry) → AllClosed node memo entry → Stores entry (lay m node entry.context)
+  KeepsLayouts node = (memo : Memo) (entry : Entry) → AllClosed node memo entry → HasOutcome runs entry.run.0 (lay m node entry.context)
 
   module _ (node : Node) (below : AllByRecursion KeepsLayouts (out-Node node).children) where
     of_child : (child : Child) (index : ℕ) → slice_get (flow_children node) index ≡ Some child → KeepsLayouts child.node
@@ -51,18 +48,18 @@ module _ (m : MetricsValue) where
 
     module _ (memo : Memo) (entry : Entry) (closed : AllClosed node memo entry) where
       -- the answer of a question is that of the child's layout
-      answer_is : (question : Question) (answer : Answer) → Contains (questions_in entry.one ++ questions_in entry.two) question → NamesAnswer node (out-Memo memo).below question answer
+      answer_is : (question : Question) (answer : Answer) → Contains (questions_in entry.one ++ questions_in entry.two) question → NamesAnswer runs node (out-Memo memo).below question answer
           → answer ≡ answer_of m node question
       answer_is question answer asked h =
           let next = of_child h.child question.kid h.names.to h.memo h.entry
           (λ path element kept other reached. closed (h.child.place ∷ path) element kept other (question, h.child, h.memo, h.entry, asked, h.names, refl, reached)) in
-          let same : h.outcome ≡ lay m h.child.node h.entry.context = stored_once h.entry h.outcome (lay m h.child.node h.entry.context) h.stores next in
+          let same : h.outcome ≡ lay m h.child.node h.entry.context = one_for_run runs h.entry.run.0 h.outcome (lay m h.child.node h.entry.context) h.stores next in
           sym h.answers ∙ ap (λ (o : Outcome). o.answer) same
           ∙ ap (λ (c : Context). (lay m h.child.node c).answer) h.names.in_context
           ∙ sym (answer_of_child m node question h.child h.names.to)
 
       answers_are : (asks : List Question) (answers : List Answer) → ((question : Question) → Contains asks question → Contains (questions_in entry.one ++ questions_in entry.two) question)
-          → AllZip (NamesAnswer node (out-Memo memo).below) asks answers → answers ≡ map (answer_of m node) asks
+          → AllZip (NamesAnswer runs node (out-Memo memo).below) asks answers → answers ≡ map (answer_of m node) asks
       answers_are [] [] within h = refl
       answers_are [] (answer ∷ answers) within h = absurd h
       answers_are (question ∷ asks) [] within h = absurd h
@@ -71,15 +68,15 @@ module _ (m : MetricsValue) where
           ∙ ap (λ (rest : List Answer). answer_of m node question ∷ rest)
           (answers_are asks answers (λ q c. within q (later_in question asks q c)) h.1)
 
-      keeps_layout : Stores entry (lay m node entry.context)
+      keeps_layout : HasOutcome runs entry.run.0 (lay m node entry.context)
       keeps_layout =
           let own = closed [] node memo entry (refl, refl, refl) in
           let ones = answers_are (questions_in entry.one) own.one (λ q c. Contains-append_left (questions_in entry.one) (questions_in entry.two) q c) own.one_named in
           let twos = answers_are (questions_in entry.two) own.two (λ q c. Contains-append_right (questions_in entry.one) (questions_in entry.two) q c) own.two_named in
-          subst (Stores entry) (lay_waves m node node entry.context refl (questions_in entry.one) own.ones own.one ones (questions_in entry.two) own.twos own.two twos) own.stores
+          subst (HasOutcome runs entry.run.0) (lay_waves m node node entry.context refl (questions_in entry.one) own.ones own.one ones (questions_in entry.two) own.twos own.two twos) own.stores
 
   all_keep : (node : Node) → KeepsLayouts node
   all_keep = by_children KeepsLayouts keeps_layout
 
 pub closed_law : ClosedLaw
-closed_law m node memo entry closed = all_keep m node memo entry closed
+closed_law m runs node memo entry closed = all_keep m runs node memo entry closed

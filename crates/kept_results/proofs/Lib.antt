@@ -1,5 +1,6 @@
 pub mod Agreement
 pub mod Again
+pub mod Backed
 pub mod Counts
 pub mod Dropping
 pub mod Flowing

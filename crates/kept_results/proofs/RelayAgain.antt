@@ -24,6 +24,8 @@ use Rattle.layout_model.proofs.Children.{few_below, in_flow, smaller}
 use Rattle.layout_model.proofs.Replies.{answers_set, questions_set}
 use Rattle.layout_model.proofs.Waves.{broken}
 use Rattle.layout_model.proofs.Whole.{ones_false, range_waves}
+use Rattle.outcome_cells.specs.Store.{Runs, StoreValue}
+use Rattle.kept_results.specs.Backed.{Grows, IsBacked}
 use Rattle.kept_results.specs.Contexts.{Suits}
 use Rattle.kept_results.specs.Kept.{Agrees, IsKept, IsMissing, IsSound, NamesKept, is_marked}
 use Rattle.kept_results.specs.Looking.{IsEarlier, IsMadeAgain, one_at}
@@ -33,8 +35,9 @@ use Rattle.kept_results.specs.declared.earlier.Earlier.{Earlier}
 use Rattle.kept_results.specs.declared.memo.Entry.{Entry}
 use Rattle.kept_results.specs.declared.memo.Memo.{Memo}
 use Rattle.kept_results.specs.declared.memo.Memo.TheViews.{out-Memo}
-use Rattle.kept_results.proofs.Again.{asked_now, asked_there, asks_are_set, entry_made, first_is, fits_again, has_child, made_holds, missing_again, named_again, near_below, near_child, now, pass_again, proper_again, put_again, read_entry, regular_again, shown_by, sized_again, still_sized, stored_again, styles_again, told_now, was_here, waves_again}
+use Rattle.kept_results.proofs.Again.{asked_now, asked_there, asks_are_set, entry_made, first_is, fits_again, grow_again, has_child, made_holds, missing_again, named_again, near_below, near_child, now, pass_again, proper_again, put_again, read_entry, regular_again, shown_by, sized_again, still_sized, stored_again, styles_again, told_now, was_here, waves_again}
 use Rattle.kept_results.proofs.Agreement.{agrees_child}
+use Rattle.kept_results.proofs.Backed.{backed_child, grows_both, grows_step, grows_under, only_same}
 use Rattle.kept_results.proofs.Passing.{passes_both}
 use Rattle.kept_results.proofs.RelayCalls.{own_need, own_step}
 use Rattle.kept_results.proofs.Shown.{read_at}
@@ -126,6 +129,9 @@ module _ {m : MetricsValue} {node : Node} {memo : Memo} {context : Context} {bef
   pub child_agrees : Agrees m child old
   child_agrees = agrees_child m node memo before.child child old turn.agrees turn.there turn.at
 
+  pub child_backed : {runs : Runs} → IsBacked m runs node memo → IsBacked m runs child old
+  child_backed {runs} backed = backed_child m runs node memo before.child child old backed turn.there turn.at
+
   pub child_suits : Suits m child asked.context
   child_suits =
       suits_child node child asked.kid before.child node_is place_is m asked refl
@@ -141,6 +147,10 @@ module _ {m : MetricsValue} {node : Node} {memo : Memo} {context : Context} {bef
   pub passed_child : {new : Memo} {from mid : ℕ} {done : Bool} → Passes m child (Needs m child asked.context) old new from mid done
       → Passes m node (Needs m node context) memo (now turn.agrees turn.earlier new) from mid done
   passed_child {new} {from} {mid} {done} pass = pass_again turn.agrees turn.earlier asks o asked own_ask child turn.there old new turn.at pass.keeps from mid done pass
+
+  pub grown_child : {new : Memo} {held holds : StoreValue} {from mid : ℕ} {done : Bool} → IsBacked m held.runs node memo → Grows m child old new held holds from mid done
+      → Grows m node memo (now turn.agrees turn.earlier new) held holds from mid done
+  grown_child backed grows = grows_under m node memo before.child turn.agrees backed turn.there turn.at grows
 
 -- ---- the child has answered
 
@@ -223,13 +233,28 @@ module _ {m : MetricsValue} {node : Node} {memo : Memo} {context : Context} {bef
       (passes_both m (passed_child d.turn d.passed)
       (own_step agrees (missing_again d.turn.agrees d.turn.earlier (asks d.turn) (o d.turn) before.child new missing) step))
 
+  -- what was put then
+  module _ {held middle : StoreValue} (backed : IsBacked m held.runs node memo) (grows : Grows m child old new held middle from mid true) where
+    grown_now : Grows m node memo (now d.turn.agrees d.turn.earlier new) held middle from mid true
+    grown_now = grown_child d.turn backed grows
+
+    pub unkept_again : {after : Memo} {holds : StoreValue} {to : ℕ} → after ≡ now d.turn.agrees d.turn.earlier new → holds ≡ middle → Grows m node memo after held holds from to false
+    unkept_again {after} {holds} {to} same as_was =
+        subst (λ (z : Memo). Grows m node memo z held holds from to false) (sym same)
+        (grows_both m grown_now (grows_step m node (now d.turn.agrees d.turn.earlier new) middle holds mid to grown_now.backed (only_same middle holds as_was)))
+
+    pub grown_again : {after : Memo} {holds : StoreValue} {to : ℕ} → IsMadeAgain (now d.turn.agrees d.turn.earlier new) after middle holds before outcome reply → to ≡ mid + 1
+        → Grows m node memo after held holds from to true
+    grown_again {after} {holds} {to} made step =
+        grows_both m grown_now (grow_again d.turn.agrees d.turn.earlier new after outcome reply made mid to agrees grown_now.backed (outcome_is ∙ waves_lay waves) step)
+
   -- the entry is made anew
-  module _ {after : Memo} (made : IsMadeAgain (now d.turn.agrees d.turn.earlier new) after before outcome reply) (fits : outcome_fits outcome ≡ true) where
+  module _ {after : Memo} {held holds : StoreValue} (made : IsMadeAgain (now d.turn.agrees d.turn.earlier new) after held holds before outcome reply) (fits : outcome_fits outcome ≡ true) where
     sound : IsSound m node below_now (entry_made d.turn.agrees d.turn.earlier new after outcome reply made)
     sound =
-        sound_made waves below_now (entry_made d.turn.agrees d.turn.earlier new after outcome reply made) outcome true (set d.turn.earlier.entry.one before.child reply) []
+        sound_made waves below_now (entry_made d.turn.agrees d.turn.earlier new after outcome reply made) true (set d.turn.earlier.entry.one before.child reply) []
         (questions_set d.turn.earlier.entry.one before.child reply) (answers_set d.turn.earlier.entry.one before.child reply) refl refl
-        (made_holds d.turn.agrees d.turn.earlier new after outcome reply made) outcome_is d.turn.suits (fit_again fits) (styles d.turn) named tt
+        (made_holds d.turn.agrees d.turn.earlier new after outcome reply made) d.turn.suits (fit_again fits) (styles d.turn) named tt
         (λ _. regular_again d.turn.agrees d.turn.earlier (asks d.turn) (o d.turn))
 
     pub passed_again : {to : ℕ} → IsMissing (is_marked (out-Memo memo)) context (out-Memo memo).entries → to ≡ mid + 1

@@ -16,12 +16,15 @@ use Rattle.layout_model.specs.declared.reply.Reply.{Reply}
 use Rattle.layout_model.proofs.Children.{among_all, child_of, few_below, in_flow, item_of, near, smaller}
 use Rattle.layout_model.proofs.Replies.{asked_there}
 use Rattle.layout_model.proofs.Waves.{all_fit, broken, fit_more}
+use Rattle.outcome_cells.specs.Store.{Runs, StoreValue}
+use Rattle.kept_results.specs.Backed.{Grows, IsBacked}
 use Rattle.kept_results.specs.Contexts.{IsProper, Suits}
 use Rattle.kept_results.specs.Kept.{Agrees, IsKept, Keeps, NamesKept}
 use Rattle.kept_results.specs.Passes.{AnswersNeed, Needs, Passes}
 use Rattle.kept_results.specs.declared.memo.Memo.{Memo}
 use Rattle.kept_results.specs.declared.memo.Memo.TheViews.{out-Memo, roll-Memo}
 use Rattle.kept_results.proofs.Agreement.{agrees_child, renewed}
+use Rattle.kept_results.proofs.Backed.{backed_child, grows_both, grows_under}
 use Rattle.kept_results.proofs.Passing.{passes_both, passes_under}
 use Rattle.kept_results.proofs.Turns.{child_in_flow, kept_more, needed_below, suits_child, told_more}
 
@@ -74,6 +77,9 @@ module _ {m : MetricsValue} {node : Node} {asks : List Question} {index : ℕ} {
   pub kid_agrees : {memo old : Memo} → Agrees m node memo → slice_get (out-Memo memo).below place ≡ Some old → Agrees m kid old
   kid_agrees {memo} {old} agrees at = agrees_child m node memo place kid old agrees (among_all node kid question.kid place q.node_is q.place_is) at
 
+  pub kid_backed : {runs : Runs} {memo old : Memo} → IsBacked m runs node memo → slice_get (out-Memo memo).below place ≡ Some old → IsBacked m runs kid old
+  kid_backed {runs} {memo} {old} backed at = backed_child m runs node memo place kid old backed (among_all node kid question.kid place q.node_is q.place_is) at
+
   -- it is refused: so are all answers
   pub asks_unfit : in_range m kid question.context ≡ false → all_fit m node asks ≡ false
   asks_unfit bad = broken m node asks index question kid q.within q.is (in_flow node kid question.kid place q.node_is q.place_is) bad
@@ -88,6 +94,12 @@ module _ {m : MetricsValue} {node : Node} {asks : List Question} {index : ℕ} {
         passes_both m pass
         (passes_under m node memo place (AnswersNeed m node asks) pass.agrees (among_all node kid question.kid place q.node_is q.place_is) at
         (needed_below m node kid place asks index question q.within q.is to) below)
+
+  pub grow_more : {before memo old new : Memo} {held middle holds : StoreValue} {from mid end : ℕ} {done : Bool} → Agrees m node memo → Grows m node before memo held middle from mid true
+      → slice_get (out-Memo memo).below place ≡ Some old → Grows m kid old new middle holds mid end done
+      → Grows m node before (roll-Memo (renewed memo place new)) held holds from end done
+  grow_more {before} {memo} agrees grows at below =
+      grows_both m grows (grows_under m node memo place agrees grows.backed (among_all node kid question.kid place q.node_is q.place_is) at below)
 
   -- ---- and it has answered
 

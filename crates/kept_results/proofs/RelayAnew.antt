@@ -11,7 +11,7 @@ use Rattle.style_scope.specs.Sizes.{size_of}
 use Rattle.layout_model.specs.Answers.{answers_in, questions_in}
 use Rattle.layout_model.specs.Fits.{AreAnswers, HasFont, HasStyle, RepliesAll}
 use Rattle.layout_model.specs.Laws.{answer_of}
-use Rattle.layout_model.specs.Layout.{equation, in_range}
+use Rattle.layout_model.specs.Layout.{equation, in_range, lay}
 use Rattle.layout_model.specs.Questions.{first, second}
 use Rattle.layout_model.specs.Range.{is_font_size, outcome_fits}
 use Rattle.layout_model.specs.declared.context.Context.{Context}
@@ -22,6 +22,8 @@ use Rattle.layout_model.specs.declared.reply.Reply.{Reply}
 use Rattle.layout_model.proofs.Fits.{answers_are, fonts_are}
 use Rattle.layout_model.proofs.Waves.{all_fit}
 use Rattle.layout_model.proofs.Whole.{ones_apart, ones_below, ones_false, range_waves, twos_apart, twos_below, twos_false}
+use Rattle.outcome_cells.specs.Store.{StoreValue}
+use Rattle.kept_results.specs.Backed.{Grows, OnlyGrows}
 use Rattle.kept_results.specs.Contexts.{IsProper, Suits}
 use Rattle.kept_results.specs.Kept.{IsKept, IsMissing, IsSound, NamesKept, is_fresh_from, is_marked}
 use Rattle.kept_results.specs.Looking.{IsKeptNow}
@@ -33,11 +35,12 @@ use Rattle.kept_results.specs.declared.memo.Former.{Former}
 use Rattle.kept_results.specs.declared.memo.Memo.{Memo}
 use Rattle.kept_results.specs.declared.memo.Memo.TheViews.{out-Memo}
 use Rattle.kept_results.proofs.Agreement.{has_added}
+use Rattle.kept_results.proofs.Backed.{grows_added, grows_both, grows_step}
 use Rattle.kept_results.proofs.Lists.{all_then}
 use Rattle.kept_results.proofs.Passing.{fresh_live, passes_both}
 use Rattle.kept_results.proofs.RelayCalls.{own_entry, own_step}
 use Rattle.kept_results.proofs.Tidying.{tidy_added}
-use Rattle.kept_results.proofs.Turns.{Waves, missing_same, names_still, ones_proper, pass_ones, pass_twos, sound_made, twos_proper, waves_fit}
+use Rattle.kept_results.proofs.Turns.{Waves, missing_same, names_still, ones_proper, pass_ones, pass_twos, sound_made, twos_proper, waves_fit, waves_lay}
 
 -- ---- the first wave
 
@@ -106,6 +109,18 @@ module _ {m : MetricsValue} {node shown : Node} {context : Context} {ones twos :
 
 -- ---- both are answered
 
+-- what both waves put is what one pass for the element puts
+module _ {m : MetricsValue} {node : Node} {memo mid after : Memo} {held middle holds : StoreValue} {from at to : ℕ}
+    (one : Grows m node memo mid held middle from at true) (two : Grows m node mid after middle holds at to true) where
+  pub grown_waves : Grows m node memo after held holds from to true
+  grown_waves = grows_both m one two
+
+  -- one step more, and nothing is kept
+  pub unkept_anew : {last : Memo} {put : StoreValue} {end : ℕ} → last ≡ after → OnlyGrows holds put → Grows m node memo last held put from end false
+  unkept_anew {last} {put} {end} same only =
+      subst (λ (z : Memo). Grows m node memo z held put from end false) (sym same)
+      (grows_both m grown_waves (grows_step m node after holds put to end two.backed only))
+
 -- the replies to a wave, and what asking it kept
 pub record Told (m : MetricsValue) (node : Node) (asks : List Question) (replies : List Reply) (before after : Memo) (from to : ℕ) : Type 0 where
   pub passed : Passes m node (AnswersNeed m node asks) before after from to true
@@ -169,7 +184,7 @@ module _ {m : MetricsValue} {node shown : Node} {context : Context} {ones twos :
       (passes_both m both (own_step both.agrees (still_missing missing) step))
 
   -- its outcome is kept
-  module _ {last : Memo} {outcome : Outcome} {regular : Bool} (kept : IsKeptNow after last context outcome record { one = said; two = told; regular = regular })
+  module _ {last : Memo} {holds put : StoreValue} {outcome : Outcome} {regular : Bool} (kept : IsKeptNow after last holds put context outcome record { one = said; two = told; regular = regular })
       (made : outcome ≡ equation m (seen_of shown) context (answers_in said) (answers_in told)) (fits : in_range m node context ≡ true)
       (is_regular : regular ≡ true → IsRegular m shown context (questions_in said)) where
     regular_still : regular ≡ true → IsRegular m node context ones
@@ -180,7 +195,7 @@ module _ {m : MetricsValue} {node shown : Node} {context : Context} {ones twos :
 
     sound : IsSound m node (out-Memo after).below kept.entry
     sound =
-        sound_made waves (out-Memo after).below kept.entry outcome regular said told d.one.asked refl d.two.asked refl kept.holds made d.asked.ahead.suits fits d.asked.ahead.styles
+        sound_made waves (out-Memo after).below kept.entry regular said told d.one.asked refl d.two.asked refl kept.holds d.asked.ahead.suits fits d.asked.ahead.styles
         named d.two.kept regular_still
 
     pub passed_anew : {end : ℕ} → IsMissing (is_marked (out-Memo memo)) context (out-Memo memo).entries → end ≡ to + 1
@@ -189,8 +204,14 @@ module _ {m : MetricsValue} {node shown : Node} {context : Context} {ones twos :
         subst (λ (z : Memo). Passes m node (Needs m node context) memo z from end true) (sym kept.added)
         (passes_both m both (own_entry both.agrees (still_missing missing) step kept.entry sound kept.holds.in_context kept.made))
 
+    pub grown_anew : {held : StoreValue} {end : ℕ} → Grows m node memo after held holds from to true → end ≡ to + 1 → Grows m node memo last held put from end true
+    grown_anew {held} {end} grows step =
+        subst (λ (z : Memo). Grows m node memo z held put from end true) (sym kept.added)
+        (grows_both m grows (grows_added m node after kept.entry holds put outcome to end both.agrees grows.backed kept.puts
+        (made ∙ waves_lay waves ∙ ap (lay m node) (sym kept.holds.in_context)) step))
+
 -- what it leaves, then
-module _ {after last : Memo} {context : Context} {outcome : Outcome} {asked : Asked} (kept : IsKeptNow after last context outcome asked) where
+module _ {after last : Memo} {holds put : StoreValue} {context : Context} {outcome : Outcome} {asked : Asked} (kept : IsKeptNow after last holds put context outcome asked) where
   pub kept_anew : IsKept (out-Memo last) context
   kept_anew =
       let live = fresh_live (is_marked (out-Memo after)) kept.entry (ap is_fresh_from kept.made) in

@@ -5,6 +5,8 @@ use Rattle.font_metrics.specs.Metrics.{MetricsValue}
 use Rattle.math_tree.specs.declared.node.Node.{Node}
 use Rattle.layout_model.specs.declared.context.Context.{Context}
 use Rattle.layout_model.specs.declared.outcome.Answer.{Answer}
+use Rattle.outcome_cells.specs.Store.{StoreValue}
+use Rattle.kept_results.specs.Backed.{Grows, IsBacked}
 use Rattle.kept_results.specs.Kept.{Agrees, IsMissing, IsSound, is_marked}
 use Rattle.kept_results.specs.Passes.{Needs, Passes}
 use Rattle.kept_results.specs.declared.memo.Entry.{Entry}
@@ -12,6 +14,7 @@ use Rattle.kept_results.specs.declared.memo.Memo.{Memo}
 use Rattle.kept_results.specs.declared.memo.Memo.TheViews.{out-Memo, roll-Memo}
 use Rattle.kept_results.specs.declared.memo.Origin.TheVariants.{Made}
 use Rattle.kept_results.proofs.Agreement.{added}
+use Rattle.kept_results.proofs.Backed.{grows_none}
 use Rattle.kept_results.proofs.Passing.{pair_at, passes_added, passes_none, passes_step}
 
 -- ---- the layout of an element
@@ -34,6 +37,10 @@ module _ {m : MetricsValue} {node : Node} {context : Context} {memo : Memo} (agr
     own_entry entry sound here made =
         passes_added m node (Needs m node context) memo entry context from to agrees sound missing here made (own_need m node context) step
 
+pub unchanged_store : {m : MetricsValue} {node : Node} {memo : Memo} {store : StoreValue} {from : ℕ} {done : Bool} → IsBacked m store.runs node memo
+    → Grows m node memo memo store store from from done
+unchanged_store {m} {node} {memo} {store} {from} {done} backed = grows_none m node memo store from done backed
+
 -- ---- what a call has given
 
 pub none_of : (found : Option Answer) (P : Type 0) → found ≡ None → IfNone found P → P
@@ -52,3 +59,7 @@ on_each (Err e) x y z f k = k z
 
 pub ok_is_not_err : {A E P : Type 0} (a : A) (e : E) → Ok a ≡ Err e → P
 ok_is_not_err a e same = cc
+
+pub err_both : {A : Type 0} {E : Type 0} (r : Result A E) (X Y : Type 0) → OnErr r X → OnErr r Y → OnErr r (X × Y)
+err_both (Ok a) X Y x y = tt
+err_both (Err e) X Y x y = (x, y)

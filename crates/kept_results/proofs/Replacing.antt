@@ -14,7 +14,7 @@ use Rattle.kept_results.proofs.Lists.{set_back, set_here, set_same, set_twice}
 pub turned_back : (entry : Entry) (child : ℕ) (reply had : Reply) → slice_get entry.one child ≡ Some had → turned (turned entry child reply) child had ≡ entry
 turned_back entry child reply had h = λ i. record {
   context = entry.context;
-  outcome = entry.outcome;
+  run = entry.run;
   one = set_back entry.one child reply had h i;
   two = entry.two;
   regular = entry.regular;

@@ -11,7 +11,9 @@ use Rattle.layout_model.specs.declared.context.Question.{Question}
 use Rattle.layout_model.specs.Answers.{questions_in}
 use Rattle.kept_results.specs.Ends.{all_undone, sealed, settled, settled_all, stripped}
 use Rattle.kept_results.specs.Kept.{Agrees, AreApart, HasEntry, Holds, HoldsIn, IsMemoOf, IsMissing, IsSound, NamesKept, StandAt, is_live, is_marked}
-use Rattle.kept_results.specs.Laws.{SealLaw, WasHeld, is_unmarked, unmarked_layer}
+use Rattle.layout_model.specs.Layout.{lay}
+use Rattle.outcome_cells.specs.Store.{HasOutcome}
+use Rattle.kept_results.specs.Laws.{SealBackedLaw, SealLaw, SealOwnRunsLaw, WasHeld, is_unmarked, unmarked_layer}
 use Rattle.kept_results.specs.declared.memo.Entry.{Entry}
 use Rattle.kept_results.specs.declared.memo.Memo.{Memo}
 use Rattle.kept_results.specs.declared.memo.Memo.TheFolds.{fold-roll-Memo, ind-Memo}
@@ -125,7 +127,6 @@ module _ (m : MetricsValue) where
         let s = h.sound r.former record { place = r.place; at = r.at; live = r.live } in
         let names = all_then (NamesKept node layer.below) (NamesKept node (sealed_over layer).below) (names_sealed node layer) in
         let is : IsSound m node (sealed_over layer).below (settled r.former) = record {
-          stores = s.stores;
           suits = s.suits;
           fits = s.fits;
           ones = s.ones;
@@ -142,7 +143,7 @@ module _ (m : MetricsValue) where
     stays = λ child alike. absurd (none-some child alike);
   }
 
-  stood : (path : List ℕ) (node : Node) (memo : Memo) (element : Node) (kept : Memo) → StandAt path node (sealed memo) element kept
+  pub stood : (path : List ℕ) (node : Node) (memo : Memo) (element : Node) (kept : Memo) → StandAt path node (sealed memo) element kept
       → (former : Memo) × StandAt path node memo element former × (kept ≡ sealed former)
   stood [] node memo element kept s = (memo, (s.0, refl), s.1)
   stood (place ∷ path) node memo element kept s =
@@ -199,6 +200,28 @@ plain_sealed = ind-Memo HasNoFlag (λ x y is.
       entries = none_fresh (filter (is_live (is_marked layer)) layer.entries) i;
       below = same i;
     }) ∙ sym (sealed_out memo))
+
+-- an entry that is left has the run that it had
+pub seal_backed_law : SealBackedLaw
+seal_backed_law m runs node memo h = record {
+  at = λ path element kept entry s has.
+      let r = stood m path node memo element kept s in
+      let layer : Memo-F Memo = out-Memo r.0 in
+      let there : HasEntry (sealed_over layer) entry = subst (λ (l : Memo-F Memo). HasEntry l entry) (ap out-Memo r.2 ∙ out_sealed r.0) has in
+      let w = settled_was (is_marked layer) layer.entries there.place entry there.at in
+      let held : HasEntry layer w.former = record { place = w.place; at = w.at; live = w.live } in
+      subst (λ (e : Entry). HasOutcome runs e.run.0 (lay m element e.context)) (sym w.is) (h.at path element r.0 w.former r.1 held);
+}
+
+pub seal_own_runs_law : SealOwnRunsLaw
+seal_own_runs_law memo h = record {
+  at = λ path other a b x y same.
+      let w = was path memo a x in
+      let v = was other memo b y in
+      let one : w.former.run ≡ v.former.run = ap (λ (e : Entry). e.run) (sym w.is) ∙ same ∙ ap (λ (e : Entry). e.run) v.is in
+      let r = h.at path other w.former v.former w.held v.held one in
+      (r.0, ap (λ (e : Entry). e.context) w.is ∙ r.1 ∙ ap (λ (e : Entry). e.context) (sym v.is));
+}
 
 pub seal_law : SealLaw
 seal_law m node memo h = record {

@@ -181,7 +181,7 @@ stands (Remade was) h = absurd (true≢false h)
 pub settled_same : (entry : Entry) → is_fresh entry ≡ false → settled entry ≡ entry
 settled_same entry h = λ i. record {
   context = entry.context;
-  outcome = entry.outcome;
+  run = entry.run;
   one = entry.one;
   two = entry.two;
   regular = entry.regular;

@@ -19,7 +19,6 @@ use Rattle.layout_model.specs.Waves.{MayAsk, MayBeAsked}
 use Rattle.layout_model.specs.declared.context.Context.{Context}
 use Rattle.layout_model.specs.declared.context.Question.{Question}
 use Rattle.layout_model.specs.declared.outcome.Answer.{Answer}
-use Rattle.layout_model.specs.declared.outcome.Outcome.{Outcome}
 use Rattle.layout_model.specs.declared.reply.Reply.{Reply}
 use Rattle.layout_model.proofs.Alike.{handed_down}
 use Rattle.layout_model.proofs.Made.{answer_of_child}
@@ -27,8 +26,10 @@ use Rattle.layout_model.proofs.Waves.{all_fit}
 use Rattle.layout_model.proofs.Whole.{and_true, fits_true, first_false, lay_waves, ones_below, ones_stored, outcome_false, range_waves, twos_below, twos_stored}
 use Rattle.embellished.specs.Facts.{facts}
 use Rattle.math_tree.specs.declared.node.Node.TheViews.{out-Node}
+use Rattle.outcome_cells.specs.Store.{Runs}
+use Rattle.kept_results.specs.Backed.{IsBacked}
 use Rattle.kept_results.specs.Contexts.{IsProper, Suits}
-use Rattle.kept_results.specs.Kept.{Agrees, IsKept, IsMissing, IsSound, Keeps, NamesKept, Stores}
+use Rattle.kept_results.specs.Kept.{Agrees, IsKept, IsMissing, IsSound, Keeps, NamesKept}
 use Rattle.kept_results.specs.Looking.{HasAnswer, IsEntryOf, own_facts}
 use Rattle.kept_results.specs.Passes.{AnswersNeed, Needs, Pair, Passes}
 use Rattle.kept_results.specs.Regular.{IsRegular}
@@ -37,7 +38,7 @@ use Rattle.kept_results.specs.declared.memo.Memo.{Memo}
 use Rattle.kept_results.specs.declared.memo.Memo.TheOpen.{Memo-F}
 use Rattle.kept_results.specs.declared.memo.Memo.TheViews.{out-Memo, out-roll-Memo, roll-Memo}
 use Rattle.kept_results.proofs.Agreement.{names_renewed, renewed}
-use Rattle.kept_results.proofs.Law.{stored_once}
+use Rattle.kept_results.proofs.Backed.{own_backed}
 use Rattle.kept_results.proofs.Lists.{all_more, all_then, set_here}
 use Rattle.kept_results.proofs.Passing.{passes_wider, under}
 
@@ -106,13 +107,13 @@ own_mark memo place new = ap (λ (l : Memo-F Memo). l.former) (out-roll-Memo (re
 -- ---- what is kept
 
 -- a kept answer is that of the layout
-module _ (m : MetricsValue) (node : Node) (memo : Memo) (context : Context) (answer : Answer) (h : Agrees m node memo) (r : HasAnswer (out-Memo memo) context answer) where
+module _ (m : MetricsValue) (runs : Runs) (node : Node) (memo : Memo) (context : Context) (answer : Answer) (h : Agrees m node memo) (r : HasAnswer runs (out-Memo memo) context answer) where
   own_sound : IsSound m node (out-Memo memo).below r.entry
   own_sound = (h.at [] node memo (refl, refl)).sound r.entry r.has
 
-  pub kept_answers : answer ≡ (lay m node context).answer
-  kept_answers =
-      sym r.answers ∙ ap (λ (o : Outcome). o.answer) (stored_once r.entry r.outcome (lay m node r.entry.context) r.stores own_sound.stores)
+  pub kept_answers : IsBacked m runs node memo → answer ≡ (lay m node context).answer
+  kept_answers backed =
+      r.answers (lay m node r.entry.context) (own_backed m runs node memo backed r.entry r.has)
       ∙ ap (λ (c : Context). (lay m node c).answer) r.in_context
 
   pub kept_fits : in_range m node context ≡ true
@@ -229,19 +230,17 @@ module _ {m : MetricsValue} {node shown : Node} {context : Context} {ones twos :
       (outcome_false (is_font_size (size_of m context.style)) (outcome_fits (lay m node context)) (ap outcome_fits (sym waves_lay) ∙ fit))
 
   -- the entry that is kept then is sound
-  pub sound_made : (below : List Memo) (entry : Entry) (outcome : Outcome) (regular : Bool) (said told : List Reply)
+  pub sound_made : (below : List Memo) (entry : Entry) (regular : Bool) (said told : List Reply)
       → questions_in said ≡ ones → answers_in said ≡ one → questions_in told ≡ twos → answers_in told ≡ two
-      → IsEntryOf entry context outcome record { one = said; two = told; regular = regular }
-      → outcome ≡ equation m (seen_of shown) context one two
+      → IsEntryOf entry context record { one = said; two = told; regular = regular }
       → Suits m node context → in_range m node context ≡ true → All HasStyle ones
       → AllByRecursion (NamesKept node below) ones → AllByRecursion (NamesKept node below) twos
       → (regular ≡ true → IsRegular m node context ones) → IsSound m node below entry
-  sound_made below entry outcome regular said told q a r d kept is suits fits styles h k same =
+  sound_made below entry regular said told q a r d kept suits fits styles h k same =
       let here = kept.in_context in
       let ones_are : questions_in entry.one ≡ ones = ap questions_in kept.one_is ∙ q in
       let twos_are : questions_in entry.two ≡ twos = ap questions_in kept.two_is ∙ r in
       record {
-        stores = subst (Stores entry) (is ∙ waves_lay ∙ ap (lay m node) (sym here)) kept.stores;
         suits = subst (Suits m node) (sym here) suits;
         fits = ap (in_range m node) here ∙ fits;
         ones = ones_are ∙ first_are m node shown context w.shown_is ones w.ones_are ∙ ap (first m (seen_of node)) (sym here);

@@ -9,10 +9,10 @@ use Rattle.layout_model.specs.Contexts.{kid_style}
 use Rattle.layout_model.specs.declared.context.Context.{Context}
 use Rattle.layout_model.specs.declared.context.Question.{Question}
 use Rattle.layout_model.specs.declared.outcome.Answer.{Answer}
-use Rattle.layout_model.specs.declared.outcome.Outcome.{Outcome}
 use Rattle.layout_model.specs.declared.reply.Reply.{Reply}
 use Rattle.layout_model.specs.declared.context.Stretch.TheVariants.{None as Unstretched}
 use Rattle.style_scope.specs.declared.style.Style.{Style}
+use Rattle.box_pool.specs.declared.pool.RunId.{RunId}
 use Rattle.kept_results.specs.Ends.{all_undone}
 use Rattle.kept_results.specs.Looking.{remade, turned}
 use Rattle.kept_results.specs.Regular.{restyled_at}
@@ -38,21 +38,21 @@ none_on_the_way m seen context style = refl
 -- ---- undone
 
 -- an entry in a context, of a regular element
-abbrev entry : Context → Outcome → List Reply → Origin → Entry
-entry context outcome one origin = record { context = context; outcome = outcome; one = one; two = []; regular = true; origin = origin }
+abbrev entry : Context → RunId → List Reply → Origin → Entry
+entry context run one origin = record { context = context; run = run; one = one; two = []; regular = true; origin = origin }
 
 abbrev reply : ℕ → Style → Answer → Reply
 reply kid style answer = record { question = question kid style; answer = answer }
 
-what_was_made_goes : (context : Context) (a b : Outcome)
+what_was_made_goes : (context : Context) (a b : RunId)
     → all_undone (entry context a [] Standing ∷ entry context b [] Made ∷ []) ≡ entry context a [] Standing ∷ []
 what_was_made_goes context a b = refl
 
 -- the second child was asked in another style, and answered something else
-abbrev stood : Context → Outcome → Style → Answer → Answer → Entry
+abbrev stood : Context → RunId → Style → Answer → Answer → Entry
 stood context a old first was = entry context a (reply 0 old first ∷ reply 1 old was ∷ []) Standing
 
-what_was_made_anew_is_what_it_was : (context : Context) (a b : Outcome) (old new : Style) (first was now : Answer)
+what_was_made_anew_is_what_it_was : (context : Context) (a b : RunId) (old new : Style) (first was now : Answer)
     → all_undone (remade (turned (stood context a old first was) 1 (reply 1 new now)) b 1 (reply 1 old was) ∷ [])
     ≡ stood context a old first was ∷ []
 what_was_made_anew_is_what_it_was context a b old new first was now = refl
@@ -63,11 +63,11 @@ what_was_made_anew_is_what_it_was context a b old new first was now = refl
 abbrev layer : Facts → List Entry → Memo-F Memo
 layer facts entries = record { former = Some record { facts = facts; alike_but = Some 2 }; facts = facts; entries = entries; below = [] }
 
-only_the_third : (facts : Facts) (context : Context) (a b : Outcome) (style : Style) (was : Answer)
+only_the_third : (facts : Facts) (context : Context) (a b : RunId) (style : Style) (was : Answer)
     → only_touched (layer facts (remade (entry context a [] Standing) b 2 (reply 2 style was) ∷ [])) ≡ Some 2
 only_the_third facts context a b style was = refl
 
-any_where_one_is_new : (facts : Facts) (context : Context) (a : Outcome) → only_touched (layer facts (entry context a [] Made ∷ [])) ≡ None
+any_where_one_is_new : (facts : Facts) (context : Context) (a : RunId) → only_touched (layer facts (entry context a [] Made ∷ [])) ≡ None
 any_where_one_is_new facts context a = refl
 
 a_marked_one_is_not_calm : (facts : Facts) → is_calm (layer facts []) ≡ false

@@ -18,7 +18,7 @@ use Rattle.kept_results.specs.declared.memo.Memo.TheViews.{roll-Memo}
 abbrev pub restored : Entry → Before → Entry
 restored entry before = record {
   context = entry.context;
-  outcome = before.outcome;
+  run = before.run;
   one = slice_set entry.one before.child before.reply;
   two = entry.two;
   regular = entry.regular;
@@ -59,7 +59,7 @@ stripped memo = fold-Memo Memo stripped_layer memo
 abbrev pub settled : Entry → Entry
 settled entry = record {
   context = entry.context;
-  outcome = entry.outcome;
+  run = entry.run;
   one = entry.one;
   two = entry.two;
   regular = entry.regular;

@@ -11,12 +11,11 @@ use Rattle.style_scope.specs.Sizes.{size_of}
 use Rattle.layout_model.specs.Answers.{answers_in, questions_in}
 use Rattle.layout_model.specs.Fits.{HasStyle}
 use Rattle.layout_model.specs.Laws.{answer_of}
-use Rattle.layout_model.specs.Layout.{in_range, lay}
+use Rattle.layout_model.specs.Layout.{in_range}
 use Rattle.layout_model.specs.Questions.{first, second}
 use Rattle.layout_model.specs.Range.{is_font_size}
 use Rattle.layout_model.specs.declared.context.Context.{Context}
 use Rattle.layout_model.specs.declared.context.Question.{Question}
-use Rattle.layout_model.specs.declared.outcome.Outcome.{Outcome}
 use Rattle.layout_model.specs.declared.reply.Reply.{Reply}
 use Rattle.kept_results.specs.Contexts.{Suits}
 use Rattle.kept_results.specs.Regular.{IsRegular, restyled_at}
@@ -28,10 +27,6 @@ use Rattle.kept_results.specs.declared.memo.Memo.TheOpen.{Memo-F}
 use Rattle.kept_results.specs.declared.memo.Memo.TheViews.{out-Memo}
 
 -- ---- entries
-
--- the outcome that an entry keeps. No other definition says what that is
-abbrev pub Stores : Entry → Outcome → Type 0
-Stores entry outcome = entry.outcome ≡ outcome
 
 -- the present edit changes the element, or one below it
 abbrev pub is_marked : {X : Type 0} → Memo-F X → Bool
@@ -89,12 +84,12 @@ pub record NamesKept (node : Node) (below : List Memo) (question : Question) : T
   pub at : slice_get below child.place ≡ Some memo
   pub kept : IsKept (out-Memo memo) question.context
 
--- an entry keeps the layout of its element as the tree is now, with what was answered in both
--- waves; all that is made for it is in range; what it asks first keeps the bounds of styles; all
--- that it asks is kept; and where it is noted as regular, its element is
+-- an entry has what its element asks as the tree is now, with what was answered in both waves; all
+-- that is made for it is in range; what it asks first keeps the bounds of styles; all that it asks
+-- is kept; and where it is noted as regular, its element is. That its run has the layout of its
+-- element is said beside the runs (`IsBacked`)
 pub record IsSound (m : MetricsValue) (node : Node) (below : List Memo) (entry : Entry)
     : Type 0 where
-  pub stores : Stores entry (lay m node entry.context)
   pub suits : Suits m node entry.context
   pub fits : in_range m node entry.context ≡ true
   pub ones : questions_in entry.one ≡ first m (seen_of node) entry.context

@@ -4,6 +4,8 @@ use Rattle.std.specs.List.{list_all}
 use Rattle.font_metrics.specs.Metrics.{MetricsValue}
 use Rattle.math_tree.specs.declared.node.Node.{Node}
 use Rattle.layout_model.specs.declared.context.Context.{Context}
+use Rattle.outcome_cells.specs.Store.{Runs}
+use Rattle.kept_results.specs.Backed.{HaveOwnRuns, IsBacked}
 use Rattle.kept_results.specs.Ends.{sealed, settled, stripped}
 use Rattle.kept_results.specs.Kept.{Agrees, Holds, HoldsOne, is_marked}
 use Rattle.kept_results.specs.Passes.{IsPairKept, Needs, Pair}
@@ -47,3 +49,12 @@ pub record Seals (m : MetricsValue) (node : Node) (memo : Memo) : Type 0 where
 
 abbrev pub SealLaw : Type 0
 SealLaw = (m : MetricsValue) (node : Node) (memo : Memo) → Agrees m node memo → Seals m node memo
+
+-- the seal leaves what the runs have of the memo's entries
+abbrev pub SealBackedLaw : Type 0
+SealBackedLaw = (m : MetricsValue) (runs : Runs) (node : Node) (memo : Memo)
+    → IsBacked m runs node memo → IsBacked m runs node (sealed memo)
+
+-- and no two that are left have one run, where no two had
+abbrev pub SealOwnRunsLaw : Type 0
+SealOwnRunsLaw = (memo : Memo) → HaveOwnRuns memo → HaveOwnRuns (sealed memo)

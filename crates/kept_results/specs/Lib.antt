@@ -1,3 +1,4 @@
+pub mod Backed
 pub mod Closed
 pub mod Contexts
 pub mod Ends

@@ -1,13 +1,18 @@
 ghost use Rattle.std.specs.Prelude.{◌≡◌, true, false, IfOk, IfSome, IfNone, OnErr, OnOk, map};
+ghost use Rattle.std.specs.Option.{IsSome};
+ghost use Rattle.outcome_cells.specs.Store.{PutsOutcome};
+ghost use Rattle.kept_results.specs.Backed.{AreBacked, OnlyGrows};
 ghost use Rattle.kept_results.specs.Kept.{IsMissing, is_live, is_marked};
 ghost use Rattle.kept_results.specs.Looking.{HasAnswer, IsKeptNow, own_facts};
 ghost use Rattle.kept_results.specs.Tidy.{has_none_fresh, has_none_new, is_calm, only_touched};
 ghost use Rattle.kept_results.specs.declared.memo.Memo.TheViews.{out-Memo};
 
 use crate::memo::{Entry, Memo, Origin};
+use box_pool::RunId;
 use embellished::Facts;
 use fixed_units::{List, Memory};
 use layout_model::{Answer, Context, Outcome, Reply};
+use outcome_cells::Store;
 use std::alloc::Global;
 
 /// Whether the present edit changes the element, or one below it.
@@ -80,8 +85,15 @@ fn serves(marked: bool, entry: &Entry, context: &Context) -> bool
 }
 
 /// The answer that is kept of an element in a context, where one is.
-pub fn kept_answer(alloc: Global, memo: &Memo, context: &Context) -> Result<Option<Answer>, Memory>
-    ensures some { IfOk result (λ found. IfSome found (HasAnswer (out-Memo memo.now) context.now)) }
+pub fn kept_answer(
+    alloc: Global,
+    memo: &Memo,
+    store: &Store,
+    context: &Context,
+) -> Result<Option<Answer>, Memory>
+    requires backed { AreBacked store.now.runs (out-Memo memo.now) }
+    ensures some { IfOk result
+        (λ found. IfSome found (HasAnswer store.now.runs (out-Memo memo.now) context.now)) }
     ensures none { IfOk result
         (λ found. IfNone found (IsMissing (is_marked (out-Memo memo.now)) context.now
         (out-Memo memo.now).entries)) }
@@ -89,7 +101,7 @@ pub fn kept_answer(alloc: Global, memo: &Memo, context: &Context) -> Result<Opti
     let marked = is_marked(memo);
     for entry in memo.entries.as_slice() {
         if serves(marked, entry, context) {
-            return Ok(Some(entry.answer().copy(alloc)?));
+            return Ok(Some(store.answer(alloc, entry.run)?));
         }
     }
     Ok(None)
@@ -116,32 +128,37 @@ pub struct Asked {
     pub regular: bool,
 }
 
-/// Keeps one layout more, and gives its answer.
+/// Keeps one layout more, and gives its answer. Where it is refused, a run may be left that no
+/// entry has: whoever began the epoch rolls it back.
 pub fn keep(
     alloc: Global,
     memo: &mut Memo,
+    store: &mut Store,
     context: &Context,
     outcome: Outcome,
     asked: Asked,
 ) -> Result<Answer, Memory>
+    requires begun { IsSome store.old.checkpoint }
     ensures answer { IfOk result (λ answer. answer ≡ outcome.answer) }
-    ensures kept { OnOk result (IsKeptNow memo.old memo.new context.now outcome asked) }
+    ensures kept { OnOk result (IsKeptNow memo.old memo.new store.old store.new context.now outcome
+        asked) }
     ensures unchanged { OnErr result (memo.new ≡ memo.old) }
+    ensures grows { OnErr result (OnlyGrows store.old store.new) }
 {
-    match copies_of(alloc, &outcome.answer, context) {
-        Ok((answer, context)) => {
+    match put_with(alloc, store, &outcome, context) {
+        Ok((run, context)) => {
             let entry = Entry {
                 context,
-                outcome,
+                run,
                 one: asked.one,
                 two: asked.two,
                 regular: asked.regular,
                 origin: Origin::Made,
             };
             match memo.entries.push(entry) {
-                Ok(()) => Ok(answer),
+                Ok(()) => Ok(answer_in(outcome)),
                 Err(memory) => {
-                    drop(answer);
+                    drop(outcome);
                     Err(memory)
                 }
             }
@@ -155,10 +172,33 @@ pub fn keep(
     }
 }
 
-/// The same answer and the same context again.
-fn copies_of(alloc: Global, answer: &Answer, context: &Context) -> Result<(Answer, Context), Memory>
-    ensures { IfOk result (λ copied. (copied.0 ≡ answer.now) × (copied.1 ≡ context.now)) }
+/// Puts an outcome, and copies the context.
+fn put_with(
+    alloc: Global,
+    store: &mut Store,
+    outcome: &Outcome,
+    context: &Context,
+) -> Result<(RunId, Context), Memory>
+    requires begun { IsSome store.old.checkpoint }
+    ensures put { IfOk result (λ made. PutsOutcome store.old store.new made.0.0 outcome.now) }
+    ensures context { IfOk result (λ made. made.1 ≡ context.now) }
+    ensures unchanged { OnErr result (store.new ≡ store.old) }
 {
-    let answer = answer.copy(alloc)?;
-    Ok((answer, context.copy(alloc)?))
+    let context = context.copy(alloc)?;
+    let run = store.put(outcome)?;
+    Ok((run, context))
+}
+
+/// The answer of an outcome. The rest is dropped.
+pub fn answer_in(outcome: Outcome) -> Answer
+    ensures { result ≡ outcome.answer }
+{
+    let Outcome {
+        answer,
+        offsets,
+        marks,
+    } = outcome;
+    drop(offsets);
+    drop(marks);
+    answer
 }

@@ -2,10 +2,10 @@
 //!
 //! A law is proved where it is a contract, so each function here has one and computes nothing.
 ghost use Rattle.kept_results.specs.Closed.{ClosedLaw};
-ghost use Rattle.kept_results.specs.Laws.{KeptLaw, SealLaw};
+ghost use Rattle.kept_results.specs.Laws.{KeptLaw, SealBackedLaw, SealLaw, SealOwnRunsLaw};
 
-/// Where an entry and all that are reached from it by naming are closed, it keeps the layout of its
-/// element.
+/// Where an entry and all that are reached from it by naming are closed, its run has the layout of
+/// its element.
 pub fn closed_entries_keep_layouts()
     ensures { ClosedLaw }
 {}
@@ -15,8 +15,10 @@ pub fn what_a_layout_needs_is_kept()
     ensures { KeptLaw }
 {}
 
-/// `seal` keeps the state, and each entry that is no older one; no mark is left, and nothing is
-/// fresh.
+/// `seal` keeps the state, and each entry that is no older one, with its run; no mark is left, and
+/// nothing is fresh.
 pub fn seal_keeps_the_state()
-    ensures { SealLaw }
+    ensures state { SealLaw }
+    ensures backed { SealBackedLaw }
+    ensures own { SealOwnRunsLaw }
 {}

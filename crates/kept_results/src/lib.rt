@@ -1,31 +1,37 @@
 //! Layouts that are kept, beside the elements of a tree.
 //!
 //! A `Memo` has the shape of a tree. At each element it keeps the outcomes in the contexts in which
-//! that element was laid out, so that a later layout computes only what an edit changed. An edit
-//! marks the elements on the way to it; what a marked element keeps from before doesn't count. But
-//! where layout sees the same of it as then, except for one child, and all its children are asked
-//! alike, its questions and what the other children answered are taken over: such an entry is made
-//! anew where it stands.
+//! that element was laid out, so that a later layout computes only what an edit changed. The
+//! outcomes themselves lie in a store beside it: an entry has the id of a run of cells. A pass puts
+//! outcomes in an epoch of that store, and drops none; whoever began the epoch commits it when the
+//! memo is sealed, or rolls it back when the pass is undone.
+//!
+//! An edit marks the elements on the way to it; what a marked element keeps from before doesn't
+//! count. But where layout sees the same of it as then, except for one child, and all its children
+//! are asked alike, its questions and what the other children answered are taken over: such an
+//! entry is made anew where it stands.
 //!
 //! What holds of kept layouts beside a tree is one record, `IsMemoOf` of `specs/Kept.antt`, at each
 //! element (`Agrees`):
 //!
 //! - `facts_are`: it is known what the element is among operators.
 //! - `as_many`: there is one memo for each child.
-//! - `sound`: an entry that is no older one keeps the layout of its element as the tree is now,
-//!   with what was asked for it and answered, of which all is kept (`IsSound`).
+//! - `sound`: an entry that is no older one has what its element asks as the tree is now, and what
+//!   is answered, and all that it asks is kept (`IsSound`).
 //! - `apart`: no two of these entries are in one context.
 //! - `stays`: where layout sees the same as before the edit but for one child, a regular older
 //!   entry has what the element asks now, and but for that child what is answered now (`StaysBut`).
 //!
-//! An entry is read by `Entry::outcome` and `Entry::answer` alone; what it keeps is `Stores`.
+//! That the run of each entry that is no older one has the cells of the layout of its element, as
+//! the tree is now, is said beside the runs of a store (`IsBacked` of `specs/Backed.antt`).
 //!
 //! - Models: this project's own; MathML Core says nothing of it.
 //! - Proved: a pass gives the layout exactly, computes nothing that is kept, and nothing twice, and
-//!   can be undone; an outcome that is kept, and follows by the equations from others that do, is
-//!   that of the layout (`laws`).
+//!   can be undone; it puts a run for each step, every run that was there stays, and no two entries
+//!   have one (`Grows`); an outcome that is kept, and follows by the equations from others that do,
+//!   is that of the layout (`laws`).
 //! - Knows nothing of: edits, and by which equation an element of a kind is laid out.
-//! - Change what a kept layout is: `specs/Kept.antt`.
+//! - Change what a kept layout is: `specs/Kept.antt`; what its run has: `specs/Backed.antt`.
 #![tactic(auto)]
 
 mod earlier; // what a pass takes over from before the edit

@@ -1,17 +1,18 @@
 ghost use Rattle.std.specs.Prelude.{◌≡◌};
-ghost use Rattle.layout_model.specs.declared.outcome.Outcome.{Outcome as Stored};
-ghost use Rattle.kept_results.specs.Kept.{Stores, is_fresh};
+ghost use Rattle.kept_results.specs.Kept.{is_fresh};
 ghost use Rattle.kept_results.specs.Tidy.{is_new};
 
+use box_pool::RunId;
 use embellished::Facts;
 use fixed_units::List;
-use layout_model::{Answer, Context, Outcome, Reply};
+use layout_model::{Context, Reply};
 
-/// A layout of an element that is kept: the outcome in a context, and what was asked for it.
+/// A layout of an element that is kept: the run of the outcome in a context, in a store beside the
+/// memo, and what was asked for it.
 #[derive(Debug, Drop)]
 pub struct Entry {
     pub context: Context,
-    pub outcome: Outcome,
+    pub run: RunId,
     /// What the element asked in the first wave, and what was answered.
     pub one: List<Reply>,
     /// The same of the second wave.
@@ -42,25 +43,11 @@ pub struct Before {
     pub child: usize,
     /// What that child was asked, and answered.
     pub reply: Reply,
-    /// The outcome over that.
-    pub outcome: Outcome,
+    /// The run of the outcome over that.
+    pub run: RunId,
 }
 
 impl Entry {
-    /// The outcome that it keeps. This and `answer` alone read it.
-    pub fn outcome(&self) -> &Outcome
-        ensures { Stores self.now result.now }
-    {
-        &self.outcome
-    }
-
-    /// What the element answers in the entry's context.
-    pub fn answer(&self) -> &Answer
-        ensures { (outcome : Stored) → Stores self.now outcome → result.now ≡ outcome.answer }
-    {
-        &self.outcome.answer
-    }
-
     /// Whether the present pass made it, out of nothing or out of one that stood.
     pub fn is_fresh(&self) -> bool
         ensures { result ≡ is_fresh self.now }
@@ -86,7 +73,8 @@ pub struct Former {
     pub alike_but: Option<usize>,
 }
 
-/// The kept layouts of an element and of all elements below it, in the shape of the tree.
+/// The kept layouts of an element and of all elements below it, in the shape of the tree. The
+/// outcomes themselves lie in a store.
 ///
 /// It is plain data that holds itself: contracts read a layer as `out-Memo` of it.
 #[derive(Debug, Drop)]

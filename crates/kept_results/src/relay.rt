@@ -1,10 +1,12 @@
 ghost use Rattle.std.specs.Prelude.{◌≡◌, ◌≤◌, map, true, false, IfOk, OnOk, Err};
 ghost use Rattle.std.specs.List.{All, AllByRecursion, flat_map, list_all};
+ghost use Rattle.std.specs.Option.{IsSome};
 ghost use Rattle.fixed_units.specs.declared.refusal.LayRefusal.TheVariants.{Range};
 ghost use Rattle.math_tree.specs.Trees.{element_count};
 ghost use Rattle.layout_model.specs.Answers.{answers_in, questions_in};
 ghost use Rattle.layout_model.specs.Laws.{answer_of, visits_below};
 ghost use Rattle.layout_model.specs.Layout.{in_range, lay, visit_fits};
+ghost use Rattle.kept_results.specs.Backed.{Grows, IsBacked};
 ghost use Rattle.kept_results.specs.Contexts.{IsProper, Suits};
 ghost use Rattle.kept_results.specs.Kept.{Agrees, IsKept, IsMissing, NamesKept, is_marked};
 ghost use Rattle.kept_results.specs.Looking.{IsEarlier};
@@ -23,6 +25,7 @@ use fixed_units::{LayRefusal, List, Steps};
 use font_metrics::Metrics;
 use layout_model::{Answer, Context, Reply};
 use math_tree::Node;
+use outcome_cells::Store;
 use outcomes::finish_replies;
 use std::alloc::Global;
 use std::sync::ledger::Ledger;
@@ -36,11 +39,14 @@ pub fn relay_element<L: Ledger>(
     alloc: Global,
     node: &Node,
     memo: &mut Memo,
+    store: &mut Store,
     context: &Context,
     metrics: &Metrics,
     steps: &mut Steps<L>,
 ) -> Result<Answer, LayRefusal>
+    requires begun { IsSome store.old.checkpoint }
     requires agrees { Agrees metrics.now node.now memo.old }
+    requires backed { IsBacked metrics.now store.old.runs node.now memo.old }
     requires few { element_count node.now ≤ 65_536 }
     requires context { Suits metrics.now node.now context.now }
     ensures passes { Passes metrics.now node.now (Needs metrics.now node.now context.now) memo.old
@@ -48,17 +54,22 @@ pub fn relay_element<L: Ledger>(
     ensures passed { OnOk result
         (Passes metrics.now node.now (Needs metrics.now node.now context.now) memo.old memo.new
         steps.old steps.new true) }
+    ensures grows { Grows metrics.now node.now memo.old memo.new store.old store.new steps.old
+        steps.new false }
+    ensures grown { OnOk result
+        (Grows metrics.now node.now memo.old memo.new store.old store.new steps.old steps.new
+        true) }
     ensures kept { OnOk result (IsKept (out-Memo memo.new) context.now) }
     ensures tidy { OnOk result (IsTidy memo.old → IsTidy memo.new) }
     ensures ok { IfOk result (λ answer. answer ≡ (lay metrics.now node.now context.now).answer) }
     ensures fit { OnOk result (in_range metrics.now node.now context.now ≡ true) }
     ensures range { result ≡ Err Range → in_range metrics.now node.now context.now ≡ false }
 {
-    match kept_answer(alloc, memo, context)? {
+    match kept_answer(alloc, memo, store, context)? {
         Some(answer) => Ok(answer),
         None => match find_earlier(memo, context) {
-            Some(before) => relay_again(alloc, node, memo, context, before, metrics, steps),
-            None => relay_anew(alloc, node, memo, context, metrics, steps),
+            Some(before) => relay_again(alloc, node, memo, store, context, before, metrics, steps),
+            None => relay_anew(alloc, node, memo, store, context, metrics, steps),
         },
     }
 }
@@ -71,11 +82,14 @@ fn relay_anew<L: Ledger>(
     alloc: Global,
     node: &Node,
     memo: &mut Memo,
+    store: &mut Store,
     context: &Context,
     metrics: &Metrics,
     steps: &mut Steps<L>,
 ) -> Result<Answer, LayRefusal>
+    requires begun { IsSome store.old.checkpoint }
     requires agrees { Agrees metrics.now node.now memo.old }
+    requires backed { IsBacked metrics.now store.old.runs node.now memo.old }
     requires few { element_count node.now ≤ 65_536 }
     requires context { Suits metrics.now node.now context.now }
     requires missing { IsMissing (is_marked (out-Memo memo.old)) context.now
@@ -85,6 +99,11 @@ fn relay_anew<L: Ledger>(
     ensures passed { OnOk result
         (Passes metrics.now node.now (Needs metrics.now node.now context.now) memo.old memo.new
         steps.old steps.new true) }
+    ensures grows { Grows metrics.now node.now memo.old memo.new store.old store.new steps.old
+        steps.new false }
+    ensures grown { OnOk result
+        (Grows metrics.now node.now memo.old memo.new store.old store.new steps.old steps.new
+        true) }
     ensures kept { OnOk result (IsKept (out-Memo memo.new) context.now) }
     ensures tidy { OnOk result (IsTidy memo.old → IsTidy memo.new) }
     ensures ok { IfOk result (λ answer. answer ≡ (lay metrics.now node.now context.now).answer) }
@@ -95,13 +114,13 @@ fn relay_anew<L: Ledger>(
     let view = NodeView::make(alloc, node, memo.facts, &kids)?;
     let survey = Survey::make(alloc, &view, context, metrics)?;
     let mut one = first_wave(alloc, &view, &survey, context, metrics)?;
-    relay_all(alloc, node, memo, &view, &mut one, metrics, steps)?;
+    relay_all(alloc, node, memo, store, &view, &mut one, metrics, steps)?;
     let mut two = second_wave(alloc, &view, &survey, context, metrics, &one)?;
-    relay_all(alloc, node, memo, &view, &mut two, metrics, steps)?;
+    relay_all(alloc, node, memo, store, &view, &mut two, metrics, steps)?;
     let outcome = finish_replies(alloc, &view, context, metrics, &one, &two, steps)?;
     let regular = is_regular(&view, &survey, context, metrics, &one);
     let asked = Asked { one, two, regular };
-    Ok(keep(alloc, memo, context, outcome, asked)?)
+    Ok(keep(alloc, memo, store, context, outcome, asked)?)
 }
 
 /// The same, where an entry of before the edit tells what the element asks, and only its child on
@@ -113,12 +132,15 @@ fn relay_again<L: Ledger>(
     alloc: Global,
     node: &Node,
     memo: &mut Memo,
+    store: &mut Store,
     context: &Context,
     before: Earlier,
     metrics: &Metrics,
     steps: &mut Steps<L>,
 ) -> Result<Answer, LayRefusal>
+    requires begun { IsSome store.old.checkpoint }
     requires agrees { Agrees metrics.now node.now memo.old }
+    requires backed { IsBacked metrics.now store.old.runs node.now memo.old }
     requires few { element_count node.now ≤ 65_536 }
     requires context { Suits metrics.now node.now context.now }
     requires missing { IsMissing (is_marked (out-Memo memo.old)) context.now
@@ -129,6 +151,11 @@ fn relay_again<L: Ledger>(
     ensures passed { OnOk result
         (Passes metrics.now node.now (Needs metrics.now node.now context.now) memo.old memo.new
         steps.old steps.new true) }
+    ensures grows { Grows metrics.now node.now memo.old memo.new store.old store.new steps.old
+        steps.new false }
+    ensures grown { OnOk result
+        (Grows metrics.now node.now memo.old memo.new store.old store.new steps.old steps.new
+        true) }
     ensures kept { OnOk result (IsKept (out-Memo memo.new) context.now) }
     ensures tidy { OnOk result (IsTidy memo.old → IsTidy memo.new) }
     ensures ok { IfOk result (λ answer. answer ≡ (lay metrics.now node.now context.now).answer) }
@@ -142,12 +169,14 @@ fn relay_again<L: Ledger>(
     let asked = asked_again(alloc, &view, &was.question, context, metrics)?;
     let child = &node.children.as_slice()[place];
     let below = memo.below.at_mut(place);
-    let answer = relay_element(alloc, child, below, &asked.context, metrics, steps)?;
+    let answer = relay_element(alloc, child, below, store, &asked.context, metrics, steps)?;
     let reply = Reply {
         question: asked,
         answer,
     };
-    make_again(alloc, node, memo, context, before, reply, metrics, steps)
+    make_again(
+        alloc, node, memo, store, context, before, reply, metrics, steps,
+    )
 }
 
 /// Has the children that an element asks answer, in order.
@@ -156,13 +185,16 @@ fn relay_all<L: Ledger>(
     alloc: Global,
     node: &Node,
     memo: &mut Memo,
+    store: &mut Store,
     view: &NodeView,
     replies: &mut List<Reply>,
     metrics: &Metrics,
     steps: &mut Steps<L>,
 ) -> Result<(), LayRefusal>
     requires shown { view.now.node.now ≡ node.now }
+    requires begun { IsSome store.old.checkpoint }
     requires agrees { Agrees metrics.now node.now memo.old }
+    requires backed { IsBacked metrics.now store.old.runs node.now memo.old }
     requires few { element_count node.now ≤ 65_536 }
     requires proper { All (IsProper metrics.now node.now) (questions_in replies.old) }
     ensures passes { Passes metrics.now node.now
@@ -171,6 +203,11 @@ fn relay_all<L: Ledger>(
     ensures passed { OnOk result
         (Passes metrics.now node.now (AnswersNeed metrics.now node.now (questions_in replies.old))
         memo.old memo.new steps.old steps.new true) }
+    ensures grows { Grows metrics.now node.now memo.old memo.new store.old store.new steps.old
+        steps.new false }
+    ensures grown { OnOk result
+        (Grows metrics.now node.now memo.old memo.new store.old store.new steps.old steps.new
+        true) }
     ensures own { (out-Memo memo.new).entries ≡ (out-Memo memo.old).entries }
     ensures marked { (out-Memo memo.new).former ≡ (out-Memo memo.old).former }
     ensures kept { OnOk result (AllByRecursion (NamesKept node.now (out-Memo memo.new).below)
@@ -193,7 +230,7 @@ fn relay_all<L: Ledger>(
         let kid = view.node_at(place);
         let below = memo.below.at_mut(view.place(place));
         let context = &reply.question.context;
-        let answer = relay_element(alloc, kid, below, context, metrics, steps)?;
+        let answer = relay_element(alloc, kid, below, store, context, metrics, steps)?;
         reply.answer = answer;
     }
     Ok(())

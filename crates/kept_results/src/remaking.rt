@@ -1,5 +1,6 @@
 ghost use Rattle.std.specs.Prelude.{◌≡◌, ◌≤◌, ◌<◌, ◌+◌, ◌^◌, pos, ◌≤ℤ◌, true, false, [], length, Some, slice_get, slice_set, Err, IfOk, OnErr, OnOk};
 ghost use Rattle.std.specs.List.{All};
+ghost use Rattle.std.specs.Option.{IsSome};
 ghost use Rattle.embellished.specs.Seen.{seen_of};
 ghost use Rattle.fixed_units.specs.declared.refusal.LayRefusal.TheVariants.{Range};
 ghost use Rattle.style_scope.specs.Sizes.{size_of};
@@ -8,6 +9,7 @@ ghost use Rattle.layout_model.specs.Fits.{AreAnswers, HasFont, IsContext};
 ghost use Rattle.layout_model.specs.Layout.{equation};
 ghost use Rattle.layout_model.specs.Questions.{first};
 ghost use Rattle.layout_model.specs.Range.{outcome_fits};
+ghost use Rattle.outcome_cells.specs.Store.{PutsOutcome};
 ghost use Rattle.child_questions.specs.Surveys.{has_one_wave, survey_of};
 ghost use Rattle.kept_results.specs.Ends.{restored};
 ghost use Rattle.kept_results.specs.Looking.{IsMadeAgain, one_at, one_with, remade, turned};
@@ -15,29 +17,34 @@ ghost use Rattle.kept_results.specs.Regular.{IsShownBy};
 ghost use Rattle.kept_results.specs.declared.memo.Memo.TheViews.{out-Memo};
 
 use crate::earlier::{Earlier, outcome_of};
+use crate::entries::answer_in;
 use crate::memo::{Before, Entry, Memo, Origin};
 use crate::whole_view::WholeView;
+use box_pool::RunId;
 use fixed_units::{LayRefusal, List, Room, Steps};
 use font_metrics::Metrics;
-use layout_model::{Answer, Context, Outcome, Reply};
+use layout_model::{Answer, Context, Reply};
 use math_tree::Node;
+use outcome_cells::Store;
 use std::alloc::Global;
 use std::mem;
 use std::sync::ledger::Ledger;
 
 /// Makes an entry of before the edit anew, of which this is the reply of the child on the way
 /// since. It takes one step. The entry's other replies stay where they are. Where it is refused,
-/// the entry is as it was.
+/// the entry and the store are as they were.
 pub fn make_again<L: Ledger>(
     alloc: Global,
     node: &Node,
     memo: &mut Memo,
+    store: &mut Store,
     context: &Context,
     before: Earlier,
     reply: Reply,
     metrics: &Metrics,
     steps: &mut Steps<L>,
 ) -> Result<Answer, LayRefusal>
+    requires begun { IsSome store.old.checkpoint }
     requires entry { before.entry < length (out-Memo memo.old).entries }
     requires asked { before.child < length (one_at (out-Memo memo.old) before.entry) }
     requires shown { IsShownBy memo.old node.now }
@@ -57,24 +64,28 @@ pub fn make_again<L: Ledger>(
     ensures range { result ≡ Err Range →
         outcome_fits (equation metrics.now (seen_of node.now) context.now
         (answers_in (one_with memo.old before reply)) []) ≡ false }
-    ensures made { OnOk result (IsMadeAgain memo.old memo.new before
+    ensures made { OnOk result (IsMadeAgain memo.old memo.new store.old store.new before
         (equation metrics.now (seen_of node.now) context.now
         (answers_in (one_with memo.old before reply)) []) reply) }
     ensures unchanged { OnErr result (memo.new ≡ memo.old) }
+    ensures same { OnErr result (store.new ≡ store.old) }
     ensures step { steps.new ≡ steps.old + 1 }
 {
     let had = turn(memo.entries.at_mut(before.entry), before.child, reply);
-    let made = lay_again(alloc, node, memo, context, before.entry, metrics, steps);
+    let made = lay_again(
+        alloc,
+        node,
+        memo,
+        store,
+        context,
+        before.entry,
+        metrics,
+        steps,
+    );
     let entry = memo.entries.at_mut(before.entry);
     match made {
-        Ok(
-            LaidAgain {
-                outcome,
-                answer,
-                room,
-            },
-        ) => {
-            remake(alloc, entry, outcome, before.child, had, room);
+        Ok(LaidAgain { run, answer, room }) => {
+            remake(alloc, entry, run, before.child, had, room);
             Ok(answer)
         }
         Err(refusal) => {
@@ -84,23 +95,25 @@ pub fn make_again<L: Ledger>(
     }
 }
 
-/// A layout that was made, its answer once more, and room for what there was before it.
+/// The run of a layout that was made, its answer, and room for what there was before it.
 struct LaidAgain {
-    outcome: Outcome,
+    run: RunId,
     answer: Answer,
     room: Room<Before>,
 }
 
-/// The layout over the questions and answers of an entry. It takes one step.
+/// Puts the layout over the questions and answers of an entry. It takes one step.
 fn lay_again<L: Ledger>(
     alloc: Global,
     node: &Node,
     memo: &Memo,
+    store: &mut Store,
     context: &Context,
     entry: usize,
     metrics: &Metrics,
     steps: &mut Steps<L>,
 ) -> Result<LaidAgain, LayRefusal>
+    requires begun { IsSome store.old.checkpoint }
     requires entry { entry < length (out-Memo memo.now).entries }
     requires shown { IsShownBy memo.now node.now }
     requires fits { IsContext context.now }
@@ -110,10 +123,13 @@ fn lay_again<L: Ledger>(
         (seen_of node.now) context.now }
     requires stored { AreAnswers (answers_in (one_at (out-Memo memo.now) entry)) }
     requires fonts { All (HasFont metrics.now) (questions_in (one_at (out-Memo memo.now) entry)) }
-    ensures outcome { IfOk result
-        (λ laid. laid.outcome ≡ equation metrics.now (seen_of node.now) context.now
-        (answers_in (one_at (out-Memo memo.now) entry)) []) }
-    ensures answer { IfOk result (λ laid. laid.answer ≡ laid.outcome.answer) }
+    ensures put { IfOk result
+        (λ laid. PutsOutcome store.old store.new laid.run.0 (equation metrics.now (seen_of node.now)
+        context.now (answers_in (one_at (out-Memo memo.now) entry)) [])) }
+    ensures answer { IfOk result
+        (λ laid. laid.answer ≡ (equation metrics.now (seen_of node.now) context.now
+        (answers_in (one_at (out-Memo memo.now) entry)) []).answer) }
+    ensures unchanged { OnErr result (store.new ≡ store.old) }
     ensures room { IfOk result (λ laid. 1 ≤ laid.room) }
     ensures fit { OnOk result
         (outcome_fits (equation metrics.now (seen_of node.now) context.now
@@ -126,13 +142,10 @@ fn lay_again<L: Ledger>(
     let view = WholeView::of(node, memo);
     let entry = &memo.entries.as_slice()[entry];
     let outcome = outcome_of(alloc, &view, context, metrics, &entry.one, steps)?;
-    let answer = outcome.answer.copy(alloc)?;
     let room = Room::make(alloc, 1)?;
-    Ok(LaidAgain {
-        outcome,
-        answer,
-        room,
-    })
+    let run = store.put(&outcome)?;
+    let answer = answer_in(outcome);
+    Ok(LaidAgain { run, answer, room })
 }
 
 /// Puts the reply of a child in place of the one that an entry has, and gives that one.
@@ -144,24 +157,24 @@ fn turn(entry: &mut Entry, child: usize, reply: Reply) -> Reply
     mem::replace(entry.one.at_mut(child), reply)
 }
 
-/// Gives an entry a new outcome, and has it hold what it had before.
+/// Gives an entry the run of a new outcome, and has it hold what it had before.
 fn remake(
     alloc: Global,
     entry: &mut Entry,
-    outcome: Outcome,
+    run: RunId,
     child: usize,
     reply: Reply,
     room: Room<Before>,
 )
     requires { 1 ≤ room }
-    ensures { entry.new ≡ remade entry.old outcome child reply }
+    ensures { entry.new ≡ remade entry.old run child reply }
 {
-    let outcome = mem::replace(&mut entry.outcome, outcome);
     let before = Before {
         child,
         reply,
-        outcome,
+        run: entry.run,
     };
+    entry.run = run;
     let mut was = List::make(alloc);
     was.insert(0, before, room);
     // Dropped by a call, here and below, so that the proof doesn't go through all parts.
@@ -172,13 +185,9 @@ fn remake(
 pub fn restore(entry: &mut Entry, before: Before)
     ensures { entry.new ≡ restored entry.old before }
 {
-    let Before {
-        child,
-        reply,
-        outcome,
-    } = before;
+    let Before { child, reply, run } = before;
     put(&mut entry.one, child, reply);
-    drop(mem::replace(&mut entry.outcome, outcome));
+    entry.run = run;
     drop(mem::replace(&mut entry.origin, Origin::Standing));
 }
 

@@ -18,11 +18,12 @@ use Rattle.kept_results.specs.Looking.{HasAnswer, own_facts}
 use Rattle.kept_results.specs.Passes.{AnswersNeed}
 use Rattle.kept_results.specs.declared.memo.Memo.TheViews.{out-Memo}
 use Rattle.kept_results.proofs.Again.{kept_again, near_entry, one_now, shown_by, still_regular, still_sized, tidied_again, was_near}
+use Rattle.kept_results.proofs.Backed.{are_backed, grows_both, grows_partly, only_none, still_begun}
 use Rattle.kept_results.proofs.Passing.{passes_both, passes_none, passes_partly}
-use Rattle.kept_results.proofs.RelayAgain.{answer_again, answers_again, child_agrees, child_few, child_smaller, child_suits, child_there, child_unfit, fit_again, fonts_again, heard_of, memo_there, ones_again, passed_again, passed_child, shown_again, stepped_again, turn_of, unfit_again, was_read}
-use Rattle.kept_results.proofs.RelayAll.{asked_near, asks_unfit, fit_next, goes_there, kept_next, kid_agrees, kid_few, kid_smaller, kid_suits, memo_near, pass_more, told_next}
-use Rattle.kept_results.proofs.RelayAnew.{answered_of, fit_anew, kept_anew, ones_known, ones_stored, ones_suit, ones_unfit, pass_first, pass_second, passed_anew, replies_all, stepped_anew, tidy_anew, told_of, twos_known, twos_suit, twos_unfit, waves}
-use Rattle.kept_results.proofs.RelayCalls.{none_of, nothing_done, ok_is_not_err, on_both, on_each, some_of}
+use Rattle.kept_results.proofs.RelayAgain.{answer_again, answers_again, child_agrees, child_backed, child_few, child_smaller, child_suits, child_there, child_unfit, fit_again, fonts_again, grown_again, grown_child, heard_of, memo_there, ones_again, passed_again, passed_child, shown_again, stepped_again, turn_of, unfit_again, unkept_again, was_read}
+use Rattle.kept_results.proofs.RelayAll.{asked_near, asks_unfit, fit_next, goes_there, grow_more, kept_next, kid_agrees, kid_backed, kid_few, kid_smaller, kid_suits, memo_near, pass_more, told_next}
+use Rattle.kept_results.proofs.RelayAnew.{answered_of, fit_anew, grown_anew, grown_waves, kept_anew, ones_known, ones_stored, ones_suit, ones_unfit, pass_first, pass_second, passed_anew, replies_all, stepped_anew, tidy_anew, told_of, twos_known, twos_suit, twos_unfit, unkept_anew, waves}
+use Rattle.kept_results.proofs.RelayCalls.{err_both, none_of, nothing_done, ok_is_not_err, on_both, on_each, some_of, unchanged_store}
 use Rattle.kept_results.proofs.Tidying.{tidy_below, tidy_renewed}
 use Rattle.kept_results.proofs.Turns.{facts_known, kept_answers, kept_fits, own_entries, own_mark, waves_lay, waves_unfit}
 use Rattle.kept_results.proofs.relay.+relay.Goals as goal
@@ -36,6 +37,7 @@ relay_all-loop-index-init g t c =
       told = refl;
       fit = refl;
       passes = passes_none c.args.metrics.now c.args.node.now (AnswersNeed c.args.metrics.now c.args.node.now (questions_in c.args.replies.now)) c.args.memo.now c.args.steps.now true c.requires.agrees;
+      grows = unchanged_store c.requires.backed;
       own = refl;
       marked = refl;
       kept = tt;
@@ -64,12 +66,20 @@ pub relay_all-relay_element-requires : goal.relay_all-relay_element-requires
 relay_all-relay_element-requires g t c κs within =
     let q = goes_there c.loop-index.replies c.loop-index.index c.requires.shown c.requires.proper c.loop-index.invariant.same c.at_mut-reply.ensures.value c.node_at-kid.ensures c.place.ensures in
     let falls = kid_smaller q in
-    (omega arith, (search rules, (kid_agrees q c.loop-index.invariant.passes.agrees c.at_mut-below.ensures.value, (kid_few q c.requires.few, kid_suits q))))
+    let v = c.loop-index.invariant in
+    let at = c.at_mut-below.ensures.value in
+    (omega arith, (search rules, (still_begun v.grows.only c.requires.begun, (kid_agrees q v.passes.agrees at, (kid_backed q v.grows.backed at, (kid_few q c.requires.few, kid_suits q))))))
 
 pub relay_all-returns-in_err-answer-clause-passes : goal.relay_all-returns-in_err-answer-clause-passes
 relay_all-returns-in_err-answer-clause-passes g t c =
     let q = goes_there c.loop-index.replies c.loop-index.index c.requires.shown c.requires.proper c.loop-index.invariant.same c.at_mut-reply.ensures.value c.node_at-kid.ensures c.place.ensures in
     pass_more q c.loop-index.invariant.passes c.at_mut-below.ensures.value (c.in_err-answer.ensures {u = tt}).passes
+
+pub relay_all-returns-in_err-answer-clause-grows : goal.relay_all-returns-in_err-answer-clause-grows
+relay_all-returns-in_err-answer-clause-grows g t c =
+    let q = goes_there c.loop-index.replies c.loop-index.index c.requires.shown c.requires.proper c.loop-index.invariant.same c.at_mut-reply.ensures.value c.node_at-kid.ensures c.place.ensures in
+    let v = c.loop-index.invariant in
+    grow_more q v.passes.agrees v.grows c.at_mut-below.ensures.value (c.in_err-answer.ensures {u = tt}).grows
 
 pub relay_all-returns-in_err-answer-clause-own : goal.relay_all-returns-in_err-answer-clause-own
 relay_all-returns-in_err-answer-clause-own g t c =
@@ -100,6 +110,7 @@ relay_all-loop-index-preserved g t c =
       told = told_next q v.told made.ok next.told;
       fit = fit_next q v.fit made.fit;
       passes = pass_more q v.passes at made.passed;
+      grows = grow_more q v.passes.agrees v.grows at made.grown;
       own = own_entries memo c.place.result new ∙ v.own;
       marked = own_mark memo c.place.result new ∙ v.marked;
       kept = kept_next q memo at made.passed.keeps v.kept made.kept;
@@ -108,6 +119,12 @@ relay_all-loop-index-preserved g t c =
 
 pub relay_all-returns-clause-passes : goal.relay_all-returns-clause-passes
 relay_all-returns-clause-passes g t c = passes_partly c.args.metrics.now c.loop-index.invariant.passes
+
+pub relay_all-returns-clause-grows : goal.relay_all-returns-clause-grows
+relay_all-returns-clause-grows g t c = grows_partly c.args.metrics.now c.loop-index.invariant.grows
+
+pub relay_all-returns-clause-grown : goal.relay_all-returns-clause-grown
+relay_all-returns-clause-grown g t c = c.loop-index.invariant.grows
 
 pub relay_all-returns-clause-tidy : goal.relay_all-returns-clause-tidy
 relay_all-returns-clause-tidy g t c = c.loop-index.invariant.tidy
@@ -132,13 +149,22 @@ relay_all-returns-clause-kept g t c =
 
 -- ---- an answer that is kept
 
+pub relay_element-kept_answer-requires : goal.relay_element-kept_answer-requires
+relay_element-kept_answer-requires g t c = record { backed = are_backed c.args.metrics.now c.args.store.now.runs c.args.node.now c.args.memo.now c.requires.backed }
+
 pub relay_element-relay_anew-requires : goal.relay_element-relay_anew-requires
 relay_element-relay_anew-requires g t c κs within =
     let none = none_of c.in_ok-answer.field-0 _ c.in-None.is (c.in_ok-answer.ensures {u = tt}).none in
-    (omega arith, (search rules, (c.requires.agrees, (c.requires.few, (c.requires.context, none)))))
+    (omega arith, (search rules, (c.requires.begun, (c.requires.agrees, (c.requires.backed, (c.requires.few, (c.requires.context, none)))))))
+
+pub relay_element-returns-in_err-answer-clause-grows : goal.relay_element-returns-in_err-answer-clause-grows
+relay_element-returns-in_err-answer-clause-grows g t c = unchanged_store c.requires.backed
 
 pub relay_element-returns-in_err-answer-clause-passes : goal.relay_element-returns-in_err-answer-clause-passes
 relay_element-returns-in_err-answer-clause-passes g t c = nothing_done c.requires.agrees
+
+pub relay_element-returns-in-Some-clause-grows : goal.relay_element-returns-in-Some-clause-grows
+relay_element-returns-in-Some-clause-grows g t c = unchanged_store c.requires.backed
 
 pub relay_element-returns-in-Some-clause-passes : goal.relay_element-returns-in-Some-clause-passes
 relay_element-returns-in-Some-clause-passes g t c = nothing_done c.requires.agrees
@@ -146,15 +172,18 @@ relay_element-returns-in-Some-clause-passes g t c = nothing_done c.requires.agre
 pub relay_element-returns-in-Some-clause-passed : goal.relay_element-returns-in-Some-clause-passed
 relay_element-returns-in-Some-clause-passed g t c = nothing_done c.requires.agrees
 
+pub relay_element-returns-in-Some-clause-grown : goal.relay_element-returns-in-Some-clause-grown
+relay_element-returns-in-Some-clause-grown g t c = unchanged_store c.requires.backed
+
 pub relay_element-returns-in-Some-clause-ok : goal.relay_element-returns-in-Some-clause-ok
 relay_element-returns-in-Some-clause-ok g t c =
-    kept_answers c.args.metrics.now c.args.node.now c.args.memo.now c.args.context.now c.in-Some.answer c.requires.agrees
-    (some_of c.in_ok-answer.field-0 c.in-Some.answer (HasAnswer (out-Memo c.args.memo.now) c.args.context.now) c.in-Some.is (c.in_ok-answer.ensures {u = tt}).some)
+    kept_answers c.args.metrics.now c.args.store.now.runs c.args.node.now c.args.memo.now c.args.context.now c.in-Some.answer c.requires.agrees
+    (some_of c.in_ok-answer.field-0 c.in-Some.answer (HasAnswer c.args.store.now.runs (out-Memo c.args.memo.now) c.args.context.now) c.in-Some.is (c.in_ok-answer.ensures {u = tt}).some) c.requires.backed
 
 pub relay_element-returns-in-Some-clause-fit : goal.relay_element-returns-in-Some-clause-fit
 relay_element-returns-in-Some-clause-fit g t c =
-    kept_fits c.args.metrics.now c.args.node.now c.args.memo.now c.args.context.now c.in-Some.answer c.requires.agrees
-    (some_of c.in_ok-answer.field-0 c.in-Some.answer (HasAnswer (out-Memo c.args.memo.now) c.args.context.now) c.in-Some.is (c.in_ok-answer.ensures {u = tt}).some)
+    kept_fits c.args.metrics.now c.args.store.now.runs c.args.node.now c.args.memo.now c.args.context.now c.in-Some.answer c.requires.agrees
+    (some_of c.in_ok-answer.field-0 c.in-Some.answer (HasAnswer c.args.store.now.runs (out-Memo c.args.memo.now) c.args.context.now) c.in-Some.is (c.in_ok-answer.ensures {u = tt}).some)
 
 pub relay_element-returns-in-Some-clause-tidy : goal.relay_element-returns-in-Some-clause-tidy
 relay_element-returns-in-Some-clause-tidy g t c = λ h. h
@@ -174,14 +203,26 @@ pub relay_anew-make-requires-clause-few : goal.relay_anew-make-requires-clause-f
 relay_anew-make-requires-clause-few g t c =
     omega (arith, few_children c.args.node.now, c.requires.few)
 
+pub relay_anew-returns-in_err-kids-clause-grows : goal.relay_anew-returns-in_err-kids-clause-grows
+relay_anew-returns-in_err-kids-clause-grows g t c = unchanged_store c.requires.backed
+
 pub relay_anew-returns-in_err-kids-clause-passes : goal.relay_anew-returns-in_err-kids-clause-passes
 relay_anew-returns-in_err-kids-clause-passes g t c = nothing_done c.requires.agrees
+
+pub relay_anew-returns-in_err-view-clause-grows : goal.relay_anew-returns-in_err-view-clause-grows
+relay_anew-returns-in_err-view-clause-grows g t c = unchanged_store c.requires.backed
 
 pub relay_anew-returns-in_err-view-clause-passes : goal.relay_anew-returns-in_err-view-clause-passes
 relay_anew-returns-in_err-view-clause-passes g t c = nothing_done c.requires.agrees
 
+pub relay_anew-returns-in_err-one-clause-grows : goal.relay_anew-returns-in_err-one-clause-grows
+relay_anew-returns-in_err-one-clause-grows g t c = unchanged_store c.requires.backed
+
 pub relay_anew-returns-in_err-one-clause-passes : goal.relay_anew-returns-in_err-one-clause-passes
 relay_anew-returns-in_err-one-clause-passes g t c = nothing_done c.requires.agrees
+
+pub relay_anew-returns-in_err-survey-clause-grows : goal.relay_anew-returns-in_err-survey-clause-grows
+relay_anew-returns-in_err-survey-clause-grows g t c = unchanged_store c.requires.backed
 
 pub relay_anew-returns-in_err-survey-clause-passes : goal.relay_anew-returns-in_err-survey-clause-passes
 relay_anew-returns-in_err-survey-clause-passes g t c = nothing_done c.requires.agrees
@@ -197,13 +238,17 @@ pub relay_anew-relay_all-requires : goal.relay_anew-relay_all-requires
 relay_anew-relay_all-requires g t c κs within =
     let o = (c.in_ok-one.ensures {u = tt}) in
     let w = ones_known c.requires.few c.requires.context (c.in_ok-view.ensures {u = tt}) o.ok o.styles in
-    (omega arith, (search rules, (w.shown_is, (c.requires.agrees, (c.requires.few, ones_suit w)))))
+    (omega arith, (search rules, (w.shown_is, (c.requires.begun, (c.requires.agrees, (c.requires.backed, (c.requires.few, ones_suit w)))))))
 
 pub relay_anew-returns-in_err-relay_all-clause-passes : goal.relay_anew-returns-in_err-relay_all-clause-passes
 relay_anew-returns-in_err-relay_all-clause-passes g t c =
     let o = (c.in_ok-one.ensures {u = tt}) in
     let w = ones_known c.requires.few c.requires.context (c.in_ok-view.ensures {u = tt}) o.ok o.styles in
     pass_first w (c.in_err-relay_all.ensures {u = tt}).passes
+
+pub relay_anew-returns-in_err-relay_all-clause-grows : goal.relay_anew-returns-in_err-relay_all-clause-grows
+relay_anew-returns-in_err-relay_all-clause-grows g t c =
+    (c.in_err-relay_all.ensures {u = tt}).grows
 
 pub relay_anew-returns-in_err-relay_all-clause-range : goal.relay_anew-returns-in_err-relay_all-clause-range
 relay_anew-returns-in_err-relay_all-clause-range g t c =
@@ -220,6 +265,10 @@ relay_anew-second_wave-requires-clause-answers g t c =
     let one = (c.in_ok-relay_all.ensures {u = tt}) in
     ones_stored w one.ok one.fit
 
+pub relay_anew-returns-in_err-two-clause-grows : goal.relay_anew-returns-in_err-two-clause-grows
+relay_anew-returns-in_err-two-clause-grows g t c =
+    grows_partly c.args.metrics.now (c.in_ok-relay_all.ensures {u = tt}).grown
+
 pub relay_anew-returns-in_err-two-clause-passes : goal.relay_anew-returns-in_err-two-clause-passes
 relay_anew-returns-in_err-two-clause-passes g t c =
     let o = (c.in_ok-one.ensures {u = tt}) in
@@ -233,7 +282,7 @@ relay_anew-relay_all-requires-2 g t c κs within =
     let one = (c.in_ok-relay_all.ensures {u = tt}) in
     let two = (c.in_ok-two.ensures {u = tt}) in
     let s = twos_known w one.ok one.fit two.value two.styles in
-    (omega arith, (search rules, (w.shown_is, (one.passed.agrees, (c.requires.few, twos_suit s)))))
+    (omega arith, (search rules, (w.shown_is, (still_begun one.grown.only c.requires.begun, (one.passed.agrees, (one.grown.backed, (c.requires.few, twos_suit s)))))))
 
 pub relay_anew-returns-in_err-relay_all-2-clause-passes : goal.relay_anew-returns-in_err-relay_all-2-clause-passes
 relay_anew-returns-in_err-relay_all-2-clause-passes g t c =
@@ -243,6 +292,10 @@ relay_anew-returns-in_err-relay_all-2-clause-passes g t c =
     let two = (c.in_ok-two.ensures {u = tt}) in
     let s = twos_known w one.ok one.fit two.value two.styles in
     passes_both c.args.metrics.now (pass_first w one.passed) (pass_second s (c.in_err-relay_all-2.ensures {u = tt}).passes)
+
+pub relay_anew-returns-in_err-relay_all-2-clause-grows : goal.relay_anew-returns-in_err-relay_all-2-clause-grows
+relay_anew-returns-in_err-relay_all-2-clause-grows g t c =
+    grows_both c.args.metrics.now (c.in_ok-relay_all.ensures {u = tt}).grown (c.in_err-relay_all-2.ensures {u = tt}).grows
 
 pub relay_anew-returns-in_err-relay_all-2-clause-range : goal.relay_anew-returns-in_err-relay_all-2-clause-range
 relay_anew-returns-in_err-relay_all-2-clause-range g t c =
@@ -279,6 +332,10 @@ relay_anew-returns-in_err-outcome-clause-passes g t c =
     let d = answered_of w said two.value two.styles told in
     stepped_anew d refl c.requires.missing c.finish_replies.ensures.step
 
+pub relay_anew-returns-in_err-outcome-clause-grows : goal.relay_anew-returns-in_err-outcome-clause-grows
+relay_anew-returns-in_err-outcome-clause-grows g t c =
+    unkept_anew (c.in_ok-relay_all.ensures {u = tt}).grown (c.in_ok-relay_all-2.ensures {u = tt}).grown refl (only_none c.relay_all-2.new.store)
+
 pub relay_anew-returns-in_err-outcome-clause-range : goal.relay_anew-returns-in_err-outcome-clause-range
 relay_anew-returns-in_err-outcome-clause-range g t c =
     λ e.
@@ -292,6 +349,16 @@ relay_anew-returns-in_err-outcome-clause-range g t c =
     let told = told_of c.relay_all-2.new.replies more.passed more.own more.marked more.kept more.asked more.ok more.fit in
     let d = answered_of w said two.value two.styles told in
     waves_unfit (waves d) ((c.in_err-outcome.ensures {u = tt}).range (ap Err (sym same)))
+
+pub relay_anew-keep-requires : goal.relay_anew-keep-requires
+relay_anew-keep-requires g t c =
+    let grows = grown_waves (c.in_ok-relay_all.ensures {u = tt}).grown (c.in_ok-relay_all-2.ensures {u = tt}).grown in
+    record { begun = still_begun grows.only c.requires.begun }
+
+pub relay_anew-returns-in_err-keep-clause-grows : goal.relay_anew-returns-in_err-keep-clause-grows
+relay_anew-returns-in_err-keep-clause-grows g t c =
+    let kept = (c.in_err-keep.ensures {u = tt}) in
+    unkept_anew (c.in_ok-relay_all.ensures {u = tt}).grown (c.in_ok-relay_all-2.ensures {u = tt}).grown kept.unchanged kept.grows
 
 pub relay_anew-returns-in_err-keep-clause-passes : goal.relay_anew-returns-in_err-keep-clause-passes
 relay_anew-returns-in_err-keep-clause-passes g t c =
@@ -319,9 +386,12 @@ relay_anew-returns g t c =
     let keep = (c.in_ok-keep.ensures {u = tt}) in
     let whole = fit_anew d (c.in_ok-survey.ensures {u = tt}).fit made.fit in
     let done = passed_anew d keep.kept made.ok whole c.is_regular-regular.ensures c.requires.missing c.finish_replies.ensures.step in
+    let grown = grown_anew d keep.kept made.ok whole c.is_regular-regular.ensures (grown_waves one.grown more.grown) c.finish_replies.ensures.step in
     record {
       passes = passes_partly c.args.metrics.now done;
       passed = done;
+      grows = grows_partly c.args.metrics.now grown;
+      grown = grown;
       kept = kept_anew keep.kept;
       tidy = λ h. tidy_anew keep.kept (more.tidy (one.tidy (tidy_below c.args.memo.now h)));
       ok = keep.answer ∙ ap (λ (outcome : Outcome). outcome.answer) (made.ok ∙ waves_lay (waves d));
@@ -346,6 +416,9 @@ relay_again-asked_again-requires-clause-size g t c =
     let sized = still_sized c.requires.agrees c.requires.before in
     search rules
 
+pub relay_again-returns-in_err-asked-clause-grows : goal.relay_again-returns-in_err-asked-clause-grows
+relay_again-returns-in_err-asked-clause-grows g t c = unchanged_store c.requires.backed
+
 pub relay_again-returns-in_err-asked-clause-passes : goal.relay_again-returns-in_err-asked-clause-passes
 relay_again-returns-in_err-asked-clause-passes g t c = nothing_done c.requires.agrees
 
@@ -368,7 +441,7 @@ relay_again-relay_element-requires g t c κs within =
     let here = turn_of c.requires.agrees c.requires.before c.requires.few c.requires.context c.as_slice.result.now c.index-as_slice-before.result c.as_slice-2.result.now c.index-as_slice-place.result c.as_slice-3.result.now _
     c.as_slice.ensures c.index-as_slice-before.is c.as_slice-2.ensures c.index-as_slice-place.is c.of-view.ensures asked.ok asked.style c.as_slice-3.ensures c.index-as_slice-place-2.is c.at_mut-below.ensures.value in
     let falls = child_smaller here in
-    (omega arith, (search rules, (child_agrees here, (child_few here, child_suits here))))
+    (omega arith, (search rules, (c.requires.begun, (child_agrees here, (child_backed here c.requires.backed, (child_few here, child_suits here))))))
 
 pub relay_again-returns-in_err-answer-clause-passes : goal.relay_again-returns-in_err-answer-clause-passes
 relay_again-returns-in_err-answer-clause-passes g t c =
@@ -376,6 +449,13 @@ relay_again-returns-in_err-answer-clause-passes g t c =
     let here = turn_of c.requires.agrees c.requires.before c.requires.few c.requires.context c.as_slice.result.now c.index-as_slice-before.result c.as_slice-2.result.now c.index-as_slice-place.result c.as_slice-3.result.now _
     c.as_slice.ensures c.index-as_slice-before.is c.as_slice-2.ensures c.index-as_slice-place.is c.of-view.ensures asked.ok asked.style c.as_slice-3.ensures c.index-as_slice-place-2.is c.at_mut-below.ensures.value in
     passed_child here (c.in_err-answer.ensures {u = tt}).passes
+
+pub relay_again-returns-in_err-answer-clause-grows : goal.relay_again-returns-in_err-answer-clause-grows
+relay_again-returns-in_err-answer-clause-grows g t c =
+    let asked = (c.in_ok-asked.ensures {u = tt}) in
+    let here = turn_of c.requires.agrees c.requires.before c.requires.few c.requires.context c.as_slice.result.now c.index-as_slice-before.result c.as_slice-2.result.now c.index-as_slice-place.result c.as_slice-3.result.now _
+    c.as_slice.ensures c.index-as_slice-before.is c.as_slice-2.ensures c.index-as_slice-place.is c.of-view.ensures asked.ok asked.style c.as_slice-3.ensures c.index-as_slice-place-2.is c.at_mut-below.ensures.value in
+    grown_child here c.requires.backed (c.in_err-answer.ensures {u = tt}).grows
 
 pub relay_again-returns-in_err-answer-clause-range : goal.relay_again-returns-in_err-answer-clause-range
 relay_again-returns-in_err-answer-clause-range g t c =
@@ -385,6 +465,10 @@ relay_again-returns-in_err-answer-clause-range g t c =
     let here = turn_of c.requires.agrees c.requires.before c.requires.few c.requires.context c.as_slice.result.now c.index-as_slice-before.result c.as_slice-2.result.now c.index-as_slice-place.result c.as_slice-3.result.now _
     c.as_slice.ensures c.index-as_slice-before.is c.as_slice-2.ensures c.index-as_slice-place.is c.of-view.ensures asked.ok asked.style c.as_slice-3.ensures c.index-as_slice-place-2.is c.at_mut-below.ensures.value in
     child_unfit here ((c.in_err-answer.ensures {u = tt}).range (ap Err (sym same)))
+
+pub relay_again-make_again-requires-clause-begun : goal.relay_again-make_again-requires-clause-begun
+relay_again-make_again-requires-clause-begun g t c =
+    still_begun (c.in_ok-answer.ensures {u = tt}).grown.only c.requires.begun
 
 pub relay_again-make_again-requires-clause-entry : goal.relay_again-make_again-requires-clause-entry
 relay_again-make_again-requires-clause-entry g t c = near_entry c.requires.agrees c.requires.before c.relay_element.new.memo
@@ -452,6 +536,10 @@ relay_again-returns g t c =
       passes = on_each result made.made made.fit made.unchanged
           (λ again fits. passes_partly c.args.metrics.now (passed_again d again fits c.requires.missing made.step))
           (λ same. stepped_again d same c.requires.missing made.step);
+      grows = on_each result made.made made.fit (err_both result _ _ made.unchanged made.same)
+          (λ again fits. grows_partly c.args.metrics.now (grown_again d c.requires.backed done.grown again made.step))
+          (λ same. unkept_again d c.requires.backed done.grown same.0 same.1);
+      grown = on_both result made.made made.fit (λ again fits. grown_again d c.requires.backed done.grown again made.step);
       passed = on_both result made.made made.fit (λ again fits. passed_again d again fits c.requires.missing made.step);
       kept = on_both result made.made made.fit (λ again fits. kept_again c.requires.agrees c.requires.before new c.make_again.new.memo _ _ again);
       tidy = on_both result made.made made.fit

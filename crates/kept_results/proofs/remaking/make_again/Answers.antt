@@ -8,7 +8,7 @@ use Rattle.layout_model.specs.Fits.{AreAnswers, HasFont}
 use Rattle.layout_model.specs.Layout.{equation}
 use Rattle.layout_model.specs.Range.{outcome_fits}
 use Rattle.layout_model.specs.declared.outcome.Answer.{Answer}
-use Rattle.layout_model.specs.declared.outcome.Outcome.{Outcome}
+use Rattle.outcome_cells.specs.Store.{PutsOutcome}
 use Rattle.kept_results.specs.Looking.{remade, turned, with_entry}
 use Rattle.kept_results.specs.declared.memo.Entry.{Entry}
 use Rattle.kept_results.specs.declared.memo.Memo.TheViews.{roll-Memo}
@@ -39,9 +39,7 @@ turn-requires g c =
 pub returns-in-Ok-clause-ok : goal.returns-in-Ok-clause-ok
 returns-in-Ok-clause-ok g c =
     let one = ap answers_in (one_turned c.args.memo.now c.args.before.entry c.args.before.child c.args.reply c.at_mut.result.now c.turn-had.new.entry c.at_mut.ensures.value c.turn-had.ensures.turned) in
-    (c.in-Ok.ensures {u = tt}).answer
-    ∙ ap (λ (o : Outcome). o.answer)
-    ((c.in-Ok.ensures {u = tt}).outcome ∙ ap (λ (l : List Answer). equation c.args.metrics.now (seen_of c.args.node.now) c.args.context.now l []) one)
+    (c.in-Ok.ensures {u = tt}).answer ∙ ap (λ (l : List Answer). (equation c.args.metrics.now (seen_of c.args.node.now) c.args.context.now l []).answer) one
 
 pub returns-in-Ok-clause-fit : goal.returns-in-Ok-clause-fit
 returns-in-Ok-clause-fit g c =
@@ -58,15 +56,19 @@ returns-in-Ok-clause-made g c =
     let had = c.turn-had.result in
     let one = ap answers_in (one_turned memo place child reply entry c.turn-had.new.entry c.at_mut.ensures.value c.turn-had.ensures.turned) in
     let there = stands_there memo place child reply entry c.turn-had.new.entry c.at_mut.ensures.value c.turn-had.ensures.turned c.at_mut-entry.result.now c.at_mut-entry.ensures.value in
-    let outcome = (c.in-Ok.ensures {u = tt}).outcome ∙ ap (λ (l : List Answer). equation c.args.metrics.now (seen_of c.args.node.now) c.args.context.now l []) one in
+    let run = c.in-Ok.field-0.run in
     record {
+      run = run;
+      puts =
+          subst (λ (l : List Answer). PutsOutcome c.args.store.now c.lay_again-made.new.store run.0 (equation c.args.metrics.now (seen_of c.args.node.now) c.args.context.now l [])) one
+          (c.in-Ok.ensures {u = tt}).put;
       entry = entry;
       at = c.at_mut.ensures.value;
       had = had;
       has = c.turn-had.ensures.had;
       changed =
           put_twice memo place entry c.at_mut.ensures.value c.turn-had.new.entry c.remake.new.entry
-          ∙ ap (λ (e : Entry). roll-Memo (with_entry memo place e)) (c.remake.ensures ∙ (λ i. remade (there i) (outcome i) child had));
+          ∙ ap (λ (e : Entry). roll-Memo (with_entry memo place e)) (c.remake.ensures ∙ ap (λ (e : Entry). remade e run child had) there);
     }
 
 pub returns-in-Err-clause-range : goal.returns-in-Err-clause-range
