@@ -40,10 +40,10 @@ use Rattle.kept_edits.proofs.Lists.{same_all}
 abbrev pub NoneFresh : List Entry → Type 0
 NoneFresh entries = AllByRecursion (λ entry. is_fresh entry ≡ false) entries
 
-none_fresh : (entries : List Entry) → all_undone entries ≡ entries → NoneFresh entries
+pub none_fresh : (entries : List Entry) → all_undone entries ≡ entries → NoneFresh entries
 none_fresh entries h = none_each entries (none_made entries h)
 
-no_live : (entries : List Entry) (place : ℕ) (entry : Entry) → NoneFresh entries → slice_get entries place ≡ Some entry → is_live true entry ≡ true → ⊥
+pub no_live : (entries : List Entry) (place : ℕ) (entry : Entry) → NoneFresh entries → slice_get entries place ≡ Some entry → is_live true entry ≡ true → ⊥
 no_live [] place entry h at live = none-some entry at
 no_live (x ∷ entries) zero entry h at live = true≢false (sym live ∙ ap is_fresh (sym (same_Some x entry at)) ∙ h.0)
 no_live (x ∷ entries) (suc place) entry h at live = no_live entries place entry h.1 at live

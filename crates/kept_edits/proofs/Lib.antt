@@ -1,4 +1,5 @@
 mod Alike
+pub mod Backed
 pub mod Backwards
 pub mod Changing
 pub mod EditEnds

@@ -8,6 +8,8 @@ use Rattle.math_tree.specs.declared.node.Node.TheViews.{out-Node}
 use Rattle.tree_edits.specs.Paths.{FitsAt, changed, changed_at, splice_of}
 use Rattle.tree_edits.specs.declared.change.Change.{Change}
 use Rattle.embellished.specs.Facts.{facts}
+use Rattle.outcome_cells.specs.Store.{Runs}
+use Rattle.kept_results.specs.Backed.{IsBacked}
 use Rattle.kept_results.specs.Ends.{stripped}
 use Rattle.kept_results.specs.Kept.{Agrees, is_marked}
 use Rattle.kept_results.specs.Laws.{is_unmarked}
@@ -60,6 +62,16 @@ ChangeLaw =
     KnownOn known path (changed_at (changed change) path node) memo →
     IsReadyFor m (changed_at (changed change) path node) (changed_memo other known path memo)
 
+-- where runs have the layouts of a memo, and those of a memo that is put in, they have the layouts
+-- of the changed memo beside the changed tree
+abbrev pub ChangeBackedLaw : Type 0
+ChangeBackedLaw =
+    (m : MetricsValue) (runs : Runs) (node : Node) (memo : Memo) (change : Change)
+    (other : Splice Memo) (path : List ℕ) (known : List Renewal) →
+    IsReadyFor m node memo → IsBacked m runs node memo → FitsAt change path node →
+    IsAlike (IsBacked m runs) (splice_of change) other →
+    IsBacked m runs (changed_at (changed change) path node) (changed_memo other known path memo)
+
 -- ---- taken back
 
 -- taking a change of unmarked memos back gives the memos that were there before
@@ -76,3 +88,7 @@ abbrev pub BlankLaw : Type 0
 BlankLaw =
     (m : MetricsValue) (node : Node) →
     IsReadyFor m node (blank node) × (is_unmarked (blank node) ≡ true)
+
+-- whatever the runs are
+abbrev pub BlankBackedLaw : Type 0
+BlankBackedLaw = (m : MetricsValue) (runs : Runs) (node : Node) → IsBacked m runs node (blank node)

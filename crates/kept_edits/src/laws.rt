@@ -7,13 +7,18 @@ ghost use Rattle.kept_edits.specs.Edited.{FollowLaw, OwnEditLaw, ParentEditLaw};
 ghost use Rattle.kept_edits.specs.Endings.{AcceptedLaw, EntriesStayLaw, RefusedLaw};
 ghost use Rattle.kept_edits.specs.Ids.{IdsLaw, OneWayLaw};
 ghost use Rattle.kept_edits.specs.Known.{BesideLaw};
-ghost use Rattle.kept_edits.specs.Laws.{BackLaw, BlankLaw, ChangeLaw};
+ghost use Rattle.kept_edits.specs.Laws.{BackLaw, BlankBackedLaw, BlankLaw, ChangeBackedLaw, ChangeLaw};
 ghost use Rattle.kept_edits.specs.Need.{CountedLaw, StaysLaw};
 
 /// Where the same is changed in a tree and in memos that agree with it, they agree again, whatever
 /// the metrics are.
 pub fn changed_memos_agree()
     ensures { ChangeLaw }
+{}
+
+/// So runs go on to have the layouts of all entries that count.
+pub fn changed_memos_are_backed()
+    ensures { ChangeBackedLaw }
 {}
 
 /// Memos that agree with a tree know of a changed tree what `known_on` needs.
@@ -29,6 +34,11 @@ pub fn changes_can_be_taken_back()
 /// Memos of which nothing is kept agree with their tree.
 pub fn blank_memos_agree()
     ensures { BlankLaw }
+{}
+
+/// Whatever runs there are, they have all that is kept in such memos.
+pub fn blank_memos_are_backed()
+    ensures { BlankBackedLaw }
 {}
 
 /// What is kept of an element that an edit leaves alone stays as it is.
