@@ -26,11 +26,9 @@ use Rattle.layout_model.specs.declared.laid.Laid.{Laid}
 use Rattle.layout_model.specs.declared.laid.Laid.TheFolds.{fold-Laid, fold_out-Laid}
 use Rattle.layout_model.specs.declared.laid.Laid.TheOpen.{Laid-F}
 use Rattle.layout_model.specs.declared.laid.Laid.TheViews.{out-Laid, out-roll-Laid}
-use Rattle.layout_model.specs.declared.outcome.Answer.{Answer}
-use Rattle.layout_model.specs.declared.outcome.Outcome.{Outcome}
 use Rattle.layout_model.proofs.LaidTrees.{below_holds}
 use Rattle.layout_model.proofs.Trees.{laid_is}
-use Rattle.kept_results.specs.Kept.{Agrees, HasEntry, IsKept, NamesKept, Stores}
+use Rattle.kept_results.specs.Kept.{Agrees, HasEntry, IsKept, NamesKept}
 use Rattle.kept_results.specs.Looking.{own_facts}
 use Rattle.kept_results.specs.declared.memo.Entry.{Entry}
 use Rattle.kept_results.specs.declared.memo.Memo.{Memo}
@@ -40,7 +38,7 @@ use Rattle.kept_laid.specs.Boxes.{ElementBox, box_below, box_in, boxes, boxes_ov
 use Rattle.kept_laid.specs.Laid.{kids_laid}
 use Rattle.kept_laid.specs.Places.{shown_before}
 use Rattle.kept_laid.proofs.LastAsked.{asked_last}
-use Rattle.kept_laid.proofs.Reading.{all_named, asks_are, asks_in, below_is, keeps_layout, kept_last, kids_next, kids_until}
+use Rattle.kept_laid.proofs.Reading.{all_named, asks_are, asks_in, below_is, kept_last, kids_next, kids_until}
 use Rattle.kept_laid.proofs.Walking.{child_told, found, not_at_end}
 
 -- ---- what stands at a place, and what is not there
@@ -103,10 +101,10 @@ module _ (id : NodeId) where
         ∙ first_of _ _
 
     module _ (memo : Memo) (entry : Entry) (agrees : Agrees m node memo) (has : HasEntry (out-Memo memo) entry) (context : Context) (is : entry.context ≡ context) where
-      pub box_here : nat_eq (out-Node node).head.id.0 id.0 ≡ true → (answer : Answer) → ((outcome : Outcome) → Stores entry outcome → answer ≡ outcome.answer)
-          → Some answer.frame ≡ box_in id (laid m node context)
-      box_here e answer reads =
-          ap (λ (a : Answer). Some a.frame) (reads (lay m node context) (keeps_layout m node memo entry agrees has context is))
+      pub box_here : nat_eq (out-Node node).head.id.0 id.0 ≡ true → (frame : MathBox) → frame ≡ (lay m node context).answer.frame
+          → Some frame ≡ box_in id (laid m node context)
+      box_here e frame reads =
+          ap (λ (f : MathBox). Some f) reads
           ∙ sym (box_is context ∙ ap (λ (b : Bool). cond b (Some (lay m node context).answer.frame) (box_below id (kids_laid m node (questions m (seen_of node) context (answer_of m node))))) e)
 
       pub box_further : nat_eq (out-Node node).head.id.0 id.0 ≡ false → box_below id (kids_laid m node (asks_in entry)) ≡ box_in id (laid m node context)

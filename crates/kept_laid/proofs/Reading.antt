@@ -23,10 +23,14 @@ use Rattle.layout_model.specs.declared.laid.Laid.TheViews.{roll-Laid}
 use Rattle.layout_model.specs.declared.outcome.Outcome.{Outcome}
 use Rattle.layout_model.proofs.Places.{first_below, second_below}
 use Rattle.layout_model.proofs.Trees.{laid_is}
-use Rattle.kept_results.specs.Kept.{Agrees, HasEntry, IsKept, IsSound, NamesKept, Stores}
+use Rattle.outcome_cells.specs.Store.{HasOutcome, Runs}
+use Rattle.outcome_cells.proofs.Found.{one_for_run}
+use Rattle.kept_results.specs.Backed.{IsBacked}
+use Rattle.kept_results.specs.Kept.{Agrees, HasEntry, IsKept, IsSound, NamesKept}
 use Rattle.kept_results.specs.declared.memo.Entry.{Entry}
 use Rattle.kept_results.specs.declared.memo.Memo.{Memo}
 use Rattle.kept_results.specs.declared.memo.Memo.TheViews.{out-Memo}
+use Rattle.kept_results.proofs.Backed.{own_backed}
 use Rattle.kept_results.proofs.Lists.{all_both}
 use Rattle.kept_laid.specs.Laid.{kids_laid}
 use Rattle.kept_laid.specs.Last.{AreLast, seen_contexts}
@@ -50,11 +54,13 @@ module _ (m : MetricsValue) (node : Node) (memo : Memo) (entry : Entry) (agrees 
   pub all_named : AllByRecursion (NamesKept node (out-Memo memo).below) (asks_in entry)
   all_named = all_both (NamesKept node (out-Memo memo).below) (questions_in entry.one) (questions_in entry.two) sound.ones_kept sound.twos_kept
 
-  pub keeps_layout : (context : Context) → entry.context ≡ context → Stores entry (lay m node context)
-  keeps_layout context is = sound.stores ∙ ap (lay m node) is
+  -- its run has the layout of the element
+  pub keeps_layout : (runs : Runs) → IsBacked m runs node memo → (context : Context) → entry.context ≡ context → HasOutcome runs entry.run.0 (lay m node context)
+  keeps_layout runs backed context is = subst (λ (c : Context). HasOutcome runs entry.run.0 (lay m node c)) is (own_backed m runs node memo backed entry has)
 
-  pub outcome_is : (context : Context) → entry.context ≡ context → (outcome : Outcome) → Stores entry outcome → outcome ≡ lay m node context
-  outcome_is context is outcome stores = sym stores ∙ keeps_layout context is
+  pub outcome_is : (runs : Runs) → IsBacked m runs node memo → (context : Context) → entry.context ≡ context → (outcome : Outcome) → HasOutcome runs entry.run.0 outcome
+      → outcome ≡ lay m node context
+  outcome_is runs backed context is outcome stores = one_for_run runs entry.run.0 outcome (lay m node context) stores (keeps_layout runs backed context is)
 
   pub asks_are : (context : Context) → entry.context ≡ context → asks_in entry ≡ questions m (seen_of node) context (answer_of m node)
   unfolding questions
@@ -64,11 +70,11 @@ module _ (m : MetricsValue) (node : Node) (memo : Memo) (entry : Entry) (agrees 
       ∙ ap (λ (c : Context). questions m (seen_of node) c (answer_of m node)) is
 
   -- the head of the element, its outcome, and the children as they were asked last
-  pub laid_read : (context : Context) → entry.context ≡ context → (head : Head) (outcome stored : Outcome) (kids : List Laid) → head ≡ (out-Node node).head → outcome ≡ stored → Stores entry stored
-      → kids ≡ kids_laid m node (asks_in entry) → roll-Laid record { head = head; outcome = outcome; kids = kids } ≡ laid m node context
-  laid_read context is head outcome stored kids h o s k =
+  pub laid_read : (runs : Runs) → IsBacked m runs node memo → (context : Context) → entry.context ≡ context → (head : Head) (outcome : Outcome) (kids : List Laid) → head ≡ (out-Node node).head
+      → HasOutcome runs entry.run.0 outcome → kids ≡ kids_laid m node (asks_in entry) → roll-Laid record { head = head; outcome = outcome; kids = kids } ≡ laid m node context
+  laid_read runs backed context is head outcome kids h s k =
       ap (λ (x : Head). roll-Laid record { head = x; outcome = outcome; kids = kids }) h
-      ∙ ap (λ (x : Outcome). roll-Laid record { head = (out-Node node).head; outcome = x; kids = kids }) (o ∙ outcome_is context is stored s)
+      ∙ ap (λ (x : Outcome). roll-Laid record { head = (out-Node node).head; outcome = x; kids = kids }) (outcome_is runs backed context is outcome s)
       ∙ ap (λ (x : List Laid). roll-Laid record { head = (out-Node node).head; outcome = lay m node context; kids = x }) (k ∙ ap (kids_laid m node) (asks_are context is))
       ∙ sym (laid_is m node context)
 

@@ -9,6 +9,8 @@ use Rattle.layout_model.specs.Laws.{laid_below}
 use Rattle.layout_model.specs.Layout.{laid, somes}
 use Rattle.layout_model.specs.declared.context.Question.{Question}
 use Rattle.layout_model.specs.declared.laid.Laid.{Laid}
+use Rattle.outcome_cells.specs.Store.{Runs}
+use Rattle.kept_results.specs.Backed.{IsBacked}
 use Rattle.kept_results.specs.Kept.{Agrees, IsKept}
 use Rattle.kept_results.specs.declared.memo.Memo.{Memo}
 use Rattle.kept_results.specs.declared.memo.Memo.TheViews.{out-Memo}
@@ -18,6 +20,12 @@ use Rattle.kept_laid.specs.declared.laid.KeptLayout.{KeptLayout}
 pub record AgreesWithSome (node : Node) (memo : Memo) : Type 0 where
   pub metrics : MetricsValue
   pub agrees : Agrees metrics node memo
+
+-- and some with which runs have its layouts too
+pub record IsBackedWithSome (runs : Runs) (node : Node) (memo : Memo) : Type 0 where
+  pub metrics : MetricsValue
+  pub agrees : Agrees metrics node memo
+  pub backed : IsBacked metrics runs node memo
 
 -- the children in flow that are asked, each as the last question to it has it
 abbrev pub kids_laid : MetricsValue → Node → List Question → List Laid

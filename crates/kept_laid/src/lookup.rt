@@ -2,29 +2,24 @@ ghost use Rattle.std.specs.Prelude.{◌≡◌, true, false};
 ghost use Rattle.font_metrics.specs.Metrics.{MetricsValue};
 ghost use Rattle.math_tree.specs.declared.node.Node.{Node};
 ghost use Rattle.layout_model.specs.Layout.{lay};
-ghost use Rattle.kept_results.specs.Kept.{Agrees, HasEntry, IsKept, is_live, is_marked};
+ghost use Rattle.kept_results.specs.Backed.{AreBacked, IsBacked};
+ghost use Rattle.kept_results.specs.Kept.{HasEntry, IsKept, is_live, is_marked};
 ghost use Rattle.kept_results.specs.declared.memo.Memo.TheViews.{out-Memo};
 
 use fixed_units::MathBox;
 use kept_results::{Entry, Memo};
-use layout_model::{Answer, Context};
-
-/// The answer that is kept of the root of a tree in a context. It takes no memory.
-pub fn root_answer<'a>(memo: &'a Memo, context: &Context) -> &'a Answer
-    requires kept { IsKept (out-Memo memo.now) context.now }
-    ensures { (m : MetricsValue) (node : Node) → Agrees m node memo.now →
-        result.now ≡ (lay m node context.now).answer }
-{
-    kept_entry(memo, context).answer()
-}
+use layout_model::Context;
+use outcome_cells::Store;
 
 /// The box that is kept of the root of a tree in a context. It takes no memory.
-pub fn root_box(memo: &Memo, context: &Context) -> MathBox
+pub fn root_box(memo: &Memo, store: &Store, context: &Context) -> MathBox
     requires kept { IsKept (out-Memo memo.now) context.now }
-    ensures { (m : MetricsValue) (node : Node) → Agrees m node memo.now →
+    requires backed { AreBacked store.now.runs (out-Memo memo.now) }
+    ensures { (m : MetricsValue) (node : Node) → IsBacked m store.now.runs node memo.now →
         result ≡ (lay m node context.now).answer.frame }
 {
-    root_answer(memo, context).frame
+    let entry = kept_entry(memo, context);
+    store.parts(entry.run).frame
 }
 
 /// The entry of an element in a context that is no older one.
