@@ -164,7 +164,7 @@ module _ (m : MetricsValue) (node kid : Node) (place : ℕ) (asks : List Questio
 abbrev pub fresh : Entry → Entry
 fresh entry = record {
   context = entry.context;
-  outcome = entry.outcome;
+  run = entry.run;
   one = entry.one;
   two = entry.two;
   regular = entry.regular;
@@ -267,7 +267,6 @@ module _ (m : MetricsValue) (node : Node) (memo : Memo) (context : Context) (pla
       let out : out-Memo (roll-Memo layer) ≡ layer = out-roll-Memo layer in
       let move = all_then (NamesKept node (out-Memo memo).below) (NamesKept node below) (named_still need) in
       let new : IsSound m node below (fresh entry) = record {
-        stores = sound_now.stores;
         suits = sound_now.suits;
         fits = sound_now.fits;
         ones = sound_now.ones;
@@ -287,7 +286,6 @@ module _ (m : MetricsValue) (node : Node) (memo : Memo) (context : Context) (pla
           | inr s ↦
               let r = own.sound e record { place = has.place; at = s; live = has.live } in
               record {
-                stores = r.stores;
                 suits = r.suits;
                 fits = r.fits;
                 ones = r.ones;

@@ -1,3 +1,4 @@
+pub mod Backed
 pub mod Clearing
 pub mod Flagging
 pub mod Listed

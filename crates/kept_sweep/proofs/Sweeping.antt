@@ -139,7 +139,7 @@ settled_same : (entries : List Entry) → AreOld entries → map settled entries
 unfolding AreOld
 settled_same [] h = refl
 settled_same (e ∷ entries) h =
-    (λ i. record { context = e.context; outcome = e.outcome; one = e.one; two = e.two; regular = e.regular; origin = sym (stands e.origin (h 0 e refl)) i } ∷ settled_same entries (λ place. h (suc place)) i)
+    (λ i. record { context = e.context; run = e.run; one = e.one; two = e.two; regular = e.regular; origin = sym (stands e.origin (h 0 e refl)) i } ∷ settled_same entries (λ place. h (suc place)) i)
 
 abbrev IsCleared : Memo → Type 0
 IsCleared memo = stripped memo ≡ memo → is_unmarked memo ≡ true → cleared memo ≡ memo

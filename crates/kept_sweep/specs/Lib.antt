@@ -1,2 +1,3 @@
 pub mod Flagged
+pub mod Laws
 pub mod Swept
