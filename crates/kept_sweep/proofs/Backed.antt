@@ -1,5 +1,5 @@
 -- The runs of what a sweep leaves, and of a first layout.
-use Rattle.std.proofs.Common.{◌≡◌, ◌∙◌, refl, sym, ap, subst, ℕ, List, [], ◌∷◌, None}
+use Rattle.std.proofs.Common.{◌≡◌, refl, sym, subst, ℕ, List, [], ◌∷◌, None}
 use Rattle.math_tree.specs.declared.node.Node.{Node}
 use Rattle.outcome_cells.specs.Store.{StoreValue}
 use Rattle.kept_results.specs.Kept.{HasEntry, Holds, StandAt}

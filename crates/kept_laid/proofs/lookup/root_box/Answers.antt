@@ -1,4 +1,4 @@
-use Rattle.std.proofs.Common.{ap, subst}
+use Rattle.std.proofs.Common.{subst}
 use Rattle.layout_model.specs.Layout.{lay}
 use Rattle.layout_model.specs.declared.context.Context.{Context}
 use Rattle.outcome_cells.specs.Store.{HasOutcome}

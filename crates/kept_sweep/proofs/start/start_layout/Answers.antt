@@ -1,7 +1,7 @@
-use Rattle.std.proofs.Common.{◌≡◌, ◌∙◌, ◌+◌, refl, sym, ap, subst, length, arith, is_some, None, Some}
+use Rattle.std.proofs.Common.{◌≡◌, ◌∙◌, ◌+◌, refl, sym, ap, subst, length, arith, is_some}
 use Rattle.outcome_cells.specs.Store.{Runs, StoreValue}
 use Rattle.kept_results.specs.Backed.{HaveOwnRuns, IsBacked}
-use Rattle.kept_results.specs.Ends.{kept_count, sealed}
+use Rattle.kept_results.specs.Ends.{kept_count}
 use Rattle.kept_results.specs.Kept.{Agrees}
 use Rattle.kept_results.specs.Tidy.{IsTidy}
 use Rattle.kept_results.specs.declared.memo.Memo.{Memo}
