@@ -1,5 +1,5 @@
 -- A session of an editor: a tree that can be laid out, and the metrics of its font.
-use Rattle.std.specs.Prelude.{◌≡◌, ◌≢◌, false, true, List, Some, None, pos}
+use Rattle.std.specs.Prelude.{◌≡◌, ◌≢◌, false, true, ℕ, List, Some, None, pos}
 use Rattle.fixed_units.specs.declared.boxes.MathBox.{MathBox}
 use Rattle.font_metrics.specs.Metrics.{MetricsValue}
 use Rattle.math_tree.specs.Trees.{TreeValue}
@@ -7,9 +7,9 @@ use Rattle.tree_edits.specs.Edits.{edited, refusal_of}
 use Rattle.tree_edits.specs.declared.edit.Edit.{Edit}
 use Rattle.tree_edits.specs.declared.edit.EditRefusal.TheVariants.{Memory as OutOfMemory}
 use Rattle.layout_model.specs.Layout.{is_tree_in_range, laid_tree, lay_tree}
+use Rattle.outcome_cells.specs.Store.{StoreValue}
 use Rattle.kept_results.specs.declared.memo.Memo.{Memo}
-use Rattle.kept_sweep.specs.Swept.{KeepsNeeded}
-use Rattle.memo_tree.specs.Trees.{MemoTreeValue, context_of}
+use Rattle.memo_tree.specs.Trees.{MemoTreeValue}
 use Rattle.box_writer.specs.declared.placed.PlacedItem.{PlacedItem}
 use Rattle.placement.specs.Placing.{placed}
 use Rattle.edit_session.specs.declared.refusal.SessionRefusal.{SessionRefusal}
@@ -20,23 +20,31 @@ pub record SessionValue : Type 0 where
   pub tree : TreeValue
   pub metrics : MetricsValue
 
--- the same, with the layouts that are kept
+-- the same, with the layouts that are kept, the store in which their cells lie, and how many cells
+-- the last sweep left
 pub record KeptSession : Type 0 where
   pub held : SessionValue
   pub memo : Memo
+  pub store : StoreValue
+  pub swept_cells : ℕ
 
 -- the session of a tree with its kept layouts
-abbrev pub session_of : MemoTreeValue → KeptSession
-session_of laid = record {
+abbrev pub session_of : MemoTreeValue → ℕ → KeptSession
+session_of laid swept_cells = record {
   held = record { tree = laid.tree; metrics = laid.metrics };
   memo = laid.memo;
+  store = laid.store;
+  swept_cells = swept_cells;
 }
 
--- exactly the layouts are kept that the one of its tree needs
-abbrev pub IsSwept : KeptSession → Type 0
-IsSwept session =
-    KeepsNeeded session.held.metrics session.held.tree.root
-    (context_of session.held.metrics session.held.tree) session.memo
+-- the tree with its kept layouts that a session has
+abbrev pub layouts_of : KeptSession → MemoTreeValue
+layouts_of session = record {
+  tree = session.held.tree;
+  metrics = session.held.metrics;
+  memo = session.memo;
+  store = session.store;
+}
 
 -- every layout that is made of its tree can be stored
 abbrev pub IsInRange : SessionValue → Type 0

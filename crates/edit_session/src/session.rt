@@ -1,4 +1,5 @@
-ghost use Rattle.std.specs.Prelude.{◌≡◌, ◌≤◌, ◌≢◌, ◌+◌, ◌-◌, ◌^◌, min, false, None, All, Err, IfOk, OnOk, IfErr, OnErr};
+ghost use Rattle.std.specs.Prelude.{◌≡◌, ◌≤◌, ◌≢◌, ◌⊎◌, ◌+◌, ◌-◌, ◌^◌, min, false, None, All, Err, IfOk, OnOk, IfErr, OnErr};
+ghost use Rattle.box_pool.specs.Runs.{cell_count};
 ghost use Rattle.box_writer.specs.Items.{IsOfFont};
 ghost use Rattle.fixed_units.specs.declared.refusal.LayRefusal.TheVariants.{Range};
 ghost use Rattle.layout_model.specs.Layout.{is_tree_in_range};
@@ -8,11 +9,12 @@ ghost use Rattle.tree_edits.specs.Inverses.{edit_of, inverse};
 ghost use Rattle.kept_results.specs.Ends.{kept_count};
 ghost use Rattle.kept_results.specs.Laws.{AllKept};
 ghost use Rattle.kept_edits.specs.ByIds.{TakesNeeded};
-ghost use Rattle.kept_sweep.specs.Swept.{CountsNeeded, IsPartOf};
+ghost use Rattle.kept_sweep.specs.Swept.{CountsNeeded};
 ghost use Rattle.memo_tree.specs.Counted.{TakesVisits};
 ghost use Rattle.memo_tree.specs.States.{IsIn, Sealed};
 ghost use Rattle.memo_tree.specs.Trees.{context_of};
-ghost use Rattle.edit_session.specs.Session.{IsCause, IsInRange, IsSwept, edited_session, page, root_box, session_of};
+ghost use Rattle.edit_session.specs.Session.{IsCause, IsInRange, edited_session, page, root_box, session_of};
+ghost use Rattle.edit_session.specs.Sweeping.{HasFewCells, IsFound, IsLeft, IsNoted, IsSwept, IsSweptFrom, RunsStay, is_due};
 
 use crate::SessionRefusal;
 use box_writer::Placed;
@@ -33,18 +35,14 @@ use tree_edits::Edit;
 #[derive(Drop)]
 pub struct Session {
     layouts: MemoTree,
-    /// The weight of the edits that were accepted since what isn't needed was dropped.
-    unswept: usize,
+    /// How many cells the last sweep left.
+    swept_cells: usize,
+    /// No more layouts are kept than this. It is counted anew where it says too little.
+    most_kept: usize,
 }
 
-/// What an accepted edit weighs, beside one for each layout that it made. So only so many edits
-/// come between two sweeps: all layouts that are kept of an element are looked through for one.
-const EDIT_WEIGHT: usize = 4;
-
-/// So much, and two more for each element of the tree, edits may weigh before layouts that aren't
-/// needed any more are dropped: that goes over the whole tree, and is to cost little beside them at
-/// any size.
-const MOST_UNSWEPT: usize = 4_096;
+/// An edit first drops the layouts that nothing needs where more are kept than this.
+const MOST_UNSWEPT: usize = 131_072;
 
 impl Model for Session {
     ghost use Rattle.std.specs.Coded.{codes};
@@ -58,11 +56,11 @@ impl Model for Session {
 
     ghost use Rattle.edit_session.specs.Session.{session_of};
 
-    ghost view = { λ session. session_of session.layouts };
+    ghost view = { λ session. session_of session.layouts session.swept_cells };
 
-    ghost use Rattle.memo_tree.specs.States.{IsIn, Sealed};
+    ghost use Rattle.edit_session.specs.Sweeping.{IsKeptWithin};
 
-    ghost invariant = { λ session. IsIn Sealed session.layouts };
+    ghost invariant = { λ session. IsKeptWithin session.layouts session.most_kept };
 }
 
 impl Session {
@@ -79,19 +77,27 @@ impl Session {
         ensures fit { IfOk result (λ session. IsInRange session.held) }
         ensures range { result ≡ Err Range → is_tree_in_range metrics tree ≡ false }
         ensures kept { IfOk result IsSwept }
+        ensures cells { IfOk result (λ session. session.swept_cells ≡ cell_count session.store.runs) }
         ensures steps { CountsNeeded metrics tree.root (context_of metrics tree) steps.old
             steps.new }
         ensures visits { TakesVisits metrics tree steps.old steps.new }
         ensures all { IfOk result (λ session. steps.new ≡ steps.old + kept_count session.memo) }
     {
         let layouts = MemoTree::start(alloc, tree, metrics, steps)?;
-        let unswept = 0;
-        Ok(Session { layouts, unswept })
+        let swept_cells = layouts.cells();
+        let most_kept = layouts.store().live();
+        Ok(Session {
+            layouts,
+            swept_cells,
+            most_kept,
+        })
     }
 
     /// Carries an edit out, and makes the layouts that the edited tree needs and that aren't kept,
-    /// each of which ticks a step. Where either is refused, the session stays as it was, with all
-    /// that it keeps; an edit that the tree gives a reason to refuse takes no step.
+    /// each of which ticks a step. First the layouts are dropped that nothing needs, where more
+    /// than 131,072 are kept, or more than twice the cells that the last sweep left. Where any of
+    /// this is refused, the session holds what it held, and keeps what it kept but for what was
+    /// dropped; an edit that the tree gives a reason to refuse takes no step.
     pub fn edit<L: Ledger>(
         &mut self,
         alloc: Global,
@@ -103,7 +109,12 @@ impl Session {
         ensures edited { OnOk result (self.new.held ≡ edited_session self.old.held edit) }
         ensures fit { OnOk result (IsInRange self.new.held) }
         ensures refused { IfErr result (IsCause self.old.held edit) }
-        ensures unchanged { OnErr result (self.new ≡ self.old) }
+        ensures held { OnErr result (self.new.held ≡ self.old.held) }
+        ensures left { IfErr result (λ refusal. IsLeft self.old refusal self.new) }
+        ensures noted { OnOk result (IsNoted self.old self.new) }
+        ensures runs { OnOk result (RunsStay self.old edit self.new) }
+        ensures few { kept_count self.new.memo ≤ 262_144 }
+        ensures cells { OnOk result (HasFewCells self.new) }
         ensures unlaid { refusal_of self.old.held.tree edit ≢ None → steps.new ≡ steps.old }
         ensures steps { refusal_of self.old.held.tree edit ≡ None
             → TakesNeeded self.old.held.metrics self.old.held.tree edit steps.old steps.new }
@@ -126,7 +137,12 @@ impl Session {
         ensures fit { OnOk result (IsInRange self.new.held) }
         ensures back { IfOk result (λ back. back ≡ inverse self.old.held.tree edit) }
         ensures refused { IfErr result (IsCause self.old.held edit) }
-        ensures unchanged { OnErr result (self.new ≡ self.old) }
+        ensures held { OnErr result (self.new.held ≡ self.old.held) }
+        ensures left { IfErr result (λ refusal. IsLeft self.old refusal self.new) }
+        ensures noted { OnOk result (IsNoted self.old self.new) }
+        ensures runs { OnOk result (RunsStay self.old edit self.new) }
+        ensures few { kept_count self.new.memo ≤ 262_144 }
+        ensures cells { OnOk result (HasFewCells self.new) }
         ensures unlaid { refusal_of self.old.held.tree edit ≢ None → steps.new ≡ steps.old }
         ensures steps { refusal_of self.old.held.tree edit ≡ None
             → TakesNeeded self.old.held.metrics self.old.held.tree edit steps.old steps.new }
@@ -148,16 +164,24 @@ impl Session {
         ensures back { IfOk result (λ reversal. edit_of reversal.taken
             ≡ inverse self.old.held.tree edit) }
         ensures refused { IfErr result (IsCause self.old.held edit) }
-        ensures unchanged { OnErr result (self.new ≡ self.old) }
+        ensures held { OnErr result (self.new.held ≡ self.old.held) }
+        ensures left { IfErr result (λ refusal. IsLeft self.old refusal self.new) }
+        ensures noted { OnOk result (IsNoted self.old self.new) }
+        ensures runs { OnOk result (RunsStay self.old edit self.new) }
+        ensures few { kept_count self.new.memo ≤ 262_144 }
+        ensures cells { OnOk result (HasFewCells self.new) }
         ensures unlaid { refusal_of self.old.held.tree edit ≢ None → steps.new ≡ steps.old }
         ensures steps { refusal_of self.old.held.tree edit ≡ None
             → TakesNeeded self.old.held.metrics self.old.held.tree edit steps.old steps.new }
     {
+        if self.is_due() {
+            self.sweep(alloc)?;
+        }
         let reversal = self.layouts.change(alloc, edit)?;
         match self.layouts.relay(alloc, steps) {
             Ok(()) => {
                 let made = self.layouts.seal();
-                self.drop_in_time(made);
+                self.most_kept = self.most_kept.saturating_add(made);
                 Ok(reversal)
             }
             Err(refusal) => {
@@ -168,32 +192,30 @@ impl Session {
         }
     }
 
-    /// Weighs an accepted edit that made so many layouts, and drops what isn't needed any more
-    /// where the edits since that was last done weigh enough.
-    fn drop_in_time(&mut self, made: usize)
-        ensures { self.new.held ≡ self.old.held }
+    /// Whether so much is kept that an edit first drops what isn't needed. It counts the layouts
+    /// only where there may be too many. It takes no memory.
+    fn is_due(&mut self) -> bool
+        ensures due { result ≡ is_due self.old }
+        ensures same { self.new ≡ self.old }
     {
-        let weight = self
-            .unswept
-            .saturating_add(EDIT_WEIGHT)
-            .saturating_add(made);
-        let elements = self.layouts.tree().elements() as usize;
-        if weight <= MOST_UNSWEPT + 2 * elements {
-            self.unswept = weight;
-        } else {
-            self.drop_needless();
+        if self.most_kept > MOST_UNSWEPT {
+            self.most_kept = self.layouts.kept();
         }
+        self.most_kept > MOST_UNSWEPT
+            || self.layouts.cells() > self.swept_cells.saturating_mul(2)
     }
 
-    /// Drops all layouts but those that the one of the tree needs.
-    fn drop_needless(&mut self)
-        ensures held { self.new.held ≡ self.old.held }
-        ensures kept { IsSwept self.new }
-        ensures part { IsPartOf self.new.memo self.old.memo }
-        ensures few { kept_count self.new.memo ≤ 131_072 }
+    /// Drops all layouts but those that the one of the tree needs, and notes how many cells are
+    /// left.
+    fn sweep(&mut self, alloc: Global) -> Result<(), Memory>
+        ensures swept { OnOk result (IsSweptFrom self.old self.new) }
+        ensures few { OnOk result (kept_count self.new.memo ≤ 131_072) }
+        ensures unchanged { OnErr result (self.new ≡ self.old) }
     {
-        self.layouts.sweep();
-        self.unswept = 0;
+        self.layouts.sweep(alloc)?;
+        self.swept_cells = self.layouts.cells();
+        self.most_kept = self.layouts.store().live();
+        Ok(())
     }
 
     /// Says where the boxes and the marks of the tree stand, in document order: the root's baseline
@@ -201,12 +223,12 @@ impl Session {
     pub fn show(&mut self, alloc: Global) -> Result<Placed, Memory>
         ensures page { IfOk result (λ items. items ≡ page self.old.held) }
         ensures glyphs { IfOk result (All (IsOfFont self.old.held.metrics)) }
-        ensures unchanged { self.new.held ≡ self.old.held }
-        ensures kept { IsSwept self.new }
-        ensures part { IsPartOf self.new.memo self.old.memo }
-        ensures few { kept_count self.new.memo ≤ 131_072 }
+        ensures held { self.new.held ≡ self.old.held }
+        ensures swept { OnOk result (IsSweptFrom self.old self.new) }
+        ensures few { OnOk result (kept_count self.new.memo ≤ 131_072) }
+        ensures left { OnErr result (IsSweptFrom self.old self.new ⊎ (self.new ≡ self.old)) }
     {
-        self.drop_needless();
+        self.sweep(alloc)?;
         self.placed(alloc)
     }
 
@@ -224,7 +246,7 @@ impl Session {
         let metrics = self.layouts.metrics();
         // What placing needs to know of the metrics: the call does nothing.
         metrics.is_taken();
-        place_kept(alloc, &root, metrics)
+        place_kept(alloc, &root, self.layouts.store(), metrics)
     }
 
     /// The metrics of the font, as the session was started with them.
@@ -257,10 +279,17 @@ impl Session {
         self.layouts.kept()
     }
 
+    /// How many cells there are, those of layouts that aren't kept any more among them.
+    pub fn cells(&self) -> usize
+        ensures { result ≡ cell_count self.now.store.runs }
+    {
+        self.layouts.cells()
+    }
+
     /// The tree with the layouts that are kept of it. They agree with it, and its own is among
     /// them.
     pub fn layouts(&self) -> &MemoTree
-        ensures exact { session_of result.now ≡ self.now }
+        ensures exact { session_of result.now self.now.swept_cells ≡ self.now }
         ensures agrees { IsIn Sealed result.now }
         ensures needed { AllKept result.now.metrics result.now.tree.root
             (context_of result.now.metrics result.now.tree) result.now.memo }

@@ -13,12 +13,13 @@ pub record ReversalValue : Type 0 where
   pub path : List ℕ
   pub back : Splice Memo
 
--- the tree before the change, and what was kept of it
+-- the tree before the change, and what was kept of it; the store is as it is
 abbrev pub reversed : ReversalValue → MemoTreeValue → MemoTreeValue
 reversed reversal laid = record {
   tree = restored reversal.taken laid.tree;
   metrics = laid.metrics;
   memo = undone_memo reversal.back reversal.path laid.memo;
+  store = laid.store;
 }
 
 -- it fits the tree and the memos

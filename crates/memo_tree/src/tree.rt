@@ -1,20 +1,24 @@
-ghost use Rattle.std.specs.Prelude.{◌≡◌, ◌≤◌, ◌+◌, ◌-◌, ◌^◌, min, true, false, Err, IfErr, IfOk, None as NoReason, OnErr, OnOk};
+ghost use Rattle.std.specs.Prelude.{◌≡◌, ◌≤◌, ◌+◌, ◌-◌, ◌^◌, [], min, true, false, length, Err, IfErr, IfOk, None as NoReason, OnErr, OnOk};
+ghost use Rattle.box_pool.specs.Runs.{cell_count};
 ghost use Rattle.fixed_units.specs.declared.refusal.LayRefusal.TheVariants.{Range};
 ghost use Rattle.tree_edits.specs.Applying.{IsProperEdit, IsReason};
 ghost use Rattle.tree_edits.specs.Edits.{edited, refusal_of};
 ghost use Rattle.tree_edits.specs.Inverses.{edit_of, inverse};
 ghost use Rattle.layout_model.specs.Layout.{is_tree_in_range, laid_tree};
 ghost use Rattle.kept_results.specs.Ends.{fresh_count, kept_count, sealed, stripped};
+ghost use Rattle.kept_results.specs.Grown.{GrownByPairs};
 ghost use Rattle.kept_results.specs.Kept.{Keeps};
+ghost use Rattle.kept_results.specs.Passes.{Needs};
 ghost use Rattle.kept_laid.specs.Boxes.{box_in};
 ghost use Rattle.kept_edits.specs.Blank.{blank};
 ghost use Rattle.kept_edits.specs.Passed.{TakesMissing};
+ghost use Rattle.kept_sweep.specs.Runs.{HaveOneRunEach};
 ghost use Rattle.kept_sweep.specs.Swept.{CountsNeeded, IsPartOf, KeepsNeeded};
 ghost use Rattle.memo_tree.specs.Counted.{EntriesStay, MissingIsCounted, TakesVisits};
 ghost use Rattle.memo_tree.specs.Marked.{EachStays, MarksPath, NewIsBlank};
 ghost use Rattle.memo_tree.specs.Reversing.{CanReverse, Reverses, reversed};
-ghost use Rattle.memo_tree.specs.States.{Changed, IsIn, Passed, Sealed, Stopped};
-ghost use Rattle.memo_tree.specs.Trees.{context_of, root_box};
+ghost use Rattle.memo_tree.specs.States.{Changed, IsIn, Passed, Sealed, Stopped, without_pass};
+ghost use Rattle.memo_tree.specs.Trees.{IsSwept, context_of, root_box};
 
 use crate::following::follow;
 use crate::notes::Notes;
@@ -26,15 +30,17 @@ use font_metrics::Metrics;
 use kept_edits::blank;
 use kept_laid::{box_of, count, count_or_most, laid_of, root_box};
 use kept_results::{Memo, relay_element, seal, undo_pass};
-use kept_sweep::{start_layout, sweep_layouts};
+use kept_sweep::{start_layout, sweep_stored};
 use layout_model::{Context, Laid};
 use math_tree::{Node, NodeId, Tree};
+use outcome_cells::Store;
 use std::alloc::Global;
 use std::marker::Model;
 use std::sync::ledger::Ledger;
 use tree_edits::{Edit, EditRefusal, apply_at, restore};
 
-/// A tree with the layouts that are kept of it and of its elements, and the metrics of their font.
+/// A tree with the layouts that are kept of it and of its elements, the store in which their cells
+/// lie, and the metrics of their font.
 ///
 /// It is in one of four states (`specs/States.antt`): a pass, `relay`, leads from changed to passed
 /// or, where it is refused, to stopped; `seal` ends a pass that was done, and `undo_pass` takes one
@@ -44,8 +50,10 @@ pub struct MemoTree {
     tree: Tree,
     metrics: Metrics,
     memo: Memo,
-    /// Whether exactly the layouts are kept that the one of the tree needs, so that a sweep drops
-    /// nothing.
+    /// The cells of the layouts that are kept, and of some that were.
+    store: Store,
+    /// Whether exactly the layouts are kept that the one of the tree needs, and no cells of others,
+    /// so that a sweep drops nothing.
     swept: bool,
     /// It finds elements, and no contract of this type speaks of it.
     notes: Notes,
@@ -63,10 +71,19 @@ impl Model for MemoTree {
 
     ghost use Rattle.memo_tree.specs.Trees.{IsHeld};
 
-    ghost view = { λ laid. record { tree = laid.tree; metrics = laid.metrics; memo = laid.memo } };
+    ghost view = { λ laid. record {
+      tree = laid.tree;
+      metrics = laid.metrics;
+      memo = laid.memo;
+      store = laid.store;
+    } };
 
-    ghost invariant = { λ laid.
-        IsHeld (record { tree = laid.tree; metrics = laid.metrics; memo = laid.memo }) laid.swept };
+    ghost invariant = { λ laid. IsHeld (record {
+      tree = laid.tree;
+      metrics = laid.metrics;
+      memo = laid.memo;
+      store = laid.store;
+    }) laid.swept };
 }
 
 impl MemoTree {
@@ -75,6 +92,7 @@ impl MemoTree {
         ensures tree { IfOk result (λ laid. laid.tree ≡ tree) }
         ensures metrics { IfOk result (λ laid. laid.metrics ≡ metrics) }
         ensures memo { IfOk result (λ laid. laid.memo ≡ blank tree.root) }
+        ensures store { IfOk result (λ laid. laid.store ≡ record { runs = []; checkpoint = NoReason }) }
         ensures changed { IfOk result (IsIn Changed) }
     {
         match blank(alloc, tree.root()) {
@@ -82,6 +100,7 @@ impl MemoTree {
                 tree,
                 metrics,
                 memo,
+                store: Store::make(alloc),
                 swept: false,
                 notes: Notes::none(),
             }),
@@ -105,8 +124,7 @@ impl MemoTree {
     ) -> Result<MemoTree, LayRefusal>
         ensures tree { IfOk result (λ laid. laid.tree ≡ tree) }
         ensures metrics { IfOk result (λ laid. laid.metrics ≡ metrics) }
-        ensures kept { IfOk result (λ laid. KeepsNeeded metrics tree.root (context_of metrics tree)
-            laid.memo) }
+        ensures swept { IfOk result IsSwept }
         ensures steps { CountsNeeded metrics tree.root (context_of metrics tree) steps.old
             steps.new }
         ensures visits { TakesVisits metrics tree steps.old steps.new }
@@ -115,7 +133,8 @@ impl MemoTree {
         ensures range { result ≡ Err Range → is_tree_in_range metrics tree ≡ false }
     {
         let context = context_of(&tree, &metrics);
-        let made = start_layout(alloc, tree.root(), &context, &metrics, steps);
+        let mut store = Store::make(alloc);
+        let made = start_layout(alloc, tree.root(), &mut store, &context, &metrics, steps);
         // Told, here and below, so that what is let go of isn't proved through all its parts here.
         drop(context);
         match made {
@@ -123,10 +142,12 @@ impl MemoTree {
                 tree,
                 metrics,
                 memo,
+                store,
                 swept: true,
                 notes: Notes::none(),
             }),
             Err(refusal) => {
+                drop(store);
                 drop(tree);
                 drop(metrics);
                 Err(refusal)
@@ -135,20 +156,22 @@ impl MemoTree {
     }
 
     /// Edits the tree, and changes what is kept beside it: each element that stays has the entries
-    /// that it had, nothing is kept of new elements, and just the elements on the path of the edit
-    /// are marked. Where the edit is refused, all stays as it is.
+    /// that it had, with their runs, nothing is kept of new elements, and just the elements on the
+    /// path of the edit are marked. Where the edit is refused, all stays as it is.
     pub fn change(&mut self, alloc: Global, edit: Edit) -> Result<Reversal, EditRefusal>
         requires proper { IsProperEdit edit }
         requires sealed { IsIn Sealed self.old }
         ensures accepted { OnOk result (refusal_of self.old.tree edit ≡ NoReason) }
         ensures tree { OnOk result (self.new.tree ≡ edited self.old.tree edit) }
         ensures metrics { self.new.metrics ≡ self.old.metrics }
+        ensures store { self.new.store ≡ self.old.store }
         ensures changed { OnOk result (IsIn Changed self.new) }
         ensures new { OnOk result (NewIsBlank self.old edit self.new) }
         ensures marked { OnOk result (MarksPath self.old edit self.new) }
         ensures kept { OnOk result (EachStays self.old edit self.new) }
         ensures stays { OnOk result (EntriesStay self.old edit self.new) }
         ensures counted { OnOk result (MissingIsCounted self.old edit self.new) }
+        ensures fewer { OnOk result (kept_count self.new.memo ≤ kept_count self.old.memo) }
         ensures reversal { IfOk result (λ reversal. Reverses reversal self.new self.old) }
         ensures back { IfOk result (λ reversal. edit_of reversal.taken
             ≡ inverse self.old.tree edit) }
@@ -187,8 +210,8 @@ impl MemoTree {
         reversal.take_back(&mut self.tree, &mut self.memo);
     }
 
-    /// Lays the tree out as far as its layouts aren't kept, each of which ticks a step; those that
-    /// are kept stay. It is refused with `Range` exactly where a number of a layout that the one of
+    /// Lays the tree out as far as its layouts aren't kept, each of which ticks a step and comes to
+    /// the store; those that are kept stay, with their runs. It is refused with `Range` exactly where a number of a layout that the one of
     /// the tree needs can't be stored.
     pub fn relay<L: Ledger>(
         &mut self,
@@ -200,22 +223,29 @@ impl MemoTree {
         ensures metrics { self.new.metrics ≡ self.old.metrics }
         ensures stopped { IsIn Stopped self.new }
         ensures passed { OnOk result (IsIn Passed self.new) }
-        ensures before { stripped self.new.memo ≡ self.old.memo }
+        ensures before { without_pass self.new ≡ self.old }
         ensures steps { TakesMissing self.old.metrics self.old.tree.root
             (context_of self.old.metrics self.old.tree) self.old.memo steps.old steps.new }
         ensures keeps { Keeps self.old.memo self.new.memo }
         ensures all { OnOk result (steps.new + kept_count self.old.memo ≡
             steps.old + kept_count self.new.memo) }
+        ensures runs { OnOk result (length self.new.store.runs + steps.old ≡
+            length self.old.store.runs + steps.new) }
+        ensures cells { OnOk result (GrownByPairs self.old.metrics self.old.tree.root
+            (Needs self.old.metrics self.old.tree.root (context_of self.old.metrics self.old.tree))
+            self.old.store.runs self.new.store.runs) }
         ensures fit { OnOk result (is_tree_in_range self.old.metrics self.old.tree ≡ true) }
         ensures range { result ≡ Err Range →
             is_tree_in_range self.old.metrics self.old.tree ≡ false }
     {
         self.swept = false;
         let context = context_of(&self.tree, &self.metrics);
+        self.store.begin();
         relay_element(
             alloc,
             self.tree.root(),
             &mut self.memo,
+            &mut self.store,
             &context,
             &self.metrics,
             steps,
@@ -223,17 +253,16 @@ impl MemoTree {
         Ok(())
     }
 
-    /// Takes a pass back: what it made is dropped, and what it made anew is what it was. It takes
-    /// no memory.
+    /// Takes a pass back: what it made is dropped, and what it made anew is what it was, in its run
+    /// of before. It takes no memory.
     pub fn undo_pass(&mut self)
         requires stopped { IsIn Stopped self.old }
-        ensures tree { self.new.tree ≡ self.old.tree }
-        ensures metrics { self.new.metrics ≡ self.old.metrics }
-        ensures memo { self.new.memo ≡ stripped self.old.memo }
+        ensures before { self.new ≡ without_pass self.old }
         ensures changed { IsIn Changed self.new }
     {
         self.swept = false;
         undo_pass(&mut self.memo);
+        self.store.rollback();
     }
 
     /// Ends a pass that was done: layouts of elements as they were before it are dropped. It takes
@@ -243,48 +272,42 @@ impl MemoTree {
         ensures tree { self.new.tree ≡ self.old.tree }
         ensures metrics { self.new.metrics ≡ self.old.metrics }
         ensures memo { self.new.memo ≡ sealed self.old.memo }
+        ensures runs { self.new.store.runs ≡ self.old.store.runs }
         ensures sealed { IsIn Sealed self.new }
         ensures made { result ≡ min (fresh_count self.old.memo) (2 ^ 64 - 1) }
     {
         self.swept = false;
+        self.store.commit();
         seal(&mut self.memo)
     }
 
-    /// Drops all layouts but those that the one of the tree needs, and says how many are left. It
-    /// takes no memory.
-    pub fn sweep(&mut self) -> usize
+    /// Drops all layouts but those that the one of the tree needs, and all cells but theirs, whose
+    /// runs stay. Where nothing else is there, it goes over none. Where memory is refused, all
+    /// stays as it is.
+    pub fn sweep(&mut self, alloc: Global) -> Result<(), Memory>
         requires sealed { IsIn Sealed self.old }
         ensures tree { self.new.tree ≡ self.old.tree }
         ensures metrics { self.new.metrics ≡ self.old.metrics }
-        ensures sealed { IsIn Sealed self.new }
-        ensures kept { KeepsNeeded self.old.metrics self.old.tree.root
-            (context_of self.old.metrics self.old.tree) self.new.memo }
-        ensures part { IsPartOf self.new.memo self.old.memo }
-        ensures count { result ≡ kept_count self.new.memo }
-        ensures few { result ≤ 131_072 }
+        ensures sealed { OnOk result (IsIn Sealed self.new) }
+        ensures swept { OnOk result (IsSwept self.new) }
+        ensures part { OnOk result (IsPartOf self.new.memo self.old.memo) }
+        ensures few { OnOk result (kept_count self.new.memo ≤ 131_072) }
+        ensures unchanged { OnErr result (self.new ≡ self.old) }
     {
-        self.drop_needless();
-        count(&self.memo)
-    }
-
-    /// The same, without the count. Where exactly the needed layouts are kept already, it goes over
-    /// none.
-    fn drop_needless(&mut self)
-        requires sealed { IsIn Sealed self.old }
-        ensures tree { self.new.tree ≡ self.old.tree }
-        ensures metrics { self.new.metrics ≡ self.old.metrics }
-        ensures sealed { IsIn Sealed self.new }
-        ensures kept { KeepsNeeded self.old.metrics self.old.tree.root
-            (context_of self.old.metrics self.old.tree) self.new.memo }
-        ensures part { IsPartOf self.new.memo self.old.memo }
-        ensures few { kept_count self.new.memo ≤ 131_072 }
-    {
-        let context = context_of(&self.tree, &self.metrics);
         if self.swept {
-            return;
+            return Ok(());
         }
-        sweep_layouts(self.tree.root(), &mut self.memo, &context, &self.metrics);
+        let context = context_of(&self.tree, &self.metrics);
+        sweep_stored(
+            alloc,
+            self.tree.root(),
+            &mut self.memo,
+            &mut self.store,
+            &context,
+            &self.metrics,
+        )?;
         self.swept = true;
+        Ok(())
     }
 
     /// The layout of the tree with all elements in flow, read off what is kept.
@@ -293,7 +316,7 @@ impl MemoTree {
         ensures { IfOk result (λ all. all ≡ laid_tree self.now.metrics self.now.tree) }
     {
         let context = context_of(&self.tree, &self.metrics);
-        laid_of(alloc, self.tree.root(), &self.memo, &context)
+        laid_of(alloc, self.tree.root(), &self.memo, &self.store, &context)
     }
 
     /// The box of the root. It takes no memory.
@@ -302,7 +325,7 @@ impl MemoTree {
         ensures { result ≡ root_box self.now }
     {
         let context = context_of(&self.tree, &self.metrics);
-        root_box(&self.memo, &context)
+        root_box(&self.memo, &self.store, &context)
     }
 
     /// The box of the element with an id, as the layout of the tree has it; none where no element
@@ -312,7 +335,7 @@ impl MemoTree {
         ensures { result ≡ box_in id (laid_tree self.now.metrics self.now.tree) }
     {
         let context = context_of(&self.tree, &self.metrics);
-        box_of(self.tree.root(), &self.memo, &context, id)
+        box_of(self.tree.root(), &self.memo, &self.store, &context, id)
     }
 
     /// How many layouts are kept, and 2^64 - 1 where there are more. It takes no memory.
@@ -320,6 +343,14 @@ impl MemoTree {
         ensures { result ≡ min (kept_count self.now.memo) (2 ^ 64 - 1) }
     {
         count_or_most(&self.memo)
+    }
+
+    /// How many cells the store has, those of layouts that aren't kept any more among them. It
+    /// takes no memory.
+    pub fn cells(&self) -> usize
+        ensures { result ≡ cell_count self.now.store.runs }
+    {
+        self.store.cells()
     }
 
     /// The context in which the root is laid out.
@@ -334,6 +365,13 @@ impl MemoTree {
         ensures { result.now ≡ self.now.memo }
     {
         &self.memo
+    }
+
+    /// The store in which the cells of what is kept lie.
+    pub fn store(&self) -> &Store
+        ensures { result.now ≡ self.now.store }
+    {
+        &self.store
     }
 
     /// The tree.
