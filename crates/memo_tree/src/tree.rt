@@ -92,7 +92,8 @@ impl MemoTree {
         ensures tree { IfOk result (λ laid. laid.tree ≡ tree) }
         ensures metrics { IfOk result (λ laid. laid.metrics ≡ metrics) }
         ensures memo { IfOk result (λ laid. laid.memo ≡ blank tree.root) }
-        ensures store { IfOk result (λ laid. laid.store ≡ record { runs = []; checkpoint = NoReason }) }
+        ensures store { IfOk result
+            (λ laid. laid.store ≡ record { runs = []; checkpoint = NoReason }) }
         ensures changed { IfOk result (IsIn Changed) }
     {
         match blank(alloc, tree.root()) {
@@ -211,8 +212,8 @@ impl MemoTree {
     }
 
     /// Lays the tree out as far as its layouts aren't kept, each of which ticks a step and comes to
-    /// the store; those that are kept stay, with their runs. It is refused with `Range` exactly where a number of a layout that the one of
-    /// the tree needs can't be stored.
+    /// the store; those that are kept stay, with their runs. It is refused with `Range` exactly
+    /// where a number of a layout that the one of the tree needs can't be stored.
     pub fn relay<L: Ledger>(
         &mut self,
         alloc: Global,
