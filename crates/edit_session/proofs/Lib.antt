@@ -1,1 +1,5 @@
-mod Whole
+pub mod Counting
+pub mod Finding
+pub mod Pairs
+pub mod Staying
+pub mod Whole
