@@ -4,7 +4,7 @@ pub mod Clearing
 pub mod Flagging
 pub mod Listed
 pub mod Listing
-pub mod Runs
+pub mod RunIds
 pub mod Starting
 pub mod Stored
 pub mod Sweeping

@@ -11,7 +11,7 @@ use Rattle.kept_results.specs.declared.memo.Entry.{Entry}
 use Rattle.kept_results.specs.declared.memo.Memo.{Memo}
 use Rattle.kept_results.specs.declared.memo.Memo.TheViews.{out-Memo}
 use Rattle.kept_sweep.specs.Runs.{live_runs, runs_of}
-use Rattle.kept_sweep.proofs.Runs.{count_runs, runs_out}
+use Rattle.kept_sweep.proofs.RunIds.{count_runs, runs_out}
 
 -- ---- what a map to lists gives of the first items
 

@@ -25,7 +25,7 @@ use Rattle.kept_sweep.specs.RunLaws.{EnoughRunsLaw, OneRunEachLaw}
 use Rattle.kept_sweep.specs.Runs.{HaveOneRunEach, runs_of}
 use Rattle.kept_sweep.proofs.AllOf.{all_of, has}
 use Rattle.kept_sweep.proofs.Backed.{held_at}
-use Rattle.kept_sweep.proofs.Runs.{all_by_ids, count_ids, count_runs, entry_has, ids_distinct, ids_of, listed_in_ids, of_entry, stands}
+use Rattle.kept_sweep.proofs.RunIds.{all_by_ids, count_ids, count_runs, entry_has, ids_distinct, ids_of, listed_in_ids, of_entry, stands}
 
 module _ (m : MetricsValue) (runs : Runs) (node : Node) (memo : Memo) (agrees : Agrees m node memo) (backed : IsBacked m runs node memo) where
   -- the run of each entry is live

@@ -23,7 +23,7 @@ use Rattle.kept_results.proofs.Agreement.{agrees_child}
 use Rattle.kept_results.proofs.Counts.{count_out}
 use Rattle.kept_results.proofs.Shown.{there_is}
 use Rattle.kept_sweep.specs.Runs.{IsRunOfEntry, live_runs, runs_in, runs_of}
-use Rattle.kept_sweep.proofs.AllOf.{distinct_both, distinct_more, either_true, has, has_both, no_from, second_true}
+use Rattle.kept_sweep.proofs.AllOf.{distinct_both, distinct_more, either_true, has, has_both, no_from, nothing_twice, second_true}
 use Rattle.kept_sweep.proofs.Sweeping.{by_below}
 
 -- ---- ids
@@ -116,15 +116,15 @@ module _ (marked : Bool) where
 
   own_from : (entries : List Entry) (q : ℕ) → has (own_ids marked entries) q ≡ true → HasRun marked entries q
   own_from [] q h = let g : false ≡ true = h in cc
-  own_from (first ∷ entries) q h = by (is_live marked first) refl h
+  own_from (first ∷ entries) q h = by (own_from entries q) (is_live marked first) refl h
     where
-      by : (b : Bool) → is_live marked first ≡ b → has (ids (map (λ (e : Entry). e.run) (cond b (first ∷ filter (is_live marked) entries) (filter (is_live marked) entries)))) q ≡ true
+      by : (has (own_ids marked entries) q ≡ true → HasRun marked entries q) → (b : Bool) → is_live marked first ≡ b → has (ids (map (λ (e : Entry). e.run) (cond b (first ∷ filter (is_live marked) entries) (filter (is_live marked) entries)))) q ≡ true
           → HasRun marked (first ∷ entries) q
-      by false dead k = run_later first entries q (own_from entries q k)
-      by true live k =
+      by later false dead k = run_later first entries q (later k)
+      by later true live k =
           elim (either_true (eqb q first.run.0) (has (own_ids marked entries) q) k) [
             | inl same ↦ (0, first, refl, live, sym (eqb-true q first.run.0 same))
-            | inr there ↦ run_later first entries q (own_from entries q there)
+            | inr there ↦ run_later first entries q (later there)
           ]
 
   own_has : (entries : List Entry) (place : ℕ) (entry : Entry) → slice_get entries place ≡ Some entry → is_live marked entry ≡ true → has (own_ids marked entries) entry.run.0 ≡ true
@@ -135,11 +135,11 @@ module _ (marked : Bool) where
       subst Goal (sym (ap (is_live marked) same ∙ live))
       (ap (λ (e : Entry). eqb entry.run.0 e.run.0 || has (own_ids marked entries) entry.run.0) same
       ∙ ap (λ (b : Bool). b || has (own_ids marked entries) entry.run.0) (nat_eq_equiv.refl entry.run.0))
-  own_has (first ∷ entries) (suc place) entry at live = by (is_live marked first)
+  own_has (first ∷ entries) (suc place) entry at live = by (own_has entries place entry at live) (is_live marked first)
     where
-      by : (b : Bool) → has (ids (map (λ (e : Entry). e.run) (cond b (first ∷ filter (is_live marked) entries) (filter (is_live marked) entries)))) entry.run.0 ≡ true
-      by false = own_has entries place entry at live
-      by true = second_true (eqb entry.run.0 first.run.0) (has (own_ids marked entries) entry.run.0) (own_has entries place entry at live)
+      by : has (own_ids marked entries) entry.run.0 ≡ true → (b : Bool) → has (ids (map (λ (e : Entry). e.run) (cond b (first ∷ filter (is_live marked) entries) (filter (is_live marked) entries)))) entry.run.0 ≡ true
+      by later false = later
+      by later true = second_true (eqb entry.run.0 first.run.0) (has (own_ids marked entries) entry.run.0) later
 
 joined_from : (memos : List Memo) (q : ℕ) → has (flat_map ids_of memos) q ≡ true → (place : ℕ) × (below : Memo) × (slice_get memos place ≡ Some below) × (has (ids_of below) q ≡ true)
 joined_from [] q h = let g : false ≡ true = h in cc
@@ -206,18 +206,11 @@ missing_at marked context (first ∷ entries) h (suc place) entry at = missing_a
 
 own_distinct : (marked : Bool) (entries : List Entry) → OwnRuns marked entries → AreApart marked entries → IsDistinct eqb (own_ids marked entries)
 own_distinct marked [] own apart = nothing_twice
+own_distinct marked (first ∷ entries) own apart = by (own_distinct marked entries (λ i j. own (suc i) (suc j)) apart.1) (is_live marked first) refl
   where
-    nothing_twice : IsDistinct eqb []
-    unfolding IsDistinct
-    nothing_twice = tt
-own_distinct marked (first ∷ entries) own apart = by (is_live marked first) refl
-  where
-    rest : IsDistinct eqb (own_ids marked entries)
-    rest = own_distinct marked entries (λ i j. own (suc i) (suc j)) apart.1
-
-    by : (b : Bool) → is_live marked first ≡ b → IsDistinct eqb (ids (map (λ (e : Entry). e.run) (cond b (first ∷ filter (is_live marked) entries) (filter (is_live marked) entries))))
-    by false dead = rest
-    by true live =
+    by : IsDistinct eqb (own_ids marked entries) → (b : Bool) → is_live marked first ≡ b → IsDistinct eqb (ids (map (λ (e : Entry). e.run) (cond b (first ∷ filter (is_live marked) entries) (filter (is_live marked) entries))))
+    by rest false dead = rest
+    by rest true live =
         distinct_more first.run.0 (own_ids marked entries)
         (no_from (has (own_ids marked entries) first.run.0) (λ again.
         let r = own_from marked entries first.run.0 again in
@@ -230,10 +223,6 @@ AreApartIn memos = (i j : ℕ) (a b : Memo) (q : ℕ) → slice_get memos i ≡ 
 
 joined_distinct : (memos : List Memo) → AllByRecursion (λ memo. IsDistinct eqb (ids_of memo)) memos → AreApartIn memos → IsDistinct eqb (flat_map ids_of memos)
 joined_distinct [] each apart = nothing_twice
-  where
-    nothing_twice : IsDistinct eqb []
-    unfolding IsDistinct
-    nothing_twice = tt
 joined_distinct (memo ∷ memos) each apart =
     distinct_both (ids_of memo) (flat_map ids_of memos) each.0
     (joined_distinct memos each.1 (λ i j a b q x y h k. let e = apart (suc i) (suc j) a b q x y h k in omega (arith, e)))
@@ -243,13 +232,13 @@ joined_distinct (memo ∷ memos) each apart =
     absurd (omega (arith, e)))
 
 same_run : (a b : RunId) → a.0 ≡ b.0 → a ≡ b
-same_run a b e = cc
+same_run a b e = λ i. record { 0 = e i }
 
-rest_of : List ℕ → List ℕ
+abbrev rest_of : List ℕ → List ℕ
 rest_of [] = []
 rest_of (place ∷ path) = path
 
-first_of : List ℕ → ℕ
+abbrev first_of : List ℕ → ℕ
 first_of [] = 0
 first_of (place ∷ path) = place
 
