@@ -77,6 +77,7 @@ impl Session {
         ensures fit { IfOk result (λ session. IsInRange session.held) }
         ensures range { result ≡ Err Range → is_tree_in_range metrics tree ≡ false }
         ensures kept { IfOk result IsSwept }
+        ensures few { IfOk result (λ session. kept_count session.memo ≤ 131_072) }
         ensures cells { IfOk result
             (λ session. session.swept_cells ≡ cell_count session.store.runs) }
         ensures steps { CountsNeeded metrics tree.root (context_of metrics tree) steps.old
