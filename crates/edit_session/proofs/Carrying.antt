@@ -1,5 +1,5 @@
 -- What a session is after an edit, told by the calls that carry it out.
-use Rattle.std.proofs.Common.{◌≡◌, sym, ap, subst, ℕ, ◌+◌, ◌*◌, ◌×◌, ◌≤◌, arith, List}
+use Rattle.std.proofs.Common.{◌≡◌, sym, ap, subst, ℕ, ◌+◌, ◌*◌, ◌≤◌, arith}
 use Rattle.std.specs.List.{AllByRecursion, sum_by}
 use Rattle.font_metrics.specs.Metrics.{MetricsValue}
 use Rattle.math_tree.specs.Trees.{IsWhole, TreeValue}

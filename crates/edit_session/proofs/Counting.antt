@@ -1,5 +1,5 @@
 -- How many layouts are kept after a pass, told by those before it and those that it made.
-use Rattle.std.proofs.Common.{◌≡◌, ◌∙◌, refl, sym, ap, ℕ, suc, ◌+◌, ◌≤◌, arith, Bool, true, false, cond, List, [], ◌∷◌, ◌++◌, filter, length, length-append, map}
+use Rattle.std.proofs.Common.{◌≡◌, ◌∙◌, refl, sym, ap, ℕ, suc, ◌+◌, ◌-◌, ◌^◌, ◌≤◌, min, arith, Bool, true, false, cond, List, [], ◌∷◌, ◌++◌, filter, length, length-append, map}
 use Rattle.std.proofs.lemmas.List.Elements.{filter-append}
 use Rattle.std.proofs.lemmas.List.Sums.{sum_by-cons}
 use Rattle.std.specs.List.{AllByRecursion, sum}
@@ -88,3 +88,8 @@ by_fresh = by_below IsByFresh (λ memo h.
 -- so it is after the seal
 pub sealed_by_fresh : (memo : Memo) → kept_count (sealed memo) ≤ kept_count (stripped memo) + fresh_count memo
 sealed_by_fresh memo = omega (arith, by_fresh memo, count_sealed memo)
+
+-- a bound on them is noted as far as numbers go, and they don't go so far
+pub at_most_noted : (kept before fresh most made : ℕ) → kept ≤ before + fresh → kept ≤ 262_144 → before ≤ most → made ≡ min fresh (2 ^ 64 - 1)
+    → kept ≤ min (most + made) (2 ^ 64 - 1)
+at_most_noted kept before fresh most made h few less is = omega (arith, h, few, less, is)

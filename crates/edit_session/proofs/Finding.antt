@@ -1,20 +1,16 @@
 -- What an edit finds of a session, and what stays from before it.
-use Rattle.std.proofs.Common.{◌≡◌, ◌∙◌, ◌⊎◌, inl, inr, refl, sym, ap, subst, ℕ, ◌*◌, ◌×◌, ◌≤◌, arith, Bool, true, false, List, ◌||◌, nat_lt}
-use Rattle.box_pool.specs.Runs.{cell_count}
-use Rattle.math_tree.specs.Trees.{TreeValue}
+use Rattle.std.proofs.Common.{◌≡◌, refl, sym, ap, subst, ℕ, Bool, true, false, List, Result, Ok, Err, OnOk}
 use Rattle.tree_edits.specs.declared.edit.Edit.{Edit}
-use Rattle.kept_results.specs.Ends.{kept_count}
 use Rattle.kept_results.specs.Kept.{Holds}
 use Rattle.kept_results.specs.Passes.{Needs}
 use Rattle.kept_results.specs.declared.memo.Entry.{Entry}
 use Rattle.kept_results.proofs.Passing.{pair_at}
 use Rattle.kept_edits.specs.ByIds.{IsEditAt}
+use Rattle.kept_sweep.specs.Swept.{IsPartOf}
 use Rattle.memo_tree.specs.Counted.{EntriesStay}
 use Rattle.memo_tree.specs.Trees.{IsLaidOut, context_of}
 use Rattle.edit_session.specs.Session.{KeptSession, SessionValue, layouts_of}
-use Rattle.edit_session.specs.Sweeping.{IsFound, IsLeft, IsSweptFrom, RunsStay, is_due, most_unswept}
-use Rattle.edit_session.specs.declared.refusal.SessionRefusal.{SessionRefusal}
-use Rattle.edit_session.specs.declared.refusal.SessionRefusal.TheVariants.{Edit as Refused, Range, Memory}
+use Rattle.edit_session.specs.Sweeping.{IsFound, IsNoted, IsSwept, NeededStay, RunsStay, is_due}
 use Rattle.edit_session.proofs.Staying.{one_held}
 
 -- ---- what is found
@@ -26,34 +22,35 @@ found_holds old found is = by (is_due old) refl
     by true due = (is.due due).held
     by false not_due = ap (λ (s : KeptSession). s.held) (is.not_due not_due)
 
-pub left_found : (old found : KeptSession) (refusal : SessionRefusal) → IsFound old found → IsLeft old refusal found
-left_found old found (Refused reason) is = is
-left_found old found Range is = is
-left_found old found Memory is = inl is
-
 -- ---- what stays
 
-module _ (old found : KeptSession) (laid : IsLaidOut (layouts_of old)) where
-  abbrev IsNeededThere : List ℕ → Entry → SessionValue → Type 0
-  IsNeededThere path entry held = Needs held.metrics held.tree.root (context_of held.metrics held.tree) (pair_at path entry.context)
+abbrev IsNeededThere : List ℕ → Entry → SessionValue → Type 0
+IsNeededThere path entry held = Needs held.metrics held.tree.root (context_of held.metrics held.tree) (pair_at path entry.context)
 
-  swept_keeps : IsSweptFrom old found → (path : List ℕ) (entry : Entry) → IsNeededThere path entry old.held → Holds path old.memo entry → Holds path found.memo entry
-  swept_keeps swept path entry needs held =
-      let one = swept.swept.needed.all (pair_at path entry.context) (subst (IsNeededThere path entry) (sym swept.held) needs) in
-      let same = one_held old.held.metrics path old.held.tree.root old.memo one.entry entry laid.sealed.ready.agrees (swept.part path one.entry one.held) held one.in_context in
-      subst (Holds path found.memo) same one.held
+-- a sweep keeps what is needed, and an element has no two entries in one context
+pub needed_stay : (old new : KeptSession) → IsLaidOut (layouts_of old) → new.held ≡ old.held → IsSwept new → IsPartOf new.memo old.memo → NeededStay old new
+needed_stay old new laid holds swept part path entry needs held =
+    let one = swept.needed.all (pair_at path entry.context) (subst (IsNeededThere path entry) (sym holds) needs) in
+    let same = one_held old.held.metrics path old.held.tree.root old.memo one.entry entry laid.sealed.ready.agrees (part path one.entry one.held) held one.in_context in
+    subst (Holds path new.memo) same one.held
 
-  found_keeps : IsFound old found → (path : List ℕ) (entry : Entry) → IsNeededThere path entry old.held → Holds path old.memo entry → Holds path found.memo entry
-  found_keeps is path entry needs held = by (is_due old) refl
-    where
-      by : (b : Bool) → is_due old ≡ b → Holds path found.memo entry
-      by true due = swept_keeps (is.due due) path entry needs held
-      by false not_due = subst (λ (s : KeptSession). Holds path s.memo entry) (sym (is.not_due not_due)) held
+found_keeps : (old found : KeptSession) → IsFound old found → NeededStay old found
+found_keeps old found is path entry needs held = by (is_due old) refl
+  where
+    by : (b : Bool) → is_due old ≡ b → Holds path found.memo entry
+    by true due = (is.due due).stays path entry needs held
+    by false not_due = subst (λ (s : KeptSession). Holds path s.memo entry) (sym (is.not_due not_due)) held
 
-  pub runs_stay : (edit : Edit) (new : KeptSession) → IsFound old found → EntriesStay (layouts_of found) edit (layouts_of new) → RunsStay old edit new
-  runs_stay edit new is h = record {
-    path = h.path;
-    change = h.change;
-    is = subst (λ (s : SessionValue). IsEditAt s.tree edit h.change h.path) (found_holds old found is) h.is;
-    stays = λ before behind entry came needs held. h.stays before behind entry came (found_keeps is before entry needs held);
-  }
+pub runs_stay : (old found new : KeptSession) (edit : Edit) → IsFound old found → EntriesStay (layouts_of found) edit (layouts_of new) → RunsStay old edit new
+runs_stay old found new edit is h = record {
+  path = h.path;
+  change = h.change;
+  is = subst (λ (s : SessionValue). IsEditAt s.tree edit h.change h.path) (found_holds old found is) h.is;
+  stays = λ before behind entry came needs held. h.stays before behind entry came (found_keeps old found is before entry needs held);
+}
+
+-- ---- what is noted
+
+pub noted_from : {T E : Type 0} (result : Result T E) (old found new : KeptSession) → IsFound old found → new.swept_cells ≡ found.swept_cells → OnOk result (IsNoted old new)
+noted_from (Ok value) old found new is noted = record { found = found; is = is; noted = noted }
+noted_from (Err refusal) old found new is noted = tt

@@ -14,9 +14,9 @@ use Rattle.kept_edits.specs.Need.{CameFrom}
 use Rattle.kept_sweep.specs.Swept.{IsPartOf}
 use Rattle.memo_tree.specs.States.{IsIn, Sealed}
 use Rattle.memo_tree.specs.Trees.{IsSwept as AreSwept, MemoTreeValue, context_of}
-use Rattle.edit_session.specs.Session.{KeptSession, SessionValue, layouts_of}
+use Rattle.edit_session.specs.Session.{KeptSession, layouts_of}
 use Rattle.edit_session.specs.declared.refusal.SessionRefusal.{SessionRefusal}
-use Rattle.edit_session.specs.declared.refusal.SessionRefusal.TheVariants.{Edit as Refused, Range, Memory}
+use Rattle.edit_session.specs.declared.refusal.SessionRefusal.TheVariants.{Memory}
 
 -- ---- when
 
@@ -36,12 +36,20 @@ is_due session =
 abbrev pub IsSwept : KeptSession → Type 0
 IsSwept session = AreSwept (layouts_of session)
 
--- a session after a sweep: it holds the same; what is kept now was kept before, in the same runs;
--- and it is noted how many cells are left
+-- each layout that the tree needs is kept in the run in which it was
+abbrev pub NeededStay : KeptSession → KeptSession → Type 0
+NeededStay old new = (path : List ℕ) (entry : Entry)
+    → Needs old.held.metrics old.held.tree.root (context_of old.held.metrics old.held.tree)
+    record { path = path; context = entry.context }
+    → Holds path old.memo entry → Holds path new.memo entry
+
+-- a session after a sweep: it holds the same; what is kept now was kept before, in the same runs,
+-- and what is needed stays; and it is noted how many cells are left
 pub record IsSweptFrom (old new : KeptSession) : Type 0 where
   pub held : new.held ≡ old.held
   pub swept : IsSwept new
   pub part : IsPartOf new.memo old.memo
+  pub stays : NeededStay old new
   pub cells : new.swept_cells ≡ cell_count new.store.runs
 
 -- what an edit finds of a session: it is swept where that is due, and else as it was
@@ -71,7 +79,7 @@ pub record RunsStay (old : KeptSession) (edit : Edit) (new : KeptSession) : Type
   pub is : IsEditAt old.held.tree edit change path
   pub stays : (before behind : List ℕ) (entry : Entry) → CameFrom path change before behind →
       Needs old.held.metrics old.held.tree.root (context_of old.held.metrics old.held.tree)
-        record { path = before; context = entry.context } →
+      record { path = before; context = entry.context } →
       Holds before old.memo entry → Holds behind new.memo entry
 
 -- ---- how much
@@ -82,7 +90,7 @@ pub record HasFewCells (session : KeptSession) : Type 0 where
   pub pairs : List Pair
   pub needed : AllByRecursion
       (Needs session.held.metrics session.held.tree.root
-        (context_of session.held.metrics session.held.tree)) pairs
+      (context_of session.held.metrics session.held.tree)) pairs
   pub apart : HasNoRepeat pairs
   pub bound : cell_count session.store.runs ≤
       2 * session.swept_cells

@@ -185,6 +185,7 @@ impl Session {
         ensures found { OnOk result (IsFound self.old self.new) }
         ensures few { OnOk result (kept_count self.new.memo ≤ 131_072) }
         ensures cells { OnOk result (cell_count self.new.store.runs ≤ 2 * self.new.swept_cells) }
+        ensures limit { kept_count self.new.memo ≤ 262_144 }
         ensures held { self.new.held ≡ self.old.held }
         ensures unchanged { OnErr result (self.new ≡ self.old) }
     {
@@ -238,13 +239,13 @@ impl Session {
     /// only where there may be too many. It takes no memory.
     fn is_due(&mut self) -> bool
         ensures due { result ≡ is_due self.old }
+        ensures limit { kept_count self.old.memo ≤ 262_144 }
         ensures same { self.new ≡ self.old }
     {
         if self.most_kept > MOST_UNSWEPT {
             self.most_kept = self.layouts.kept();
         }
-        self.most_kept > MOST_UNSWEPT
-            || self.layouts.cells() > self.swept_cells.saturating_mul(2)
+        self.most_kept > MOST_UNSWEPT || self.layouts.cells() > self.swept_cells.saturating_mul(2)
     }
 
     /// Drops all layouts but those that the one of the tree needs, and notes how many cells are
