@@ -1,7 +1,6 @@
-use Rattle.std.proofs.Common.{◌≡◌, ◌<◌, ◌∙◌, ◌+◌, ◌≤◌, ◌++◌, sym, ap, arith, List, length, length-append, take}
+use Rattle.std.proofs.Common.{◌<◌, ◌∙◌, ◌++◌, sym, ap, arith, List, length, length-append, take}
 use Rattle.std.proofs.lemmas.List.{take_all}
 use Rattle.box_pool.specs.declared.pool.RunId.{RunId}
-use Rattle.kept_results.specs.Ends.{kept_count}
 use Rattle.kept_results.specs.Kept.{is_marked}
 use Rattle.kept_results.specs.declared.memo.Memo.{Memo}
 use Rattle.kept_results.specs.declared.memo.Memo.TheViews.{out-Memo, size-Memo}

@@ -1,4 +1,4 @@
-use Rattle.std.proofs.Common.{◌≡◌, ◌∙◌, ◌++◌, ◌<◌, sym, ap, arith, subst, length, List, ℕ}
+use Rattle.std.proofs.Common.{◌∙◌, ◌++◌, sym, ap, arith, subst, length, List}
 use Rattle.std.specs.List.{All}
 use Rattle.std.specs.Option.{IsSome}
 use Rattle.box_pool.specs.Region.{cells_in, kept_of}
