@@ -29,7 +29,7 @@ pub returns-in-Ok-clause-swept : goal.returns-in-Ok-clause-swept
 returns-in-Ok-clause-swept g c =
     let made = c.in-Ok.ensures {u = tt} in
     swept_of c.args.metrics c.args.tree c.root.result.now c.context_of-context.result c.in-Ok.memo c.start_layout-made.new.store c.root.ensures.exact
-    c.context_of-context.ensures.exact made.kept (made.one (ap (λ (s : StoreValue). s.runs) c.make.ensures))
+    c.context_of-context.ensures.exact made.kept (made.one (ap (λ (s : StoreValue). s.runs) c.make-store.ensures))
 
 pub returns-in-Ok-clause-fit : goal.returns-in-Ok-clause-fit
 returns-in-Ok-clause-fit g c =
