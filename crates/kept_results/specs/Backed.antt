@@ -1,5 +1,5 @@
 -- The runs of kept layouts in a store, and what a pass does to that store.
-use Rattle.std.specs.Prelude.{◌≡◌, ◌⊎◌, ℕ, ◌+◌, List, Bool, true, length}
+use Rattle.std.specs.Prelude.{◌≡◌, ◌⊎◌, ℕ, ◌+◌, List, ◌++◌, Bool, true, length}
 use Rattle.font_metrics.specs.Metrics.{MetricsValue}
 use Rattle.math_tree.specs.declared.node.Node.{Node}
 use Rattle.layout_model.specs.Layout.{lay}
@@ -27,8 +27,10 @@ pub record HaveOwnRuns (memo : Memo) : Type 0 where
   pub at : (path other : List ℕ) (a b : Entry) → Holds path memo a → Holds other memo b
       → a.run ≡ b.run → (path ≡ other) × (a.context ≡ b.context)
 
--- runs may have come in a store, and none went
+-- runs may have come in a store, behind those that were there, and none went: each has what it had
 pub record OnlyGrows (before after : StoreValue) : Type 0 where
+  pub added : Runs
+  pub grown : after.runs ≡ before.runs ++ added
   pub others : KeepsOutcomes before.runs after.runs
   pub checkpoint : after.checkpoint ≡ before.checkpoint
 

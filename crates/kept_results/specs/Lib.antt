@@ -2,6 +2,7 @@ pub mod Backed
 pub mod Closed
 pub mod Contexts
 pub mod Ends
+pub mod Grown
 pub mod Kept
 pub mod Laws
 pub mod Looking

@@ -2,6 +2,7 @@
 //!
 //! A law is proved where it is a contract, so each function here has one and computes nothing.
 ghost use Rattle.kept_results.specs.Closed.{ClosedLaw};
+ghost use Rattle.kept_results.specs.Grown.{GrownCellsLaw};
 ghost use Rattle.kept_results.specs.Laws.{KeptLaw, SealBackedLaw, SealLaw, SealOwnRunsLaw};
 
 /// Where an entry and all that are reached from it by naming are closed, its run has the layout of
@@ -13,6 +14,12 @@ pub fn closed_entries_keep_layouts()
 /// Where the layout of an element is kept, all that it needs is kept too.
 pub fn what_a_layout_needs_is_kept()
     ensures { KeptLaw }
+{}
+
+/// A pass that is done adds to the store the cells of layouts that it needs, and of none of them
+/// twice.
+pub fn a_pass_adds_the_cells_of_its_layouts()
+    ensures { GrownCellsLaw }
 {}
 
 /// `seal` keeps the state, and each entry that is no older one, with its run; no mark is left, and
