@@ -1,3 +1,5 @@
 pub mod Flagged
 pub mod Laws
+pub mod RunLaws
+pub mod Runs
 pub mod Swept

@@ -1,10 +1,11 @@
-ghost use Rattle.std.specs.Prelude.{◌≡◌, ◌≤◌, ◌+◌, true, false, length, IfOk, None, OnErr, OnOk, Err};
+ghost use Rattle.std.specs.Prelude.{◌≡◌, ◌≤◌, ◌+◌, true, false, [], length, IfOk, None, OnErr, OnOk, Err};
 ghost use Rattle.fixed_units.specs.declared.refusal.LayRefusal.TheVariants.{Range};
 ghost use Rattle.math_tree.specs.Trees.{element_count};
 ghost use Rattle.layout_model.specs.Layout.{in_range};
 ghost use Rattle.kept_results.specs.Backed.{HaveOwnRuns, IsBacked};
 ghost use Rattle.kept_results.specs.Contexts.{Suits};
 ghost use Rattle.kept_results.specs.Ends.{kept_count};
+ghost use Rattle.kept_sweep.specs.Runs.{HaveOneRunEach};
 ghost use Rattle.kept_sweep.specs.Swept.{CountsNeeded, KeepsNeeded};
 
 use fixed_units::{LayRefusal, Steps};
@@ -19,7 +20,7 @@ use std::sync::ledger::Ledger;
 
 /// Lays a tree out for the first time, and keeps exactly the layouts that the one of its root in a
 /// context needs. Each layout that is computed ticks a step, so that there are as many steps as
-/// entries are kept, and so many runs come in the store. It is refused with `Range` exactly where a
+/// entries are kept, and so many runs come in the store: one for each entry. It is refused with `Range` exactly where a
 /// number of one of them can't be stored; then the store is as before.
 pub fn start_layout<L: Ledger>(
     alloc: Global,
@@ -39,6 +40,7 @@ pub fn start_layout<L: Ledger>(
     ensures own { IfOk result HaveOwnRuns }
     ensures runs { OnOk result
         (length store.new.runs + steps.old ≡ length store.old.runs + steps.new) }
+    ensures one { store.old.runs ≡ [] → IfOk result (HaveOneRunEach store.new.runs) }
     ensures idle { OnOk result (store.new.checkpoint ≡ None) }
     ensures unchanged { OnErr result (store.new ≡ store.old) }
     ensures fit { OnOk result (in_range metrics.now node.now context.now ≡ true) }
