@@ -1,5 +1,5 @@
 -- How the runs of a store go on to have the layouts of a memo's entries.
-use Rattle.std.proofs.Common.{◌≡◌, ◌∙◌, ◌⊎◌, inl, inr, refl, sym, ap, subst, ℕ, ◌+◌, arith, Bool, true, false, List, [], ◌∷◌, ◌++◌, length, length-append, Some, None, slice_get, is_some}
+use Rattle.std.proofs.Common.{◌≡◌, ◌∙◌, ◌⊎◌, inl, inr, refl, sym, ap, subst, ℕ, ◌+◌, arith, Bool, true, false, List, [], ◌∷◌, ◌++◌, append-nil, append_assoc, length, length-append, Some, None, slice_get, is_some}
 use Rattle.std.proofs.lemmas.Option.{none-some, slice_get_within}
 use Rattle.std.specs.Option.{IsSome}
 use Rattle.font_metrics.specs.Metrics.{MetricsValue}
@@ -27,13 +27,18 @@ use Rattle.kept_results.proofs.Shown.{there_is}
 -- ---- runs that stay
 
 pub only_none : (store : StoreValue) → OnlyGrows store store
-only_none store = record { others = λ id o has. has; checkpoint = refl }
+only_none store = record { added = []; grown = sym (append-nil store.runs); others = λ id o has. has; checkpoint = refl }
 
 pub only_same : (before after : StoreValue) → after ≡ before → OnlyGrows before after
 only_same before after same = subst (OnlyGrows before) (sym same) (only_none before)
 
 pub only_both : {a b d : StoreValue} → OnlyGrows a b → OnlyGrows b d → OnlyGrows a d
-only_both h k = record { others = λ id o has. k.others id o (h.others id o has); checkpoint = k.checkpoint ∙ h.checkpoint }
+only_both {a} h k = record {
+  added = h.added ++ k.added;
+  grown = k.grown ∙ ap (λ (r : Runs). r ++ k.added) h.grown ∙ append_assoc a.runs h.added k.added;
+  others = λ id o has. k.others id o (h.others id o has);
+  checkpoint = k.checkpoint ∙ h.checkpoint;
+}
 
 pub still_begun : {a b : StoreValue} → OnlyGrows a b → IsSome a.checkpoint → IsSome b.checkpoint
 still_begun h begun = ap is_some h.checkpoint ∙ begun
@@ -48,6 +53,8 @@ module _ (before after : StoreValue) (id : ℕ) (o : Outcome) (h : PutsOutcome b
 
   pub only_put : OnlyGrows before after
   only_put = record {
+    added = (id, outcome_cells o) ∷ [];
+    grown = runs_are;
     others = λ other x has. subst (λ (r : Runs). HasOutcome r other x) (sym runs_are) (found.others other x has);
     checkpoint = ap (λ (s : StoreValue). s.checkpoint) h.put;
   }

@@ -4,6 +4,7 @@ pub mod Backed
 pub mod Counts
 pub mod Dropping
 pub mod Flowing
+pub mod Grown
 pub mod Law
 pub mod Lists
 pub mod Made
@@ -15,6 +16,7 @@ mod RelayCalls
 pub mod Renewing
 mod Replacing
 pub mod Restyling
+pub mod SameItems
 pub mod Sealing
 pub mod Shown
 pub mod Tidying
