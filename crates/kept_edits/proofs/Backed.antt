@@ -134,7 +134,7 @@ kid_blank [] place below at = absurd (none-some below at)
 kid_blank (node ∷ nodes) zero below at = (node, sym (same_Some (blank node) below at))
 kid_blank (node ∷ nodes) (suc place) below at = kid_blank nodes place below at
 
-none_held : (path : List ℕ) (node : Node) (entry : Entry) → Holds path (blank node) entry → ⊥
+pub none_held : (path : List ℕ) (node : Node) (entry : Entry) → Holds path (blank node) entry → ⊥
 none_held [] node entry held = none-some entry (in_layer [] node entry held).at
 none_held (place ∷ path) node entry held =
     let k = in_layer (place ∷ path) node entry held in

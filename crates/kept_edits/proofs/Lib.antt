@@ -2,6 +2,7 @@ mod Alike
 pub mod Backed
 pub mod Backwards
 pub mod Changing
+pub mod Counting
 pub mod EditEnds
 pub mod EditedTrees
 pub mod Ended
@@ -12,6 +13,7 @@ pub mod OnTheWay
 pub mod OnePath
 pub mod Origins
 mod Restyled
+pub mod Runs
 pub mod Tidying
 pub mod ToldById
 pub mod Unlaid

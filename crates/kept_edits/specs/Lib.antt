@@ -9,3 +9,4 @@ pub mod Known
 pub mod Laws
 pub mod Need
 pub mod Passed
+pub mod Runs

@@ -9,6 +9,7 @@ ghost use Rattle.kept_edits.specs.Ids.{IdsLaw, OneWayLaw};
 ghost use Rattle.kept_edits.specs.Known.{BesideLaw};
 ghost use Rattle.kept_edits.specs.Laws.{BackLaw, BlankBackedLaw, BlankLaw, ChangeBackedLaw, ChangeLaw};
 ghost use Rattle.kept_edits.specs.Need.{CountedLaw, StaysLaw};
+ghost use Rattle.kept_edits.specs.Runs.{ChangeCountLaw, ChangeOwnRunsLaw, FollowBackedLaw};
 
 /// Where the same is changed in a tree and in memos that agree with it, they agree again, whatever
 /// the metrics are.
@@ -99,6 +100,21 @@ pub fn an_edit_is_a_change_of_a_parent()
 /// Memos that agree with a tree follow an edit of it.
 pub fn memos_follow_an_edit()
     ensures { FollowLaw }
+{}
+
+/// Runs that have all that is kept beside a tree have all that counts after an edit.
+pub fn runs_follow_an_edit()
+    ensures { FollowBackedLaw }
+{}
+
+/// Where no two entries have one run, no two have one after an edit.
+pub fn entries_have_own_runs_after_an_edit()
+    ensures { ChangeOwnRunsLaw }
+{}
+
+/// An edit adds no entry.
+pub fn an_edit_adds_no_entry()
+    ensures { ChangeCountLaw }
 {}
 
 /// A pass that was done and is sealed leaves no edit under way, and all that the root needs is
