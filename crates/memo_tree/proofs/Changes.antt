@@ -7,6 +7,7 @@ use Rattle.math_tree.specs.declared.node.Node.{Node}
 use Rattle.tree_edits.specs.Applying.{TakenValue, Undoes}
 use Rattle.tree_edits.specs.Edits.{edited}
 use Rattle.tree_edits.specs.declared.edit.Edit.{Edit}
+use Rattle.kept_results.specs.Backed.{IsBacked}
 use Rattle.kept_results.specs.Passes.{Pair}
 use Rattle.kept_results.specs.declared.memo.Memo.{Memo}
 use Rattle.kept_results.proofs.Whole.{kept_law}
@@ -25,7 +26,7 @@ use Rattle.memo_tree.specs.Trees.{IsLaidOut, MemoTreeValue, context_of}
 use Rattle.memo_tree.specs.Ways.{IsWay}
 use Rattle.memo_tree.specs.declared.way.Way.{Way}
 use Rattle.memo_tree.proofs.Marks.{blank_put, path_marked, stays_elsewhere, stays_on}
-use Rattle.memo_tree.proofs.Undone.{ready_then, stays_then, tidy_then}
+use Rattle.memo_tree.proofs.Undone.{backed_then, own_then, ready_then, stays_then, tidy_then}
 
 module _ (old : MemoTreeValue) (edit : Edit) (way : Way) (tree : TreeValue) (root : Node) (laid : IsLaidOut old) (is : IsWay old.tree edit way) (made : tree ≡ edited old.tree edit)
     (read : root ≡ tree.root) where
@@ -43,25 +44,30 @@ module _ (old : MemoTreeValue) (edit : Edit) (way : Way) (tree : TreeValue) (roo
   }
 
   module _ (now : Memo) (back : Splice Memo) (h : IsFollowed root old.memo way before now back) where
-    pub changed_now : IsChanged record { tree = tree; metrics = old.metrics; memo = now }
+    pub changed_now : IsChanged record { tree = tree; metrics = old.metrics; memo = now; store = old.store }
     changed_now = record {
       ready = subst (λ (n : Node). IsReadyFor old.metrics n now) read (ready_then root old.memo now way before h.spliced);
+      has_runs = record {
+        backed = subst (λ (n : Node). IsBacked old.metrics old.store.runs n now) read (backed_then root old.memo now way before h.spliced old.store.runs laid.has_runs.backed);
+        own = own_then root old.memo now way before h.spliced laid.has_runs.own;
+      };
+      idle = laid.idle;
       tidy = tidy_then root old.memo now way before h.spliced;
     }
 
     pub reverses : (taken : TakenValue) → Undoes taken tree old.tree
-        → Reverses record { taken = taken; path = way.path; back = back } record { tree = tree; metrics = old.metrics; memo = now } old
+        → Reverses record { taken = taken; path = way.path; back = back } record { tree = tree; metrics = old.metrics; memo = now; store = old.store } old
     reverses taken undoes = record {
       can = record { tree = undoes.can; memo = h.fits };
-      gives = ap (λ (t : TreeValue). record { tree = t; metrics = old.metrics; memo = undone_memo back way.path now }) undoes.gives
-          ∙ ap (λ (z : Memo). record { tree = old.tree; metrics = old.metrics; memo = z }) h.gives;
+      gives = ap (λ (t : TreeValue). record { tree = t; metrics = old.metrics; memo = undone_memo back way.path now; store = old.store }) undoes.gives
+          ∙ ap (λ (z : Memo). record { tree = old.tree; metrics = old.metrics; memo = z; store = old.store }) h.gives;
     }
 
     is_edit_at : IsWhole old.tree → IsWhole tree → IsEditAt old.tree edit is.change way.path
     is_edit_at whole after = record { whole = whole; whole_after = subst IsWhole made after; to_end = is.leads; is = is.is; free = is.free }
 
     -- what was needed and is of elements that the edit leaves alone is kept
-    pub counted : IsWhole old.tree → IsWhole tree → MissingIsCounted old edit record { tree = tree; metrics = old.metrics; memo = now }
+    pub counted : IsWhole old.tree → IsWhole tree → MissingIsCounted old edit record { tree = tree; metrics = old.metrics; memo = now; store = old.store }
     counted whole after = record {
       path = way.path;
       change = is.change;
@@ -71,7 +77,7 @@ module _ (old : MemoTreeValue) (edit : Edit) (way : Way) (tree : TreeValue) (roo
           missing record { entry = one.entry; held = stays_then root old.memo now way before h.spliced from pair.path one.entry came one.held; in_context = one.in_context };
     }
 
-    pub stays : IsWhole old.tree → IsWhole tree → EntriesStay old edit record { tree = tree; metrics = old.metrics; memo = now }
+    pub stays : IsWhole old.tree → IsWhole tree → EntriesStay old edit record { tree = tree; metrics = old.metrics; memo = now; store = old.store }
     stays whole after = record {
       path = way.path;
       change = is.change;
@@ -81,7 +87,7 @@ module _ (old : MemoTreeValue) (edit : Edit) (way : Way) (tree : TreeValue) (roo
 
     -- ---- each memo
 
-    pub new_blank : IsWhole old.tree → IsWhole tree → NewIsBlank old edit record { tree = tree; metrics = old.metrics; memo = now }
+    pub new_blank : IsWhole old.tree → IsWhole tree → NewIsBlank old edit record { tree = tree; metrics = old.metrics; memo = now; store = old.store }
     new_blank whole after = record {
       path = way.path;
       change = is.change;
@@ -89,14 +95,14 @@ module _ (old : MemoTreeValue) (edit : Edit) (way : Way) (tree : TreeValue) (roo
       is_blank = blank_put is.change way.path root old.memo now h.spliced;
     }
 
-    pub marks_path : MarksPath old edit record { tree = tree; metrics = old.metrics; memo = now }
+    pub marks_path : MarksPath old edit record { tree = tree; metrics = old.metrics; memo = now; store = old.store }
     marks_path = record {
       path = way.path;
       to_end = is.leads;
       marked = path_marked is.change way.path root old.memo now h.spliced old.metrics laid.sealed.unmarked;
     }
 
-    pub each_stays : IsWhole old.tree → IsWhole tree → EachStays old edit record { tree = tree; metrics = old.metrics; memo = now }
+    pub each_stays : IsWhole old.tree → IsWhole tree → EachStays old edit record { tree = tree; metrics = old.metrics; memo = now; store = old.store }
     each_stays whole after = record {
       path = way.path;
       change = is.change;

@@ -2,6 +2,7 @@ pub mod Changes
 pub mod Elements
 pub mod Followed
 pub mod Marks
+pub mod Passing
 pub mod Rooms
 pub mod Roots
 pub mod Undone

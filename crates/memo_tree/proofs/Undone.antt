@@ -1,11 +1,14 @@
 -- Memos after an edit of their tree, and taken back.
-use Rattle.std.proofs.Common.{◌≡◌, ◌∙◌, sym, ap, subst, ℕ, true, List, Option}
+use Rattle.std.proofs.Common.{◌≡◌, ◌∙◌, sym, ap, subst, ℕ, ◌≤◌, true, List, Option}
 use Rattle.splices.proofs.Alike.{alike_brought}
 use Rattle.splices.specs.Splicing.{IsAlike, inverse, site_of}
 use Rattle.splices.specs.declared.site.Site.{Site}
 use Rattle.splices.specs.declared.splice.Splice.{Splice}
 use Rattle.math_tree.specs.declared.node.Node.{Node}
+use Rattle.outcome_cells.specs.Store.{Runs}
 use Rattle.tree_edits.specs.Paths.{changed, changed_at, splice_of}
+use Rattle.kept_results.specs.Backed.{HaveOwnRuns, IsBacked}
+use Rattle.kept_results.specs.Ends.{kept_count}
 use Rattle.kept_results.specs.Kept.{Holds}
 use Rattle.kept_results.specs.Laws.{is_unmarked}
 use Rattle.kept_results.specs.Tidy.{IsTidy}
@@ -17,9 +20,12 @@ use Rattle.kept_edits.specs.Known.{IsKnownOn}
 use Rattle.kept_edits.specs.Laws.{IsReadyFor, KnownOn}
 use Rattle.kept_edits.specs.Need.{CameFrom}
 use Rattle.kept_edits.specs.declared.change.Renewal.{Renewal}
+use Rattle.kept_edits.proofs.Backed.{change_backed_law}
 use Rattle.kept_edits.proofs.Backwards.{back_law}
 use Rattle.kept_edits.proofs.Changing.{change_law}
+use Rattle.kept_edits.proofs.Counting.{change_count_law}
 use Rattle.kept_edits.proofs.Needing.{stays_law}
+use Rattle.kept_edits.proofs.Runs.{change_own_runs_law, new_backed}
 use Rattle.kept_edits.proofs.Tidying.{blank_tidy, changed_is_tidy}
 use Rattle.memo_tree.specs.Followed.{IsBefore, IsFollowed, IsOfWay, IsSplicedAlong}
 use Rattle.memo_tree.specs.Rooms.{HasRoom}
@@ -81,3 +87,18 @@ module _ (root : Node) (memo now : Memo) (way : Way) (before : IsBefore root mem
   stays_then from to entry came held =
       subst (λ (z : Memo). Holds to z entry) (sym h.is)
       (stays_law before.metrics memo before.change h.splice way.path h.known from to entry h.fits (same_change root memo way before h.splice h.alike) came held)
+
+  -- ---- the runs of what is kept
+
+  pub backed_then : (runs : Runs) → IsBacked before.metrics runs before.old memo → IsBacked before.metrics runs root now
+  backed_then runs backed =
+      subst (IsBacked before.metrics runs root) (sym h.is)
+      (subst (λ (n : Node). IsBacked before.metrics runs n (changed_memo h.splice h.known way.path memo)) (sym before.gives)
+      (change_backed_law before.metrics runs before.old memo before.change h.splice way.path h.known before.ready backed before.fits
+      (new_backed before.metrics runs before.change h.splice h.alike)))
+
+  pub own_then : HaveOwnRuns memo → HaveOwnRuns now
+  own_then own = subst HaveOwnRuns (sym h.is) (change_own_runs_law memo before.change h.splice way.path h.known h.fits h.alike own)
+
+  pub fewer_then : kept_count now ≤ kept_count memo
+  fewer_then = subst (λ (z : Memo). kept_count z ≤ kept_count memo) (sym h.is) (change_count_law memo before.change h.splice way.path h.known h.fits h.alike)

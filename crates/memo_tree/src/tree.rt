@@ -28,7 +28,7 @@ use crate::way::way_along;
 use fixed_units::{LayRefusal, MathBox, Memory, Steps};
 use font_metrics::Metrics;
 use kept_edits::blank;
-use kept_laid::{box_of, count, count_or_most, laid_of, root_box};
+use kept_laid::{box_of, count_or_most, laid_of, root_box};
 use kept_results::{Memo, relay_element, seal, undo_pass};
 use kept_sweep::{start_layout, sweep_stored};
 use layout_model::{Context, Laid};

@@ -1,14 +1,16 @@
-use Rattle.std.proofs.Common.{sym, subst}
+use Rattle.std.proofs.Common.{sym, subst, ◌≤◌}
+use Rattle.kept_results.specs.Ends.{kept_count}
 use Rattle.memo_tree.specs.Counted.{EntriesStay, MissingIsCounted}
 use Rattle.memo_tree.specs.Marked.{EachStays, MarksPath, NewIsBlank}
 use Rattle.memo_tree.specs.Reversing.{ReversalValue, Reverses}
 use Rattle.memo_tree.specs.Trees.{IsLaidOut, MemoTreeValue}
 use Rattle.memo_tree.proofs.Changes.{before, changed_now, counted, each_stays, marks_path, new_blank, reverses, stays}
+use Rattle.memo_tree.proofs.Undone.{fewer_then}
 use Rattle.memo_tree.proofs.tree.MemoTree.change.Goals as goal
 
 pub returns-in-Ok-clause-changed : goal.returns-in-Ok-clause-changed
 returns-in-Ok-clause-changed c =
-    let old : MemoTreeValue = record { tree = c.self.inside.tree; metrics = c.self.inside.metrics; memo = c.self.inside.memo } in
+    let old : MemoTreeValue = record { tree = c.self.inside.tree; metrics = c.self.inside.metrics; memo = c.self.inside.memo; store = c.self.inside.store } in
     let laid = subst IsLaidOut (sym c.self.view_is) c.requires.sealed in
     let done = c.in_ok-taken.ensures {u = tt} in
     let way = c.in-Some.way in
@@ -19,8 +21,8 @@ returns-in-Ok-clause-changed c =
 
 pub returns-in-Ok-clause-stays : goal.returns-in-Ok-clause-stays
 returns-in-Ok-clause-stays c =
-    let old : MemoTreeValue = record { tree = c.self.inside.tree; metrics = c.self.inside.metrics; memo = c.self.inside.memo } in
-    let new : MemoTreeValue = record { tree = c.apply_at.new.tree; metrics = c.self.inside.metrics; memo = c.follow.new.memo } in
+    let old : MemoTreeValue = record { tree = c.self.inside.tree; metrics = c.self.inside.metrics; memo = c.self.inside.memo; store = c.self.inside.store } in
+    let new : MemoTreeValue = record { tree = c.apply_at.new.tree; metrics = c.self.inside.metrics; memo = c.follow.new.memo; store = c.self.inside.store } in
     let laid = subst IsLaidOut (sym c.self.view_is) c.requires.sealed in
     let done = c.in_ok-taken.ensures {u = tt} in
     let way = c.in-Some.way in
@@ -32,8 +34,8 @@ returns-in-Ok-clause-stays c =
 
 pub returns-in-Ok-clause-counted : goal.returns-in-Ok-clause-counted
 returns-in-Ok-clause-counted c =
-    let old : MemoTreeValue = record { tree = c.self.inside.tree; metrics = c.self.inside.metrics; memo = c.self.inside.memo } in
-    let new : MemoTreeValue = record { tree = c.apply_at.new.tree; metrics = c.self.inside.metrics; memo = c.follow.new.memo } in
+    let old : MemoTreeValue = record { tree = c.self.inside.tree; metrics = c.self.inside.metrics; memo = c.self.inside.memo; store = c.self.inside.store } in
+    let new : MemoTreeValue = record { tree = c.apply_at.new.tree; metrics = c.self.inside.metrics; memo = c.follow.new.memo; store = c.self.inside.store } in
     let laid = subst IsLaidOut (sym c.self.view_is) c.requires.sealed in
     let done = c.in_ok-taken.ensures {u = tt} in
     let way = c.in-Some.way in
@@ -45,8 +47,8 @@ returns-in-Ok-clause-counted c =
 
 pub returns-in-Ok-clause-reversal : goal.returns-in-Ok-clause-reversal
 returns-in-Ok-clause-reversal c =
-    let old : MemoTreeValue = record { tree = c.self.inside.tree; metrics = c.self.inside.metrics; memo = c.self.inside.memo } in
-    let new : MemoTreeValue = record { tree = c.apply_at.new.tree; metrics = c.self.inside.metrics; memo = c.follow.new.memo } in
+    let old : MemoTreeValue = record { tree = c.self.inside.tree; metrics = c.self.inside.metrics; memo = c.self.inside.memo; store = c.self.inside.store } in
+    let new : MemoTreeValue = record { tree = c.apply_at.new.tree; metrics = c.self.inside.metrics; memo = c.follow.new.memo; store = c.self.inside.store } in
     let laid = subst IsLaidOut (sym c.self.view_is) c.requires.sealed in
     let done = c.in_ok-taken.ensures {u = tt} in
     let way = c.in-Some.way in
@@ -59,8 +61,8 @@ returns-in-Ok-clause-reversal c =
 
 pub returns-in-Ok-clause-new : goal.returns-in-Ok-clause-new
 returns-in-Ok-clause-new c =
-    let old : MemoTreeValue = record { tree = c.self.inside.tree; metrics = c.self.inside.metrics; memo = c.self.inside.memo } in
-    let new : MemoTreeValue = record { tree = c.apply_at.new.tree; metrics = c.self.inside.metrics; memo = c.follow.new.memo } in
+    let old : MemoTreeValue = record { tree = c.self.inside.tree; metrics = c.self.inside.metrics; memo = c.self.inside.memo; store = c.self.inside.store } in
+    let new : MemoTreeValue = record { tree = c.apply_at.new.tree; metrics = c.self.inside.metrics; memo = c.follow.new.memo; store = c.self.inside.store } in
     let laid = subst IsLaidOut (sym c.self.view_is) c.requires.sealed in
     let done = c.in_ok-taken.ensures {u = tt} in
     let way = c.in-Some.way in
@@ -72,8 +74,8 @@ returns-in-Ok-clause-new c =
 
 pub returns-in-Ok-clause-marked : goal.returns-in-Ok-clause-marked
 returns-in-Ok-clause-marked c =
-    let old : MemoTreeValue = record { tree = c.self.inside.tree; metrics = c.self.inside.metrics; memo = c.self.inside.memo } in
-    let new : MemoTreeValue = record { tree = c.apply_at.new.tree; metrics = c.self.inside.metrics; memo = c.follow.new.memo } in
+    let old : MemoTreeValue = record { tree = c.self.inside.tree; metrics = c.self.inside.metrics; memo = c.self.inside.memo; store = c.self.inside.store } in
+    let new : MemoTreeValue = record { tree = c.apply_at.new.tree; metrics = c.self.inside.metrics; memo = c.follow.new.memo; store = c.self.inside.store } in
     let laid = subst IsLaidOut (sym c.self.view_is) c.requires.sealed in
     let done = c.in_ok-taken.ensures {u = tt} in
     let way = c.in-Some.way in
@@ -85,8 +87,8 @@ returns-in-Ok-clause-marked c =
 
 pub returns-in-Ok-clause-kept : goal.returns-in-Ok-clause-kept
 returns-in-Ok-clause-kept c =
-    let old : MemoTreeValue = record { tree = c.self.inside.tree; metrics = c.self.inside.metrics; memo = c.self.inside.memo } in
-    let new : MemoTreeValue = record { tree = c.apply_at.new.tree; metrics = c.self.inside.metrics; memo = c.follow.new.memo } in
+    let old : MemoTreeValue = record { tree = c.self.inside.tree; metrics = c.self.inside.metrics; memo = c.self.inside.memo; store = c.self.inside.store } in
+    let new : MemoTreeValue = record { tree = c.apply_at.new.tree; metrics = c.self.inside.metrics; memo = c.follow.new.memo; store = c.self.inside.store } in
     let laid = subst IsLaidOut (sym c.self.view_is) c.requires.sealed in
     let done = c.in_ok-taken.ensures {u = tt} in
     let way = c.in-Some.way in
@@ -95,3 +97,15 @@ returns-in-Ok-clause-kept c =
     subst (λ (o : MemoTreeValue). EachStays o c.args.edit new) c.self.view_is
     (each_stays old c.args.edit way c.apply_at.new.tree root laid is done.tree c.root.ensures.exact c.follow.new.memo c.in-Ok.back
     ((c.in-Ok.ensures {u = tt}).followed (before old c.args.edit way c.apply_at.new.tree root laid is done.tree c.root.ensures.exact)) c.self.invariant.whole c.root.ensures.whole)
+
+pub returns-in-Ok-clause-fewer : goal.returns-in-Ok-clause-fewer
+returns-in-Ok-clause-fewer c =
+    let old : MemoTreeValue = record { tree = c.self.inside.tree; metrics = c.self.inside.metrics; memo = c.self.inside.memo; store = c.self.inside.store } in
+    let laid = subst IsLaidOut (sym c.self.view_is) c.requires.sealed in
+    let done = c.in_ok-taken.ensures {u = tt} in
+    let way = c.in-Some.way in
+    let is = c.in-Some.ensures done.accepted in
+    let root = c.root.result.now in
+    let was = before old c.args.edit way c.apply_at.new.tree root laid is done.tree c.root.ensures.exact in
+    subst (λ (o : MemoTreeValue). kept_count c.follow.new.memo ≤ kept_count o.memo) c.self.view_is
+    (fewer_then root old.memo c.follow.new.memo way was ((c.in-Ok.ensures {u = tt}).followed was).spliced)

@@ -1,9 +1,23 @@
-use Rattle.std.proofs.Common.{sym, subst}
-use Rattle.memo_tree.specs.States.{IsStopped}
-use Rattle.memo_tree.proofs.Roots.{taken_back}
+use Rattle.std.proofs.Common.{◌∙◌, sym, ap, subst}
+use Rattle.memo_tree.specs.States.{IsChanged, IsStopped, without_pass}
+use Rattle.memo_tree.specs.Trees.{MemoTreeValue}
+use Rattle.memo_tree.proofs.Roots.{rolled_back, taken_back}
 use Rattle.memo_tree.proofs.tree.MemoTree.undo_pass.Goals as goal
+
+pub rollback-requires : goal.rollback-requires
+rollback-requires c = (subst IsStopped (sym c.self.view_is) c.requires.stopped).in_pass
+
+pub returns-clause-before : goal.returns-clause-before
+returns-clause-before c =
+    let old : MemoTreeValue = record { tree = c.self.inside.tree; metrics = c.self.inside.metrics; memo = c.self.inside.memo; store = c.self.inside.store } in
+    let stopped = subst IsStopped (sym c.self.view_is) c.requires.stopped in
+    taken_back old c.undo_pass.new.memo c.rollback.new.self c.undo_pass.ensures (rolled_back old.store c.rollback.new.self stopped.in_pass c.rollback.ensures)
+    ∙ ap without_pass c.self.view_is
 
 pub returns-clause-changed : goal.returns-clause-changed
 returns-clause-changed c =
-    let laid = c.self.inside in
-    taken_back record { tree = laid.tree; metrics = laid.metrics; memo = laid.memo } c.undo_pass.new.memo (subst IsStopped (sym c.self.view_is) c.requires.stopped) c.undo_pass.ensures
+    let old : MemoTreeValue = record { tree = c.self.inside.tree; metrics = c.self.inside.metrics; memo = c.self.inside.memo; store = c.self.inside.store } in
+    let stopped = subst IsStopped (sym c.self.view_is) c.requires.stopped in
+    subst IsChanged
+    (sym (taken_back old c.undo_pass.new.memo c.rollback.new.self c.undo_pass.ensures (rolled_back old.store c.rollback.new.self stopped.in_pass c.rollback.ensures)))
+    stopped.begun
