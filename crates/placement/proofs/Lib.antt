@@ -1,4 +1,5 @@
 pub mod Glyphs
+mod Lent
 pub mod Near
 mod Reading
 pub mod Showing

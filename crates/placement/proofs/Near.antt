@@ -60,18 +60,24 @@ marks_and_offsets o e =
 pub marks_stored : (l : Laid) → all_outcomes outcome_fits l ≡ true → list_all mark_fits (out-Laid l).outcome.marks ≡ true
 marks_stored l e = (marks_and_offsets (out-Laid l).outcome (own_stored l e)).1
 
+pub offsets_stored : (l : Laid) → all_outcomes outcome_fits l ≡ true → list_all offset_fits (out-Laid l).outcome.offsets ≡ true
+offsets_stored l e = (marks_and_offsets (out-Laid l).outcome (own_stored l e)).0
+
 pub record IsOffsetWithin (offset : Offset) : Type 0 where
   pub right : IsWithin farthest offset.x
   pub down : IsWithin farthest offset.y
 
+pub offset_within : (offset : Offset) → offset_fits offset ≡ true → IsOffsetWithin offset
+unfolding offset_fits
+offset_within offset e =
+    let parts = and_parts (is_stored offset.x) (is_stored offset.y) e in
+    record { right = number_within offset.x parts.0; down = number_within offset.y parts.1 }
+
 pub offset_at : (l : Laid) (offsets : List Offset) (i : ℕ) (default : Offset) → all_outcomes outcome_fits l ≡ true → offsets ≡ (out-Laid l).outcome.offsets
     → i < length offsets → IsOffsetWithin (get_or offsets i default)
-unfolding offset_fits
 offset_at l offsets i default e o h =
     let each = AllPass-from_list_all offset_fits offsets (ap (list_all offset_fits) o ∙ (marks_and_offsets (out-Laid l).outcome (own_stored l e)).0) in
-    let offset = get_or offsets i default in
-    let parts = and_parts (is_stored offset.x) (is_stored offset.y) (each i default h) in
-    record { right = number_within offset.x parts.0; down = number_within offset.y parts.1 }
+    offset_within (get_or offsets i default) (each i default h)
 
 pub record IsMarkWithin (mark : Mark) : Type 0 where
   pub right : IsWithin (2 ^ 40) (x_of mark)
@@ -80,7 +86,7 @@ pub record IsMarkWithin (mark : Mark) : Type 0 where
 wide : (x y : ℤ) → is_stored x ≡ true → is_stored y ≡ true → IsWithin (2 ^ 40) x × IsWithin (2 ^ 40) y
 wide x y e f = (widened (2 ^ 40) (number_within x e) (lit≤ tt), widened (2 ^ 40) (number_within y f) (lit≤ tt))
 
-mark_fits_within : (mark : Mark) → mark_fits mark ≡ true → IsMarkWithin mark
+pub mark_fits_within : (mark : Mark) → mark_fits mark ≡ true → IsMarkWithin mark
 unfolding mark_fits
 mark_fits_within (Glyph x y size glyph) e =
     let all = and_parts (is_stored x && is_stored y) (is_stored size) e in

@@ -29,7 +29,7 @@ placed_out l x y = ap (λ (s : Shown). s x y) (fold_out-Laid Shown shown l)
 pub placed_made : (layer : Laid-F Laid) (x y : ℤ) → placed (roll-Laid layer) x y ≡ layer_at layer x y
 placed_made layer x y = placed_out (roll-Laid layer) x y ∙ ap (λ (l : Laid-F Laid). layer_at l x y) (out-roll-Laid layer)
 
-nothing_more : (items : List PlacedItem) → items ≡ items ++ []
+pub nothing_more : (items : List PlacedItem) → items ≡ items ++ []
 nothing_more [] = refl
 nothing_more (item ∷ items) = ap (λ (rest : List PlacedItem). item ∷ rest) (nothing_more items)
 
@@ -76,17 +76,13 @@ kids_more x y offsets kids i default kid items new all l k is so added =
     ∙ ap (λ (some : List Laid). kids_at x y (offset ∷ drop (i + 1) offsets) (map placed some)) (drop_more kids i kid k ∙ ap (λ (c : Laid). c ∷ drop (i + 1) kids) (sym is)) in
     ap (λ (front : List PlacedItem). front ++ rest) added ∙ append_assoc items here rest ∙ ap (λ (back : List PlacedItem). items ++ back) (sym next) ∙ so
 
-without_kids : (x y : ℤ) (offsets : List Offset) → kids_at x y offsets [] ≡ []
+pub without_kids : (x y : ℤ) (offsets : List Offset) → kids_at x y offsets [] ≡ []
 without_kids x y [] = refl
 without_kids x y (offset ∷ offsets) = refl
 
-without_offsets : (x y : ℤ) (kids : List Shown) → kids_at x y [] kids ≡ []
+pub without_offsets : (x y : ℤ) (kids : List Shown) → kids_at x y [] kids ≡ []
 without_offsets x y [] = refl
 without_offsets x y (kid ∷ kids) = refl
-
-pub nothing_shown : (x y : ℤ) (offsets : List Offset) (kids : List Shown) (items : List PlacedItem) → offsets ≡ [] → items ≡ items ++ kids_at x y offsets kids
-nothing_shown x y offsets kids items none =
-    nothing_more items ∙ ap (λ (back : List PlacedItem). items ++ back) (sym (ap (λ (some : List Offset). kids_at x y some kids) none ∙ without_offsets x y kids))
 
 none_left : (x y : ℤ) (offsets : List Offset) (kids : List Laid) (i : ℕ) → min (length offsets) (length kids) ≤ i → kids_from x y offsets kids i ≡ []
 none_left x y offsets kids i l = elim (cases_lt (length offsets) (length kids)) [

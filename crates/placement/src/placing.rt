@@ -69,7 +69,7 @@ fn place_kids(alloc: Global, laid: &Laid, x: i64, y: i64, items: &mut Placed) ->
 }
 
 /// Adds the marks of an element that stands at a place.
-pub(crate) fn place_marks(marks: &[Mark], x: i64, y: i64, items: &mut Placed) -> Result<(), Memory>
+fn place_marks(marks: &[Mark], x: i64, y: i64, items: &mut Placed) -> Result<(), Memory>
     requires right { IsWithin (farthest * most_levels) x }
     requires down { IsWithin (farthest * most_levels) y }
     requires stored { list_all mark_fits marks.now ≡ true }
