@@ -1,5 +1,5 @@
 -- Runs of a changed memo: each entry that counts stood at one path before, and no two stood at one.
-use Rattle.std.proofs.Common.{◌≡◌, ◌∙◌, ◌⊎◌, inl, inr, refl, sym, ap, subst, ℕ, ◌+◌, ◌<◌, ◌≤◌, arith, Bool, true, false, List, [], ◌∷◌, get_or, length, set, Option, Some, slice_get}
+use Rattle.std.proofs.Common.{◌≡◌, ◌∙◌, ◌⊎◌, inl, inr, refl, sym, ap, subst, ℕ, arith, Bool, true, false, List, [], ◌∷◌, get_or, length, set, Option, Some, slice_get}
 use Rattle.std.specs.Bool.{⊤}
 use Rattle.std.specs.Option.{option_map_or}
 use Rattle.splices.proofs.Alike.{alike_brought}

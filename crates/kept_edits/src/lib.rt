@@ -7,8 +7,8 @@
 //! - Models: this project's own; MathML Core says nothing of it.
 //! - Proved: after the same change of both, memos agree with the tree again, and taking the change
 //!   back gives the memos that were there before; each step of a pass after an edit is a layout
-//!   that the edit needs, told by ids, none twice; runs that have what is kept have it after an edit
-//!   too, no two entries come to have one run, and an edit adds no entry (`laws`).
+//!   that the edit needs, told by ids, none twice; runs that have what is kept have it after an
+//!   edit too, no two entries come to have one run, and an edit adds no entry (`laws`).
 //! - Knows nothing of: how an edit is carried out on the tree, and how an element is laid out.
 //! - Change what an edit does to memos: `specs/Changed.antt`, then `src/change.rt`.
 #![tactic(auto)]
