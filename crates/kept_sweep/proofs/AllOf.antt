@@ -27,7 +27,7 @@ yes_or_no true = inl refl
 yes_or_no false = inr refl
 
 pub not_both : (b : Bool) → b ≡ true → b ≡ false → ⊥
-not_both b yes no = let g : true ≡ false = sym yes ∙ no in cc
+not_both b h k = let g : true ≡ false = sym h ∙ k in cc
 
 pub no_from : (b : Bool) → (b ≡ true → ⊥) → b ≡ false
 no_from true none = absurd (none refl)
@@ -49,6 +49,10 @@ has_both (x ∷ xs) ys q = ap (λ (b : Bool). eqb q x || b) (has_both xs ys q) �
     three false b c = refl
 
 -- ---- none of them twice
+
+pub nothing_twice : IsDistinct eqb []
+unfolding IsDistinct
+nothing_twice = tt
 
 pub distinct_more : (q : ℕ) (xs : List ℕ) → has xs q ≡ false → IsDistinct eqb xs → IsDistinct eqb (q ∷ xs)
 distinct_more q xs none d = IsDistinct-cons eqb q xs (all_differ q xs none) d
@@ -78,9 +82,9 @@ distinct_both (x ∷ xs) ys d e apart =
 pub all_of : (xs ys : List ℕ) → IsDistinct eqb xs → ((q : ℕ) → has xs q ≡ true → has ys q ≡ true) → length ys ≤ length xs → (q : ℕ) → has ys q ≡ true → has xs q ≡ true
 all_of xs ys d among few q there =
     elim (yes_or_no (has xs q)) [
-      | inl yes ↦ yes
-      | inr no ↦
-          let more = length-le_from_is_member nat_eq_equiv (q ∷ xs) ys (distinct_more q xs no d) (λ k h. one_more k h (yes_or_no (eqb k q))) in
+      | inl same ↦ same
+      | inr missing ↦
+          let more = length-le_from_is_member nat_eq_equiv (q ∷ xs) ys (distinct_more q xs missing d) (λ k h. one_more k h (yes_or_no (eqb k q))) in
           absurd (omega (arith, more, few))
     ]
   where

@@ -9,7 +9,7 @@ use Rattle.kept_results.specs.declared.memo.Memo.TheViews.{out-Memo}
 use Rattle.kept_sweep.specs.Laws.{PartBackedLaw, PartOwnRunsLaw}
 
 -- an entry of an element is held at its path
-held_at : (path : List ℕ) (node : Node) (memo : Memo) (element : Node) (kept : Memo) (entry : Entry) → StandAt path node memo element kept → HasEntry (out-Memo kept) entry
+pub held_at : (path : List ℕ) (node : Node) (memo : Memo) (element : Node) (kept : Memo) (entry : Entry) → StandAt path node memo element kept → HasEntry (out-Memo kept) entry
     → Holds path memo entry
 held_at [] node memo element kept entry s has = subst (λ (z : Memo). HasEntry (out-Memo z) entry) s.1 has
 held_at (place ∷ path) node memo element kept entry s has = (s.1, s.3, held_at path s.0 s.1 element kept entry s.4 has)

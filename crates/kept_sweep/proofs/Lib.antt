@@ -1,7 +1,11 @@
+pub mod AllOf
 pub mod Backed
 pub mod Clearing
 pub mod Flagging
 pub mod Listed
+pub mod Listing
+pub mod RunIds
 pub mod Starting
+pub mod Stored
 pub mod Sweeping
 pub mod Totals

@@ -13,6 +13,7 @@ use Rattle.kept_edits.proofs.Unlaid.{blank_law}
 use Rattle.kept_sweep.specs.Swept.{KeepsNeeded}
 use Rattle.kept_sweep.proofs.Backed.{idle_again}
 use Rattle.kept_sweep.proofs.Starting.{start_law, start_steps}
+use Rattle.kept_sweep.proofs.Stored.{one_run_each_law}
 use Rattle.kept_sweep.proofs.start.start_layout.Goals as goal
 
 pub relay_element-requires-clause-begun : goal.relay_element-requires-clause-begun
@@ -77,6 +78,15 @@ returns-in-Ok-clause-runs g c =
     let begun = ap (λ (s : StoreValue). length s.runs) c.begin.ensures in
     let ended = ap (λ (s : StoreValue). length s.runs) c.commit.ensures in
     omega (arith, counted, begun, ended)
+
+pub returns-in-Ok-clause-one : goal.returns-in-Ok-clause-one
+returns-in-Ok-clause-one g c nothing =
+    let runs = c.commit.new.store.runs in
+    let kept = returns-in-Ok-clause-kept g c in
+    let counted = returns-in-Ok-clause-runs g c in
+    let all = returns-in-Ok-clause-all g c in
+    one_run_each_law c.args.metrics.now runs c.args.node.now c.seal.new.memo kept.agrees (returns-in-Ok-clause-backed g c) (returns-in-Ok-clause-own g c)
+    (omega (arith, counted, all, ap length nothing))
 
 pub returns-in-Ok-clause-idle : goal.returns-in-Ok-clause-idle
 returns-in-Ok-clause-idle g c = ap (λ (s : StoreValue). s.checkpoint) c.commit.ensures
