@@ -12,6 +12,8 @@ use Rattle.layout_model.specs.Laid.{all_outcomes, levels}
 use Rattle.layout_model.specs.Layout.{is_tree_in_range, laid, laid_tree, root_context}
 use Rattle.layout_model.specs.declared.context.Context.{Context}
 use Rattle.layout_model.specs.declared.laid.Laid.{Laid}
+use Rattle.outcome_cells.specs.Store.{StoreValue}
+use Rattle.kept_results.specs.Backed.{IsBacked}
 use Rattle.kept_results.specs.Kept.{Agrees, IsKept}
 use Rattle.kept_results.specs.declared.memo.Memo.{Memo}
 use Rattle.kept_results.specs.declared.memo.Memo.TheViews.{out-Memo}
@@ -40,6 +42,13 @@ module _ (held : MemoTreeValue) (m : MetricsValue) (root : Node) (memo : Memo) (
   root_agrees =
       subst (λ (x : MetricsValue). Agrees x root memo) (sym numbers)
       (subst (λ (n : Node). Agrees held.metrics n memo) (sym top) (subst (Agrees held.metrics held.tree.root) (sym kept) is.sealed.ready.agrees))
+
+  pub root_backed : (store : StoreValue) → store ≡ held.store → IsBacked m store.runs root memo
+  root_backed store stored =
+      subst (λ (s : StoreValue). IsBacked m s.runs root memo) (sym stored)
+      (subst (λ (x : MetricsValue). IsBacked x held.store.runs root memo) (sym numbers)
+      (subst (λ (n : Node). IsBacked held.metrics held.store.runs n memo) (sym top)
+      (subst (IsBacked held.metrics held.store.runs held.tree.root) (sym kept) is.has_runs.backed)))
 
   pub root_kept : IsKept (out-Memo memo) context
   root_kept =

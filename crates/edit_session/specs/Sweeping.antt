@@ -1,6 +1,6 @@
 -- When a session drops layouts that nothing needs, and how much it keeps at most.
-use Rattle.std.specs.Prelude.{◌≡◌, ◌⊎◌, ℕ, ◌+◌, ◌*◌, ◌≤◌, Bool, true, false, ◌||◌, nat_lt, List, map}
-use Rattle.std.specs.List.{AllByRecursion, sum}
+use Rattle.std.specs.Prelude.{◌≡◌, ◌⊎◌, ℕ, ◌+◌, ◌*◌, ◌≤◌, Bool, true, false, ◌||◌, nat_lt, List}
+use Rattle.std.specs.List.{AllByRecursion, sum_by}
 use Rattle.box_pool.specs.Runs.{cell_count}
 use Rattle.tree_edits.specs.declared.change.Change.{Change}
 use Rattle.tree_edits.specs.declared.edit.Edit.{Edit}
@@ -86,11 +86,11 @@ pub record HasFewCells (session : KeptSession) : Type 0 where
   pub apart : HasNoRepeat pairs
   pub bound : cell_count session.store.runs ≤
       2 * session.swept_cells
-      + sum (map (pair_cells session.held.metrics session.held.tree.root) pairs)
+      + sum_by (pair_cells session.held.metrics session.held.tree.root) pairs
 
 -- a tree with its kept layouts as a session has it: no edit is under way, and no more is kept than
 -- this, which is known up to a bound
 pub record IsKeptWithin (laid : MemoTreeValue) (most : ℕ) : Type 0 where
   pub sealed : IsIn Sealed laid
   pub few : kept_count laid.memo ≤ 262_144
-  pub most : kept_count laid.memo ≤ most
+  pub no_more : kept_count laid.memo ≤ most

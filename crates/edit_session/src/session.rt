@@ -1,4 +1,4 @@
-ghost use Rattle.std.specs.Prelude.{◌≡◌, ◌≤◌, ◌≢◌, ◌⊎◌, ◌+◌, ◌-◌, ◌^◌, min, false, None, All, Err, IfOk, OnOk, IfErr, OnErr};
+ghost use Rattle.std.specs.Prelude.{◌≡◌, ◌≤◌, ◌≢◌, ◌⊎◌, ◌+◌, ◌*◌, ◌-◌, ◌^◌, min, false, None, All, Err, IfOk, OnOk, IfErr, OnErr};
 ghost use Rattle.box_pool.specs.Runs.{cell_count};
 ghost use Rattle.box_writer.specs.Items.{IsOfFont};
 ghost use Rattle.fixed_units.specs.declared.refusal.LayRefusal.TheVariants.{Range};
@@ -10,10 +10,10 @@ ghost use Rattle.kept_results.specs.Ends.{kept_count};
 ghost use Rattle.kept_results.specs.Laws.{AllKept};
 ghost use Rattle.kept_edits.specs.ByIds.{TakesNeeded};
 ghost use Rattle.kept_sweep.specs.Swept.{CountsNeeded};
-ghost use Rattle.memo_tree.specs.Counted.{TakesVisits};
+ghost use Rattle.memo_tree.specs.Counted.{EntriesStay, TakesVisits};
 ghost use Rattle.memo_tree.specs.States.{IsIn, Sealed};
 ghost use Rattle.memo_tree.specs.Trees.{context_of};
-ghost use Rattle.edit_session.specs.Session.{IsCause, IsInRange, edited_session, page, root_box, session_of};
+ghost use Rattle.edit_session.specs.Session.{IsCause, IsInRange, edited_session, layouts_of, page, root_box, session_of};
 ghost use Rattle.edit_session.specs.Sweeping.{HasFewCells, IsFound, IsLeft, IsNoted, IsSwept, IsSweptFrom, RunsStay, is_due};
 
 use crate::SessionRefusal;
@@ -77,6 +77,7 @@ impl Session {
         ensures fit { IfOk result (λ session. IsInRange session.held) }
         ensures range { result ≡ Err Range → is_tree_in_range metrics tree ≡ false }
         ensures kept { IfOk result IsSwept }
+        ensures few { IfOk result (λ session. kept_count session.memo ≤ 131_072) }
         ensures cells { IfOk result
             (λ session. session.swept_cells ≡ cell_count session.store.runs) }
         ensures steps { CountsNeeded metrics tree.root (context_of metrics tree) steps.old
@@ -175,9 +176,49 @@ impl Session {
         ensures steps { refusal_of self.old.held.tree edit ≡ None
             → TakesNeeded self.old.held.metrics self.old.held.tree edit steps.old steps.new }
     {
+        self.sweep_if_due(alloc)?;
+        self.edit_found(alloc, edit, steps)
+    }
+
+    /// Drops the layouts that nothing needs, where that is due.
+    fn sweep_if_due(&mut self, alloc: Global) -> Result<(), Memory>
+        ensures found { OnOk result (IsFound self.old self.new) }
+        ensures few { OnOk result (kept_count self.new.memo ≤ 131_072) }
+        ensures cells { OnOk result (cell_count self.new.store.runs ≤ 2 * self.new.swept_cells) }
+        ensures held { self.new.held ≡ self.old.held }
+        ensures unchanged { OnErr result (self.new ≡ self.old) }
+    {
         if self.is_due() {
             self.sweep(alloc)?;
         }
+        Ok(())
+    }
+
+    /// Carries an edit out where no sweep is due, or just was, and answers what takes it back.
+    fn edit_found<L: Ledger>(
+        &mut self,
+        alloc: Global,
+        edit: Edit,
+        steps: &mut Steps<L>,
+    ) -> Result<Reversal, SessionRefusal>
+        requires proper { IsProperEdit edit }
+        requires few { kept_count self.old.memo ≤ 131_072 }
+        requires cells { cell_count self.old.store.runs ≤ 2 * self.old.swept_cells }
+        ensures accepted { OnOk result (refusal_of self.old.held.tree edit ≡ None) }
+        ensures edited { OnOk result (self.new.held ≡ edited_session self.old.held edit) }
+        ensures fit { OnOk result (IsInRange self.new.held) }
+        ensures back { IfOk result (λ reversal. edit_of reversal.taken
+            ≡ inverse self.old.held.tree edit) }
+        ensures refused { IfErr result (IsCause self.old.held edit) }
+        ensures unchanged { OnErr result (self.new ≡ self.old) }
+        ensures noted { self.new.swept_cells ≡ self.old.swept_cells }
+        ensures stays { OnOk result (EntriesStay (layouts_of self.old) edit (layouts_of self.new)) }
+        ensures few { kept_count self.new.memo ≤ 262_144 }
+        ensures cells { OnOk result (HasFewCells self.new) }
+        ensures unlaid { refusal_of self.old.held.tree edit ≢ None → steps.new ≡ steps.old }
+        ensures steps { refusal_of self.old.held.tree edit ≡ None
+            → TakesNeeded self.old.held.metrics self.old.held.tree edit steps.old steps.new }
+    {
         let reversal = self.layouts.change(alloc, edit)?;
         match self.layouts.relay(alloc, steps) {
             Ok(()) => {

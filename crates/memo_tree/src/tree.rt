@@ -126,6 +126,7 @@ impl MemoTree {
         ensures tree { IfOk result (λ laid. laid.tree ≡ tree) }
         ensures metrics { IfOk result (λ laid. laid.metrics ≡ metrics) }
         ensures swept { IfOk result IsSwept }
+        ensures few { IfOk result (λ laid. kept_count laid.memo ≤ 131_072) }
         ensures steps { CountsNeeded metrics tree.root (context_of metrics tree) steps.old
             steps.new }
         ensures visits { TakesVisits metrics tree steps.old steps.new }

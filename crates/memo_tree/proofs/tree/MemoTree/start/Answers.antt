@@ -8,7 +8,7 @@ use Rattle.kept_sweep.specs.Swept.{CountsNeeded}
 use Rattle.memo_tree.specs.Counted.{TakesVisits}
 use Rattle.memo_tree.specs.Trees.{context_of}
 use Rattle.memo_tree.proofs.Changes.{visits_law}
-use Rattle.memo_tree.proofs.Roots.{laid_out, of_tree, ranged, sealed_of, swept_of}
+use Rattle.memo_tree.proofs.Roots.{few_kept, laid_out, of_tree, ranged, sealed_of, swept_of}
 use Rattle.memo_tree.proofs.tree.MemoTree.start.Goals as goal
 
 -- the steps that the root takes, in the context that was made for it
@@ -33,6 +33,11 @@ returns-in-Ok-clause-swept g c =
     let made = c.in-Ok.ensures {u = tt} in
     swept_of c.args.metrics c.args.tree c.root.result.now c.context_of-context.result c.in-Ok.memo c.start_layout.new.store c.root.ensures.exact
     c.context_of-context.ensures.exact made.kept (made.one (ap (λ (s : StoreValue). s.runs) c.make.ensures))
+
+pub returns-in-Ok-clause-few : goal.returns-in-Ok-clause-few
+returns-in-Ok-clause-few g c =
+    few_kept c.args.metrics c.args.tree c.root.result.now c.context_of-context.result c.in-Ok.memo c.root.ensures.exact c.context_of-context.ensures.suits c.root.ensures.whole
+    (c.in-Ok.ensures {u = tt}).kept
 
 pub returns-in-Ok-clause-fit : goal.returns-in-Ok-clause-fit
 returns-in-Ok-clause-fit g c =
