@@ -1,6 +1,6 @@
 use Rattle.std.proofs.Common.{sym, subst}
 use Rattle.kept_results.proofs.Backed.{are_backed}
-use Rattle.memo_tree.specs.Trees.{IsLaidOut, MemoTreeValue}
+use Rattle.memo_tree.specs.Trees.{IsLaidOut}
 use Rattle.memo_tree.proofs.tree.MemoTree.root_box.Goals as goal
 
 pub root_box-requires-clause-backed : goal.root_box-requires-clause-backed

@@ -1,4 +1,4 @@
-use Rattle.std.proofs.Common.{◌≡◌, ℕ, sym, ap, subst, Bool, true}
+use Rattle.std.proofs.Common.{◌≡◌, ℕ, ap, subst, Bool, true}
 use Rattle.outcome_cells.specs.Store.{StoreValue}
 use Rattle.font_metrics.specs.Metrics.{MetricsValue}
 use Rattle.math_tree.specs.Trees.{IsWhole, TreeValue}
