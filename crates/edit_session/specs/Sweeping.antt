@@ -71,7 +71,7 @@ pub record RunsStay (old : KeptSession) (edit : Edit) (new : KeptSession) : Type
   pub is : IsEditAt old.held.tree edit change path
   pub stays : (before behind : List ℕ) (entry : Entry) → CameFrom path change before behind →
       Needs old.held.metrics old.held.tree.root (context_of old.held.metrics old.held.tree)
-        record { path = before; context = entry.context } →
+      record { path = before; context = entry.context } →
       Holds before old.memo entry → Holds behind new.memo entry
 
 -- ---- how much
@@ -82,7 +82,7 @@ pub record HasFewCells (session : KeptSession) : Type 0 where
   pub pairs : List Pair
   pub needed : AllByRecursion
       (Needs session.held.metrics session.held.tree.root
-        (context_of session.held.metrics session.held.tree)) pairs
+      (context_of session.held.metrics session.held.tree)) pairs
   pub apart : HasNoRepeat pairs
   pub bound : cell_count session.store.runs ≤
       2 * session.swept_cells

@@ -243,8 +243,7 @@ impl Session {
         if self.most_kept > MOST_UNSWEPT {
             self.most_kept = self.layouts.kept();
         }
-        self.most_kept > MOST_UNSWEPT
-            || self.layouts.cells() > self.swept_cells.saturating_mul(2)
+        self.most_kept > MOST_UNSWEPT || self.layouts.cells() > self.swept_cells.saturating_mul(2)
     }
 
     /// Drops all layouts but those that the one of the tree needs, and notes how many cells are
