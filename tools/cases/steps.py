@@ -1,7 +1,8 @@
 """Which layouts a session makes: those that a tree needs and that aren't kept."""
 
 from second.edits import Refused, edited
-from second.layout import OutOfRange, needed
+from second.glyphs import BuiltMark, GlyphMark, RuleMark
+from second.layout import OutOfRange, lay, needed
 from second.script import SHOW, NoCommand, command_in
 from second.tree_reading import TreeFault, tree_of
 
@@ -17,9 +18,14 @@ REFUSED = "refused"
 ALL_SAME = ("fresh same", "session same", "copy same")
 START_SAME = "start same"
 
-# A session drops what its tree doesn't need at a show, and at an edit where those since it last did weigh more than so
-# much and two for each element of the tree. An edit weighs so much and one for each layout that it made.
-MOST_UNSWEPT, EDIT_WEIGHT = 4_096, 4
+# A session drops what its tree doesn't need at a show, and before an edit where more layouts are kept than this, or where there
+# are more than twice the cells that it left when it last did.
+MOST_UNSWEPT = 131_072
+
+# The cells of a layout: nine for its box and the spaces round it, one for the length of each of its four lists, and those of
+# their items: widths, spans, offsets and marks.
+FIXED_CELLS, SPAN_CELLS, OFFSET_CELLS = 13, 4, 3
+MARK_CELLS = {GlyphMark: 5, RuleMark: 5, BuiltMark: 8}
 
 
 def steps(known, value):
@@ -32,7 +38,8 @@ def steps(known, value):
         held = Held(metrics, tree)
     except OutOfRange:
         return OUT_OF_RANGE
-    return "; ".join([made(len(held.kept), held.kept), *(held.answer(text_of(line)) for line in script), *ALL_SAME])
+    first = made(len(held.kept), held.kept, held.cells)
+    return "; ".join([first, *(held.answer(text_of(line)) for line in script), *ALL_SAME])
 
 
 def relay(known, value):
@@ -43,8 +50,8 @@ def relay(known, value):
     try:
         layouts = needed(metrics, tree)
     except OutOfRange:
-        return f"{OUT_OF_RANGE}, {told_kept(())}"
-    return f"{made(len(layouts), layouts)}; {START_SAME}"
+        return f"{OUT_OF_RANGE}, {told_kept((), 0)}"
+    return f"{made(len(layouts), layouts, cells_of(metrics, tree, layouts))}; {START_SAME}"
 
 
 def tree_in(fields):
@@ -55,16 +62,29 @@ def tree_in(fields):
         raise LineFault(NOT_AN_ELEMENT) from None
 
 
-def made(count, kept):
-    return f"made {count}, {told_kept(kept)}"
+def made(count, kept, cells):
+    return f"made {count}, {told_kept(kept, cells)}"
 
 
-def told_kept(kept):
-    return f"kept {len(kept)}"
+def told_kept(kept, cells):
+    return f"kept {len(kept)}, cells {cells}"
+
+
+def cells_of(metrics, tree, pairs):
+    """How many cells the layouts of a tree have that these pairs of an id and a context name."""
+    nodes = {node.id: node for node in elements(tree.root)}
+    return sum(cells_in(lay(metrics, nodes[name], context)) for name, context in pairs)
+
+
+def cells_in(layout):
+    """How many cells a layout has."""
+    lists = len(layout.cells) + SPAN_CELLS * len(layout.spans) + OFFSET_CELLS * len(layout.offsets)
+    return FIXED_CELLS + lists + sum(MARK_CELLS[type(mark)] for mark in layout.marks)
 
 
 class Held:
-    """A tree, and the layouts that are kept of it: pairs of an id and a context."""
+    """A tree, and the layouts that are kept of it: pairs of an id and a context. The cells of those that aren't kept any more
+    stay until what the tree doesn't need is dropped."""
 
     def __init__(self, metrics, tree):
         self.metrics, self.tree = metrics, tree
@@ -72,7 +92,8 @@ class Held:
 
     def drop(self):
         """What the tree doesn't need is dropped."""
-        self.kept, self.unswept = needed(self.metrics, self.tree), 0
+        self.kept = needed(self.metrics, self.tree)
+        self.cells = self.swept_cells = cells_of(self.metrics, self.tree, self.kept)
 
     def answer(self, line):
         """What comes of a line of a script."""
@@ -87,23 +108,23 @@ class Held:
     def shown(self):
         """A show drops what the tree doesn't need."""
         self.drop()
-        return told_kept(self.kept)
+        return told_kept(self.kept, self.cells)
 
     def edited(self, command):
-        """An edit drops what is kept of the elements on its way and of those that it takes out; after many others it
+        """An edit drops what is kept of the elements on its way and of those that it takes out; where much is kept, it first
         drops all that the tree doesn't need."""
+        if len(self.kept) > MOST_UNSWEPT or self.cells > 2 * self.swept_cells:
+            self.drop()
         tree = edited(self.tree, command)
         layouts = needed(self.metrics, tree)
         before = {id(node) for node in elements(self.tree.root)}
         calm = {node.id for node in elements(tree.root) if id(node) in before}
         stay = {pair for pair in self.kept if pair[0] in calm}
-        count = len(layouts - stay)
-        self.compare(count, layouts, calm)
+        new = layouts - stay
+        self.compare(len(new), layouts, calm)
         self.tree, self.kept = tree, stay | layouts
-        self.unswept += EDIT_WEIGHT + count
-        if self.unswept > MOST_UNSWEPT + 2 * tree.root.count:
-            self.drop()
-        return made(count, self.kept)
+        self.cells += cells_of(self.metrics, tree, new)
+        return made(len(new), self.kept, self.cells)
 
     def compare(self, count, layouts, calm):
         """An edit may have to make layouts that the edited tree needs: those of elements that it changes or brings, and

@@ -1,5 +1,6 @@
 pub mod Ending
 pub mod Loading
+mod TwoParts
 pub mod Answering
 pub mod Steps
 mod Continuing

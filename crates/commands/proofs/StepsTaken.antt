@@ -24,7 +24,7 @@ use Rattle.commands.specs.Script.{within}
 use Rattle.commands.specs.Steps.{TakesBehindStart, TakesForEdit, TakesForEdits, TakesForJob, TakesForLine, TakesForNext, TakesForRun, TakesForScript, TakesForWork, TakesOverMetrics, accepted_in, lines_left, script_lines, unless_refused}
 use Rattle.commands.specs.declared.refusal.Refusal.{Refusal}
 use Rattle.commands.specs.declared.replies.Stop.{Stop}
-use Rattle.commands.proofs.Answering.{ok_is_not_cut}
+use Rattle.commands.proofs.TwoParts.{ok_is_not_cut}
 use Rattle.commands.proofs.Continuing.{within_more}
 
 -- ---- one line

@@ -14,7 +14,7 @@ use Rattle.math_tree.specs.declared.node.Node.{Node}
 use Rattle.math_tree.specs.declared.node.Node.TheViews.{out-Node}
 use Rattle.embellished.specs.Seen.{Child, HasChild, flow_children, seen_of}
 use Rattle.style_scope.specs.Sizes.{size_of}
-use Rattle.embellished.proofs.InFlow.{among, shown}
+use Rattle.embellished.proofs.InFlow.{shown}
 use Rattle.layout_model.specs.Answers.{answers_in, questions_in}
 use Rattle.layout_model.specs.Laws.{answer_of}
 use Rattle.layout_model.specs.Fits.{AreAnswers, HasFont, HasStyle}
@@ -29,7 +29,7 @@ use Rattle.layout_model.specs.declared.reply.Reply.{Reply}
 use Rattle.layout_model.proofs.Made.{answer_of_child}
 use Rattle.layout_model.proofs.Places.{first_below}
 use Rattle.layout_model.proofs.Replies.{answer_there, answers_set, as_many, asked_within, question_there, question_was, questions_set}
-use Rattle.layout_model.proofs.Children.{few_children, in_flow}
+use Rattle.layout_model.proofs.Children.{few_children}
 use Rattle.layout_model.specs.Waves.{times_asked}
 use Rattle.layout_model.proofs.Counted.{each_wave}
 use Rattle.layout_model.proofs.Fits.{answers_are as answers_are_stored, fonts_are}

@@ -1,5 +1,5 @@
 -- The runs that a pass adds to a store are those of its pairs, in some order.
-use Rattle.std.proofs.Common.{◌≡◌, ◌∙◌, ◌⊎◌, inl, inr, refl, sym, ap, subst, ℕ, ◌+◌, arith, Bool, true, cond, eqb, eqb-true, List, [], ◌∷◌, ◌++◌, length, length-append, Option, Some, slice_get}
+use Rattle.std.proofs.Common.{◌≡◌, ◌∙◌, ◌⊎◌, inl, inr, refl, sym, ap, subst, ℕ, arith, Bool, true, false, cond, eqb, eqb-true, List, [], ◌∷◌, ◌++◌, length, length-append, Option, Some}
 use Rattle.std.proofs.lemmas.List.Sums.{sum_by-append, sum_by-cons}
 use Rattle.std.proofs.lemmas.Map.Entries.{place_from_lookup}
 use Rattle.std.proofs.lemmas.Option.{slice_get_within}
@@ -21,7 +21,7 @@ use Rattle.outcome_cells.specs.Store.{HasOutcome, HasSomeOutcome, Runs, StoreVal
 use Rattle.kept_results.specs.Backed.{Grows, HaveOwnRuns, IsBacked}
 use Rattle.kept_results.specs.Grown.{GrownByPairs, GrownCellsLaw, pair_cells}
 use Rattle.kept_results.specs.Kept.{Agrees, Holds}
-use Rattle.kept_results.specs.Passes.{HasNoRepeat, IsPairKept, IsPairMissing, Needs, Pair, Passes}
+use Rattle.kept_results.specs.Passes.{HasNoRepeat, IsPairKept, IsPairMissing, Pair, Passes}
 use Rattle.kept_results.specs.declared.memo.Entry.{Entry}
 use Rattle.kept_results.specs.declared.memo.Memo.{Memo}
 use Rattle.kept_results.specs.declared.memo.Memo.TheViews.{out-Memo}

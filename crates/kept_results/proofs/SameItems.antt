@@ -1,9 +1,10 @@
 -- A list without repeats whose items all stand in another list, which is no longer: both have the same
 -- items, in some order, so that sums over them are one.
-use Rattle.std.proofs.Common.{◌≡◌, ◌∙◌, ◌⊎◌, inl, inr, refl, sym, ap, ⊤, ℕ, zero, suc, ◌+◌, arith, List, [], ◌∷◌, length, Some, slice_get}
+use Rattle.std.proofs.Common.{◌≡◌, ◌∙◌, ◌⊎◌, inl, inr, refl, sym, ap, ℕ, zero, suc, ◌+◌, arith, List, [], ◌∷◌, length, Some, slice_get}
 use Rattle.std.proofs.lemmas.List.Sums.{sum_by-cons}
 use Rattle.std.proofs.lemmas.Option.{none-some, same_Some}
 use Rattle.std.specs.List.{AllByRecursion, sum_by}
+use Rattle.std.specs.Prelude.{⊤}
 
 module _ {X : Type 0} where
   -- an item stands somewhere in a list

@@ -33,8 +33,8 @@
 //!   that of the layout (`laws`).
 //! - Knows nothing of: edits (of `tree_edits` it takes which element a path leads to), and by which
 //!   equation an element of a kind is laid out.
-//! - Change what a kept layout is: `specs/Kept.antt`; what its run has: `specs/Backed.antt`; how many
-//!   cells come: `specs/Grown.antt`.
+//! - Change what a kept layout is: `specs/Kept.antt`; what its run has: `specs/Backed.antt`; how
+//!   many cells come: `specs/Grown.antt`.
 #![tactic(auto)]
 
 mod earlier; // what a pass takes over from before the edit

@@ -20,8 +20,9 @@ use std::sync::ledger::Ledger;
 
 /// Lays a tree out for the first time, and keeps exactly the layouts that the one of its root in a
 /// context needs. Each layout that is computed ticks a step, so that there are as many steps as
-/// entries are kept, and so many runs come in the store: one for each entry. It is refused with `Range` exactly where a
-/// number of one of them can't be stored; then the store is as before.
+/// entries are kept. So many runs come in the store: where it was empty, it has one for each entry.
+/// It is refused with `Range` exactly where a number of one of them can't be stored; then the store
+/// is as before.
 pub fn start_layout<L: Ledger>(
     alloc: Global,
     node: &Node,

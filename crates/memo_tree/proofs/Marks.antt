@@ -7,7 +7,7 @@ use Rattle.splices.proofs.Alike.{alike_brought, alike_gives}
 use Rattle.splices.proofs.Origins.{brought_there, each_spliced}
 use Rattle.splices.proofs.Places.{set_elsewhere, set_here}
 use Rattle.splices.proofs.Splicing.{moved}
-use Rattle.splices.specs.Splicing.{AllBrought, Brings, FitsIn, IsAlike, Moves, site_of, spliced}
+use Rattle.splices.specs.Splicing.{AllBrought, Brings, Moves, site_of, spliced}
 use Rattle.splices.specs.declared.site.Site.{Site}
 use Rattle.splices.specs.declared.splice.Splice.{Splice}
 use Rattle.font_metrics.specs.Metrics.{MetricsValue}
@@ -19,9 +19,9 @@ use Rattle.kept_results.specs.Laws.{is_unmarked}
 use Rattle.kept_results.specs.Looking.{own_facts}
 use Rattle.kept_results.specs.declared.memo.Memo.{Memo}
 use Rattle.kept_results.specs.declared.memo.Memo.TheOpen.{Memo-F}
-use Rattle.kept_results.specs.declared.memo.Memo.TheViews.{out-Memo, out-roll-Memo, roll-Memo}
+use Rattle.kept_results.specs.declared.memo.Memo.TheViews.{out-Memo, out-roll-Memo}
 use Rattle.kept_edits.specs.Blank.{blank}
-use Rattle.kept_edits.specs.Changed.{FitsMemo, changed_memo, renewed, renewed_on, seen_anew, with_below}
+use Rattle.kept_edits.specs.Changed.{FitsMemo, changed_memo, renewed, seen_anew, with_below}
 use Rattle.kept_edits.specs.Need.{CameFrom}
 use Rattle.kept_edits.specs.declared.change.Renewal.{Renewal}
 use Rattle.kept_edits.proofs.Backwards.{below_unmarked, former_none}

@@ -1,10 +1,9 @@
 -- A pass over a tree with its kept layouts.
-use Rattle.std.proofs.Common.{◌≡◌, ◌∙◌, refl, sym, ap, subst, ℕ, ◌+◌, arith, Bool, true, Some, is_some, length}
+use Rattle.std.proofs.Common.{◌≡◌, ◌∙◌, sym, ap, subst, ℕ, ◌+◌, arith, Bool, true, is_some, length}
 use Rattle.std.specs.Option.{IsSome}
-use Rattle.font_metrics.specs.Metrics.{MetricsValue}
 use Rattle.math_tree.specs.declared.node.Node.{Node}
 use Rattle.layout_model.specs.declared.context.Context.{Context}
-use Rattle.outcome_cells.specs.Store.{Runs, StoreValue}
+use Rattle.outcome_cells.specs.Store.{StoreValue}
 use Rattle.kept_results.specs.Backed.{Grows, IsBacked}
 use Rattle.kept_results.specs.Ends.{kept_count}
 use Rattle.kept_results.specs.Grown.{GrownByPairs}

@@ -1,6 +1,6 @@
 -- The context of a tree's root, and what is kept of its layout.
 use Rattle.std.proofs.Common.{◌≡◌, ◌∙◌, refl, sym, ap, subst, ℕ, Bool, true, ◌≤◌, [], Option, Some, None, is_some}
-use Rattle.std.proofs.lemmas.Bool.{false-true}
+use Rattle.std.proofs.lemmas.Bool.{false≢true}
 use Rattle.std.specs.Option.{IsSome}
 use Rattle.font_metrics.specs.Metrics.{MetricsValue}
 use Rattle.math_tree.specs.Trees.{IsWhole, TreeValue}
@@ -128,7 +128,7 @@ still_in_pass old begun after began grows =
 
 by_checkpoint : (checkpoint : Option Runs) (after : StoreValue) → is_some checkpoint ≡ true → ((before : Runs) → checkpoint ≡ Some before → after ≡ ended_at before)
     → (runs : Runs) → after ≡ at_checkpoint record { runs = runs; checkpoint = checkpoint }
-by_checkpoint None after some back runs = absurd (false-true some)
+by_checkpoint None after some back runs = absurd (false≢true some)
 by_checkpoint (Some before) after some back runs = back before refl
 
 pub rolled_back : (old after : StoreValue) → IsSome old.checkpoint → ((before : Runs) → old.checkpoint ≡ Some before → after ≡ ended_at before) → after ≡ at_checkpoint old

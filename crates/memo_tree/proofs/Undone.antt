@@ -1,7 +1,7 @@
 -- Memos after an edit of their tree, and taken back.
 use Rattle.std.proofs.Common.{◌≡◌, ◌∙◌, sym, ap, subst, ℕ, ◌≤◌, true, List, Option}
 use Rattle.splices.proofs.Alike.{alike_brought}
-use Rattle.splices.specs.Splicing.{IsAlike, inverse, site_of}
+use Rattle.splices.specs.Splicing.{inverse, site_of}
 use Rattle.splices.specs.declared.site.Site.{Site}
 use Rattle.splices.specs.declared.splice.Splice.{Splice}
 use Rattle.math_tree.specs.declared.node.Node.{Node}

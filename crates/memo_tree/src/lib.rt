@@ -9,11 +9,11 @@
 //! - Models: this project's own; MathML Core says nothing of it.
 //! - Proved: in each state what is kept agrees with the tree and the metrics, and before and after
 //!   an edit the layout of the root is among it; each layout has its cells in a run of its own in a
-//!   store (`specs/States.antt`, `specs/Trees.antt`); after an edit nothing is kept of new elements,
-//!   just those on its path are marked, and each element that stays has the entries that it had
-//!   (`specs/Marked.antt`); each step of `relay` after an edit is a layout that the edit needs, told
-//!   by ids, none twice (`specs/Counted.antt`); what is taken back is as it was, and takes no memory
-//!   (`specs/Reversing.antt`); and what is read is what a fresh layout gives.
+//!   store (`specs/States.antt`, `specs/Trees.antt`); after an edit nothing is kept of new
+//!   elements, just those on its path are marked, and each element that stays has the entries that
+//!   it had (`specs/Marked.antt`); each step of `relay` after an edit is a layout that the edit
+//!   needs, told by ids, none twice (`specs/Counted.antt`); what is taken back is as it was, and
+//!   takes no memory (`specs/Reversing.antt`); and what is read is what a fresh layout gives.
 //! - Knows nothing of: how an element is laid out, and what is written of it.
 //! - Change what an edit does to what is kept: `src/following.rt`, and below it `kept_edits`.
 //!   Change what is kept: `kept_results`; what is dropped: `kept_sweep`.

@@ -6,15 +6,15 @@ use Rattle.font_metrics.specs.Metrics.{MetricsValue}
 use Rattle.math_tree.specs.declared.node.Node.{Node}
 use Rattle.math_tree.specs.declared.node.Node.TheViews.{out-Node}
 use Rattle.embellished.specs.Seen.{seen_of}
+use Rattle.layout_model.specs.Laid.{all_outcomes}
 use Rattle.layout_model.specs.Laws.{answer_of}
 use Rattle.layout_model.specs.Layout.{laid, lay, questions}
+use Rattle.layout_model.specs.Range.{mark_fits, offset_fits, outcome_fits}
 use Rattle.layout_model.specs.declared.context.Context.{Context}
 use Rattle.layout_model.specs.declared.laid.Laid.{Laid}
 use Rattle.layout_model.specs.declared.laid.Laid.TheOpen.{Laid-F}
 use Rattle.layout_model.specs.declared.laid.Laid.TheViews.{out-Laid, out-roll-Laid}
 use Rattle.layout_model.proofs.Trees.{laid_is}
-use Rattle.layout_model.specs.Laid.{all_outcomes}
-use Rattle.layout_model.specs.Range.{mark_fits, offset_fits, outcome_fits}
 use Rattle.outcome_cells.specs.Cells.{IsMarkHeld, IsOffsetHeld, mark_numbers, offset_numbers}
 use Rattle.outcome_cells.specs.Parts.{AreItems, ArePartsOf}
 use Rattle.outcome_cells.specs.Store.{HasOutcome, Runs}

@@ -84,10 +84,6 @@ pub without_offsets : (x y : ℤ) (kids : List Shown) → kids_at x y [] kids �
 without_offsets x y [] = refl
 without_offsets x y (kid ∷ kids) = refl
 
-pub nothing_shown : (x y : ℤ) (offsets : List Offset) (kids : List Shown) (items : List PlacedItem) → offsets ≡ [] → items ≡ items ++ kids_at x y offsets kids
-nothing_shown x y offsets kids items none =
-    nothing_more items ∙ ap (λ (back : List PlacedItem). items ++ back) (sym (ap (λ (some : List Offset). kids_at x y some kids) none ∙ without_offsets x y kids))
-
 none_left : (x y : ℤ) (offsets : List Offset) (kids : List Laid) (i : ℕ) → min (length offsets) (length kids) ≤ i → kids_from x y offsets kids i ≡ []
 none_left x y offsets kids i l = elim (cases_lt (length offsets) (length kids)) [
   | inl fewer ↦ ap (λ (some : List Offset). kids_at x y some (map placed (drop i kids))) (drop_all i offsets (omega (arith, l, fewer))) ∙ without_offsets x y (map placed (drop i kids))

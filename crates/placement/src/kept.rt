@@ -5,7 +5,6 @@ ghost use Rattle.fixed_units.specs.Numbers.{IsWithin};
 ghost use Rattle.font_metrics.specs.declared.mark.Mark.{Mark};
 ghost use Rattle.math_tree.specs.Trees.{element_count};
 ghost use Rattle.layout_model.specs.Laid.{all_outcomes, levels};
-ghost use Rattle.layout_model.specs.Layout.{laid};
 ghost use Rattle.layout_model.specs.Range.{mark_fits, outcome_fits};
 ghost use Rattle.layout_model.specs.declared.laid.Laid.TheViews.{out-Laid};
 ghost use Rattle.outcome_cells.specs.Cells.{IsMarkHeld, mark_numbers};

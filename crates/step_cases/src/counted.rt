@@ -1,16 +1,19 @@
 //! Lines of a script, carried out by the calls of `memo_tree` as a session does, where layouts are
 //! counted.
-ghost use Rattle.std.specs.Prelude.{OnOk};
+ghost use Rattle.std.specs.Prelude.{◌≡◌, OnOk};
 ghost use Rattle.memo_tree.specs.States.{IsIn, Sealed};
 ghost use Rattle.tree_edits.specs.Applying.{IsProperEdit};
 
-use crate::words::{OUT_OF_RANGE, REFUSED, add_kept, add_made, add_word};
+use crate::words::{Kept, OUT_OF_RANGE, REFUSED, add_kept, add_made, add_word};
 use case_format::Fault;
 use fixed_units::{LayRefusal, Steps};
 use memo_tree::MemoTree;
 use std::alloc::Global;
 use std::sync::ledger::Ledger;
 use tree_edits::{Command, CommandRefusal, Edit, EditRefusal, read_command};
+
+/// A session drops what its tree doesn't need before an edit where more layouts are kept than this.
+const MOST_UNSWEPT: usize = 131_072;
 
 /// What came of a line.
 #[derive(Clone, Copy, PartialEq, Eq)]
@@ -26,8 +29,8 @@ pub enum Outcome {
 }
 
 impl Outcome {
-    /// Adds its words, with how many layouts were made and how many are kept.
-    pub fn add(self, made: usize, kept: usize, words: &mut String) -> Result<(), Fault> {
+    /// Adds its words, with how many layouts were made and what is kept.
+    pub fn add(self, made: usize, kept: Kept, words: &mut String) -> Result<(), Fault> {
         match self {
             Outcome::Edited => add_made(made, kept, words),
             Outcome::Shown => add_kept(kept, words),
@@ -37,29 +40,69 @@ impl Outcome {
     }
 }
 
-/// Carries a line out as a session does, and says how many layouts were made.
-pub fn carry_out_counted<L: Ledger>(
-    alloc: Global,
-    laid: &mut MemoTree,
-    line: &[u8],
-    steps: &mut Steps<L>,
-) -> Result<(Outcome, usize), Fault>
-    requires { IsIn Sealed laid.old }
-    ensures { OnOk result (IsIn Sealed laid.new) }
-{
-    match read_command(alloc, line) {
-        Ok(Command::Show) => {
-            laid.sweep();
-            Ok((Outcome::Shown, 0))
+/// A tree with its kept layouts that goes the way of a session.
+#[derive(Drop)]
+pub struct Beside {
+    pub laid: MemoTree,
+    /// How many cells the last sweep left.
+    pub swept_cells: usize,
+}
+
+impl Beside {
+    /// Of a tree that was just laid out.
+    pub fn over(laid: MemoTree) -> Beside
+        ensures { result.laid ≡ laid }
+    {
+        let swept_cells = laid.cells();
+        Beside { laid, swept_cells }
+    }
+
+    /// Carries a line out as a session does, and says how many layouts were made.
+    pub fn carry_out_counted<L: Ledger>(
+        &mut self,
+        alloc: Global,
+        line: &[u8],
+        steps: &mut Steps<L>,
+    ) -> Result<(Outcome, usize), Fault>
+        requires { IsIn Sealed self.old.laid }
+        ensures { OnOk result (IsIn Sealed self.new.laid) }
+    {
+        match read_command(alloc, line) {
+            Ok(Command::Show) => {
+                self.sweep(alloc)?;
+                Ok((Outcome::Shown, 0))
+            }
+            Ok(Command::Change(edit)) => {
+                self.sweep_where_due(alloc)?;
+                edit_counted(alloc, &mut self.laid, edit, steps)
+            }
+            Err(CommandRefusal::BadLine) => Ok((Outcome::Refused, 0)),
+            Err(CommandRefusal::Memory) => Err(Fault::Memory),
         }
-        Ok(Command::Change(edit)) => edit_counted(alloc, laid, edit, steps),
-        Err(CommandRefusal::BadLine) => Ok((Outcome::Refused, 0)),
-        Err(CommandRefusal::Memory) => Err(Fault::Memory),
+    }
+
+    /// Drops what the tree doesn't need where so much is kept that an edit does that first.
+    fn sweep_where_due(&mut self, alloc: Global) -> Result<(), Fault>
+        requires { IsIn Sealed self.old.laid }
+        ensures { OnOk result (IsIn Sealed self.new.laid) }
+    {
+        let is_due = self.laid.kept() > MOST_UNSWEPT
+            || self.laid.cells() > self.swept_cells.saturating_mul(2);
+        if is_due { self.sweep(alloc) } else { Ok(()) }
+    }
+
+    /// Drops what the tree doesn't need.
+    fn sweep(&mut self, alloc: Global) -> Result<(), Fault>
+        requires { IsIn Sealed self.old.laid }
+        ensures { OnOk result (IsIn Sealed self.new.laid) }
+    {
+        self.laid.sweep(alloc)?;
+        self.swept_cells = self.laid.cells();
+        Ok(())
     }
 }
 
-/// Carries an edit out as a session does. A pass that is done keeps as many layouts more as it
-/// made.
+/// Carries an edit out. A pass that is done keeps as many layouts more as it made.
 fn edit_counted<L: Ledger>(
     alloc: Global,
     laid: &mut MemoTree,
@@ -95,16 +138,5 @@ fn not_laid(refusal: LayRefusal) -> Result<(Outcome, usize), Fault> {
     match refusal {
         LayRefusal::Range => Ok((Outcome::OutOfRange, 0)),
         LayRefusal::Memory => Err(Fault::Memory),
-    }
-}
-
-/// Drops what the tree doesn't need where a session keeps fewer layouts: it does so by itself after
-/// many edits.
-pub fn drop_as_session(laid: &mut MemoTree, kept: usize)
-    requires { IsIn Sealed laid.old }
-    ensures { IsIn Sealed laid.new }
-{
-    if kept < laid.kept() {
-        laid.sweep();
     }
 }

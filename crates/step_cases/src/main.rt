@@ -1,7 +1,7 @@
 //! The program `step_cases`: sessions go through scripts, as lines of its standard input say, and
-//! it writes how many layouts were made each time, how many are kept, and whether what a session
-//! holds is what an equal tree beside it does, a fresh layout gives, and a copy holds; and the same
-//! of single passes.
+//! it writes how many layouts were made each time, how many are kept in how many cells, and whether
+//! what a session holds is what an equal tree beside it does, a fresh layout gives, and a copy
+//! holds; and the same of single passes.
 //!
 //! `stdin` has the cases, and `stdout` what must come of them, which was found out by a second
 //! program (docs/CASES.md has the format and says how). The gate runs this program and compares.

@@ -1,6 +1,7 @@
 //! Whether two trees with their kept layouts are the same, by what their public calls show of them.
 ghost use Rattle.memo_tree.specs.States.{IsIn, Sealed};
 
+use crate::words::Kept;
 use case_format::Fault;
 use fixed_units::{LayRefusal, Steps};
 use layout_core::{Laid, lay_fresh};
@@ -9,13 +10,21 @@ use memo_tree::MemoTree;
 use std::alloc::Global;
 use std::sync::ledger::Ledger;
 
-/// Whether two trees are the same, with as many layouts that are kept of them, and with the same
-/// box of the root.
+/// What is kept of a tree.
+pub fn kept_of(laid: &MemoTree) -> Kept {
+    Kept {
+        layouts: laid.kept(),
+        cells: laid.cells(),
+    }
+}
+
+/// Whether two trees are the same, with as many layouts and cells that are kept of them, and with
+/// the same box of the root.
 pub fn is_equal(alloc: Global, one: &MemoTree, other: &MemoTree) -> Result<bool, Fault>
     requires one { IsIn Sealed one.now }
     requires other { IsIn Sealed other.now }
 {
-    let is_so = one.kept() == other.kept() && one.root_box() == other.root_box();
+    let is_so = kept_of(one) == kept_of(other) && one.root_box() == other.root_box();
     Ok(is_so && is_same_tree(alloc, one.tree(), other.tree())?)
 }
 

@@ -2,7 +2,8 @@
 ghost use Rattle.memo_tree.specs.States.{IsIn, Sealed};
 
 use crate::counted::Outcome;
-use crate::same::is_same_tree;
+use crate::same::{is_same_tree, kept_of};
+use crate::words::Kept;
 use case_format::Fault;
 use edit_session::{Session, SessionRefusal};
 use fixed_units::{LayRefusal, Steps};
@@ -57,14 +58,22 @@ fn outcome_of(edited: Result<(), SessionRefusal>) -> Result<Outcome, Fault> {
     }
 }
 
-/// Whether a session holds what stands beside it: the same tree, as many layouts, and the same box
-/// of the root.
+/// What a session keeps.
+pub fn kept_by(session: &Session) -> Kept {
+    Kept {
+        layouts: session.kept(),
+        cells: session.cells(),
+    }
+}
+
+/// Whether a session holds what stands beside it: the same tree, as many layouts and cells, and the
+/// same box of the root.
 pub fn is_held(alloc: Global, session: &Session, laid: &MemoTree) -> Result<bool, Fault>
     requires { IsIn Sealed laid.now }
 {
     let tree = session.tree(alloc)?;
     let is_same = is_same_tree(alloc, &tree, laid.tree());
     drop(tree);
-    let is_so = session.kept() == laid.kept() && session.root_box() == laid.root_box();
+    let is_so = kept_by(session) == kept_of(laid) && session.root_box() == laid.root_box();
     Ok(is_so && is_same?)
 }

@@ -7,15 +7,22 @@ pub const OUT_OF_RANGE: &str = "range";
 
 pub const REFUSED: &str = "refused";
 
-/// Adds how many layouts were made, and how many are kept.
-pub fn add_made(made: usize, kept: usize, words: &mut String) -> Result<(), Fault> {
+/// How many layouts are kept, and how many cells there are.
+#[derive(Clone, Copy, PartialEq, Eq)]
+pub struct Kept {
+    pub layouts: usize,
+    pub cells: usize,
+}
+
+/// Adds how many layouts were made, and what is kept.
+pub fn add_made(made: usize, kept: Kept, words: &mut String) -> Result<(), Fault> {
     write!(words, "made {made}, ")?;
     add_kept(kept, words)
 }
 
-/// Adds how many layouts are kept.
-pub fn add_kept(kept: usize, words: &mut String) -> Result<(), Fault> {
-    write!(words, "kept {kept}")?;
+/// Adds how many layouts are kept, and how many cells there are.
+pub fn add_kept(kept: Kept, words: &mut String) -> Result<(), Fault> {
+    write!(words, "kept {}, cells {}", kept.layouts, kept.cells)?;
     Ok(())
 }
 

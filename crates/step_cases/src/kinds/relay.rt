@@ -4,7 +4,7 @@ ghost use Rattle.std.specs.Prelude.{◌≡◌, ◌<◌};
 ghost use Rattle.memo_tree.specs.States.{Changed, IsIn, Sealed};
 
 use crate::given::tree_in;
-use crate::same::{is_equal, not_same};
+use crate::same::{is_equal, kept_of, not_same};
 use crate::words::{add_judged, add_kept, add_made, add_refusal, add_word};
 use case_format::{Case, Fault, Fields};
 use fixed_units::Steps;
@@ -67,7 +67,7 @@ fn add_counted<L: Ledger>(
         Ok(()) => {
             let made = laid.kept();
             laid.seal();
-            add_made(made, laid.kept(), words)?;
+            add_made(made, kept_of(laid), words)?;
             add_judged(
                 "; start",
                 is_started(case, fields, tree, laid, &mut steps)?,
@@ -78,7 +78,7 @@ fn add_counted<L: Ledger>(
             laid.undo_pass();
             add_refusal(refusal, words)?;
             add_word(", ", words)?;
-            add_kept(laid.kept(), words)
+            add_kept(kept_of(laid), words)
         }
     }
 }

@@ -4,15 +4,15 @@
 //! A step is a layout that is made. How many were taken can't be read, since they take no bytes,
 //! and an edit of a session also drops what it had of the elements that were changed. So an equal
 //! tree goes the same way beside it, by the calls of `memo_tree`, where layouts are counted; at
-//! each line both have to hold the same.
+//! each line both have to hold the same, with as many layouts and cells.
 ghost use Rattle.std.specs.Prelude.{◌≡◌, ◌<◌, OnOk};
 ghost use Rattle.memo_tree.specs.States.{IsIn, Sealed};
 
-use crate::counted::{carry_out_counted, drop_as_session};
+use crate::counted::Beside;
 use crate::edits::edit_and_back;
 use crate::given::tree_in;
 use crate::same::{is_fresh, is_same_tree, not_same};
-use crate::session::{carry_out, is_held, show, started};
+use crate::session::{carry_out, is_held, kept_by, show, started};
 use crate::words::{add_judged, add_made, add_refusal, add_word};
 use case_format::{Case, Fault, Fields};
 use edit_session::Session;
@@ -116,9 +116,10 @@ impl<'a> Script<'a> {
         let tree = session.tree(self.case.alloc)?;
         match self.metrics() {
             Ok(metrics) => match MemoTree::start(self.case.alloc, tree, metrics, steps) {
-                Ok(mut laid) => {
-                    let is_so = self.add_all(session, &mut laid, words, steps);
-                    drop(laid);
+                Ok(laid) => {
+                    let mut beside = Beside::over(laid);
+                    let is_so = self.add_all(session, &mut beside, words, steps);
+                    drop(beside);
                     is_so
                 }
                 Err(refusal) => not_same(refusal),
@@ -133,14 +134,14 @@ impl<'a> Script<'a> {
     fn add_all<L: Ledger>(
         self,
         session: &mut Session,
-        laid: &mut MemoTree,
+        beside: &mut Beside,
         words: &mut String,
         steps: &mut Steps<L>,
     ) -> Result<bool, Fault>
-        requires { IsIn Sealed laid.old }
+        requires { IsIn Sealed beside.old.laid }
     {
-        add_made(laid.kept(), session.kept(), words)?;
-        let mut is_same = is_held(self.case.alloc, session, laid)?;
+        add_made(beside.laid.kept(), kept_by(session), words)?;
+        let mut is_same = is_held(self.case.alloc, session, &beside.laid)?;
         for value in self.lines {
             add_word("; ", words)?;
             let text = value.to_string(self.case.alloc)?;
@@ -148,7 +149,7 @@ impl<'a> Script<'a> {
                 self.case.alloc,
                 text.as_bytes(),
                 session,
-                laid,
+                beside,
                 words,
                 steps,
             );
@@ -190,19 +191,18 @@ fn add_line<L: Ledger>(
     alloc: Global,
     line: &[u8],
     session: &mut Session,
-    laid: &mut MemoTree,
+    beside: &mut Beside,
     words: &mut String,
     steps: &mut Steps<L>,
 ) -> Result<bool, Fault>
-    requires { IsIn Sealed laid.old }
-    ensures { OnOk result (IsIn Sealed laid.new) }
+    requires { IsIn Sealed beside.old.laid }
+    ensures { OnOk result (IsIn Sealed beside.new.laid) }
 {
     let outcome = carry_out(alloc, session, line, steps)?;
-    let (beside, made) = carry_out_counted(alloc, laid, line, steps)?;
-    drop_as_session(laid, session.kept());
-    outcome.add(made, session.kept(), words)?;
-    let is_so = is_held(alloc, session, laid)?;
-    Ok(is_so && outcome == beside)
+    let (of_beside, made) = beside.carry_out_counted(alloc, line, steps)?;
+    outcome.add(made, kept_by(session), words)?;
+    let is_so = is_held(alloc, session, &beside.laid)?;
+    Ok(is_so && outcome == of_beside)
 }
 
 /// Whether two sessions hold the same, and after the same edit of both too; and whether a copy of

@@ -1,6 +1,5 @@
 use Rattle.std.proofs.Common.{◌≢◌, ◌∙◌, sym, ap, subst}
 use Rattle.tree_edits.specs.Applying.{IsProperEdit}
-use Rattle.edit_session.specs.Session.{KeptSession}
 use Rattle.edit_session.specs.declared.refusal.SessionRefusal.TheVariants.{Memory}
 use Rattle.generator.specs.Folded.{after_edit, is_accepted}
 use Rattle.generator.proofs.Accepting.{after_made, after_unmade, made, unmade}
@@ -34,7 +33,7 @@ returns-in-Err-Edit-clause-session g c =
     let held = c.args.session.now.held in
     let other : c.in-Err-Edit.field-0 ≢ Memory = λ same. let is = c.in-Err-Edit.field-0-is in cc in
     let rejected = unmade held c.in_ok-edit.edit c.in-Err-Edit.field-0 other c.in-Err-Edit.ensures.refused in
-    ap (λ (s : KeptSession). s.held) c.in-Err-Edit.ensures.unchanged
+    c.in-Err-Edit.ensures.held
     ∙ sym (after_unmade held c.in_ok-edit.edit rejected) ∙ ap (after_edit held) c.in_ok-edit.ensures.edit
 
 pub returns-in-Err-Range-clause-accepted : goal.returns-in-Err-Range-clause-accepted
@@ -49,5 +48,5 @@ returns-in-Err-Range-clause-session g c =
     let held = c.args.session.now.held in
     let other : c.in-Err-Range.field-0 ≢ Memory = λ same. let is = c.in-Err-Range.field-0-is in cc in
     let rejected = unmade held c.in_ok-edit.edit c.in-Err-Range.field-0 other c.in-Err-Range.ensures.refused in
-    ap (λ (s : KeptSession). s.held) c.in-Err-Range.ensures.unchanged
+    c.in-Err-Range.ensures.held
     ∙ sym (after_unmade held c.in_ok-edit.edit rejected) ∙ ap (after_edit held) c.in_ok-edit.ensures.edit

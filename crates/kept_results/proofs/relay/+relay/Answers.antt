@@ -163,30 +163,22 @@ relay_element-returns-in_err-answer-clause-grows g t c = unchanged_store c.requi
 pub relay_element-returns-in_err-answer-clause-passes : goal.relay_element-returns-in_err-answer-clause-passes
 relay_element-returns-in_err-answer-clause-passes g t c = nothing_done c.requires.agrees
 
-pub relay_element-returns-in-Some-clause-grows : goal.relay_element-returns-in-Some-clause-grows
-relay_element-returns-in-Some-clause-grows g t c = unchanged_store c.requires.backed
-
-pub relay_element-returns-in-Some-clause-passes : goal.relay_element-returns-in-Some-clause-passes
-relay_element-returns-in-Some-clause-passes g t c = nothing_done c.requires.agrees
-
-pub relay_element-returns-in-Some-clause-passed : goal.relay_element-returns-in-Some-clause-passed
-relay_element-returns-in-Some-clause-passed g t c = nothing_done c.requires.agrees
-
-pub relay_element-returns-in-Some-clause-grown : goal.relay_element-returns-in-Some-clause-grown
-relay_element-returns-in-Some-clause-grown g t c = unchanged_store c.requires.backed
-
-pub relay_element-returns-in-Some-clause-ok : goal.relay_element-returns-in-Some-clause-ok
-relay_element-returns-in-Some-clause-ok g t c =
-    kept_answers c.args.metrics.now c.args.store.now.runs c.args.node.now c.args.memo.now c.args.context.now c.in-Some.answer c.requires.agrees
-    (some_of c.in_ok-answer.field-0 c.in-Some.answer (HasAnswer c.args.store.now.runs (out-Memo c.args.memo.now) c.args.context.now) c.in-Some.is (c.in_ok-answer.ensures {u = tt}).some) c.requires.backed
-
-pub relay_element-returns-in-Some-clause-fit : goal.relay_element-returns-in-Some-clause-fit
-relay_element-returns-in-Some-clause-fit g t c =
-    kept_fits c.args.metrics.now c.args.store.now.runs c.args.node.now c.args.memo.now c.args.context.now c.in-Some.answer c.requires.agrees
-    (some_of c.in_ok-answer.field-0 c.in-Some.answer (HasAnswer c.args.store.now.runs (out-Memo c.args.memo.now) c.args.context.now) c.in-Some.is (c.in_ok-answer.ensures {u = tt}).some)
-
-pub relay_element-returns-in-Some-clause-tidy : goal.relay_element-returns-in-Some-clause-tidy
-relay_element-returns-in-Some-clause-tidy g t c = λ h. h
+pub relay_element-returns-in-Some : goal.relay_element-returns-in-Some
+relay_element-returns-in-Some g t c =
+    let answers = HasAnswer c.args.store.now.runs (out-Memo c.args.memo.now) c.args.context.now in
+    let found = some_of c.in_ok-answer.field-0 c.in-Some.answer answers c.in-Some.is (c.in_ok-answer.ensures {u = tt}).some in
+    let m = c.args.metrics.now in
+    record {
+      passes = nothing_done c.requires.agrees;
+      passed = nothing_done c.requires.agrees;
+      grows = unchanged_store c.requires.backed;
+      grown = unchanged_store c.requires.backed;
+      kept = record { entry = found.entry; has = found.has; in_context = found.in_context };
+      tidy = λ h. h;
+      ok = kept_answers m c.args.store.now.runs c.args.node.now c.args.memo.now c.args.context.now c.in-Some.answer c.requires.agrees found c.requires.backed;
+      fit = kept_fits m c.args.store.now.runs c.args.node.now c.args.memo.now c.args.context.now c.in-Some.answer c.requires.agrees found;
+      range = ok_is_not_err _ _;
+    }
 
 -- ---- an element
 
@@ -320,8 +312,8 @@ relay_anew-finish_replies-requires-clause-replies g t c =
     let d = answered_of w said two.value two.styles told in
     replies_all d
 
-pub relay_anew-returns-in_err-outcome-clause-passes : goal.relay_anew-returns-in_err-outcome-clause-passes
-relay_anew-returns-in_err-outcome-clause-passes g t c =
+pub relay_anew-returns-in_err-outcome : goal.relay_anew-returns-in_err-outcome
+relay_anew-returns-in_err-outcome g t c =
     let o = (c.in_ok-one.ensures {u = tt}) in
     let w = ones_known c.requires.few c.requires.context (c.in_ok-view.ensures {u = tt}) o.ok o.styles in
     let one = (c.in_ok-relay_all.ensures {u = tt}) in
@@ -330,25 +322,17 @@ relay_anew-returns-in_err-outcome-clause-passes g t c =
     let more = (c.in_ok-relay_all-2.ensures {u = tt}) in
     let told = told_of c.relay_all-2.new.replies more.passed more.own more.marked more.kept more.asked more.ok more.fit in
     let d = answered_of w said two.value two.styles told in
-    stepped_anew d refl c.requires.missing c.finish_replies.ensures.step
-
-pub relay_anew-returns-in_err-outcome-clause-grows : goal.relay_anew-returns-in_err-outcome-clause-grows
-relay_anew-returns-in_err-outcome-clause-grows g t c =
-    unkept_anew (c.in_ok-relay_all.ensures {u = tt}).grown (c.in_ok-relay_all-2.ensures {u = tt}).grown refl (only_none c.relay_all-2.new.store)
-
-pub relay_anew-returns-in_err-outcome-clause-range : goal.relay_anew-returns-in_err-outcome-clause-range
-relay_anew-returns-in_err-outcome-clause-range g t c =
-    λ e.
-    let same = rw e at c.from_residual-in_err-outcome.ensures.1 in
-    let o = (c.in_ok-one.ensures {u = tt}) in
-    let w = ones_known c.requires.few c.requires.context (c.in_ok-view.ensures {u = tt}) o.ok o.styles in
-    let one = (c.in_ok-relay_all.ensures {u = tt}) in
-    let two = (c.in_ok-two.ensures {u = tt}) in
-    let said = told_of c.relay_all.new.replies one.passed one.own one.marked one.kept one.asked one.ok one.fit in
-    let more = (c.in_ok-relay_all-2.ensures {u = tt}) in
-    let told = told_of c.relay_all-2.new.replies more.passed more.own more.marked more.kept more.asked more.ok more.fit in
-    let d = answered_of w said two.value two.styles told in
-    waves_unfit (waves d) ((c.in_err-outcome.ensures {u = tt}).range (ap Err (sym same)))
+    record {
+      passes = stepped_anew d refl c.requires.missing c.finish_replies.ensures.step;
+      passed = search rules;
+      grows = unkept_anew one.grown more.grown refl (only_none c.relay_all-2.new.store);
+      grown = search rules;
+      kept = search rules;
+      tidy = search rules;
+      ok = search rules;
+      fit = search rules;
+      range = λ e. let same = rw e at c.from_residual-in_err-outcome.ensures.1 in waves_unfit (waves d) ((c.in_err-outcome.ensures {u = tt}).range (ap Err (sym same)));
+    }
 
 pub relay_anew-keep-requires : goal.relay_anew-keep-requires
 relay_anew-keep-requires g t c =
@@ -443,83 +427,47 @@ relay_again-relay_element-requires g t c κs within =
     let falls = child_smaller here in
     (omega arith, (search rules, (c.requires.begun, (child_agrees here, (child_backed here c.requires.backed, (child_few here, child_suits here))))))
 
-pub relay_again-returns-in_err-answer-clause-passes : goal.relay_again-returns-in_err-answer-clause-passes
-relay_again-returns-in_err-answer-clause-passes g t c =
+pub relay_again-returns-in_err-answer : goal.relay_again-returns-in_err-answer
+relay_again-returns-in_err-answer g t c =
     let asked = (c.in_ok-asked.ensures {u = tt}) in
     let here = turn_of c.requires.agrees c.requires.before c.requires.few c.requires.context c.as_slice.result.now c.index-as_slice-before.result c.as_slice-2.result.now c.index-as_slice-place.result c.as_slice-3.result.now _
     c.as_slice.ensures c.index-as_slice-before.is c.as_slice-2.ensures c.index-as_slice-place.is c.of-view.ensures asked.ok asked.style c.as_slice-3.ensures c.index-as_slice-place-2.is c.at_mut-below.ensures.value in
-    passed_child here (c.in_err-answer.ensures {u = tt}).passes
+    let made = (c.in_err-answer.ensures {u = tt}) in
+    record {
+      passes = passed_child here made.passes;
+      passed = search rules;
+      grows = grown_child here c.requires.backed made.grows;
+      grown = search rules;
+      kept = search rules;
+      tidy = search rules;
+      ok = search rules;
+      fit = search rules;
+      range = λ e. let same = rw e at c.from_residual-in_err-answer.ensures.1 in child_unfit here (made.range (ap Err (sym same)));
+    }
 
-pub relay_again-returns-in_err-answer-clause-grows : goal.relay_again-returns-in_err-answer-clause-grows
-relay_again-returns-in_err-answer-clause-grows g t c =
-    let asked = (c.in_ok-asked.ensures {u = tt}) in
-    let here = turn_of c.requires.agrees c.requires.before c.requires.few c.requires.context c.as_slice.result.now c.index-as_slice-before.result c.as_slice-2.result.now c.index-as_slice-place.result c.as_slice-3.result.now _
-    c.as_slice.ensures c.index-as_slice-before.is c.as_slice-2.ensures c.index-as_slice-place.is c.of-view.ensures asked.ok asked.style c.as_slice-3.ensures c.index-as_slice-place-2.is c.at_mut-below.ensures.value in
-    grown_child here c.requires.backed (c.in_err-answer.ensures {u = tt}).grows
-
-pub relay_again-returns-in_err-answer-clause-range : goal.relay_again-returns-in_err-answer-clause-range
-relay_again-returns-in_err-answer-clause-range g t c =
-    λ e.
-    let same = rw e at c.from_residual-in_err-answer.ensures.1 in
-    let asked = (c.in_ok-asked.ensures {u = tt}) in
-    let here = turn_of c.requires.agrees c.requires.before c.requires.few c.requires.context c.as_slice.result.now c.index-as_slice-before.result c.as_slice-2.result.now c.index-as_slice-place.result c.as_slice-3.result.now _
-    c.as_slice.ensures c.index-as_slice-before.is c.as_slice-2.ensures c.index-as_slice-place.is c.of-view.ensures asked.ok asked.style c.as_slice-3.ensures c.index-as_slice-place-2.is c.at_mut-below.ensures.value in
-    child_unfit here ((c.in_err-answer.ensures {u = tt}).range (ap Err (sym same)))
-
-pub relay_again-make_again-requires-clause-begun : goal.relay_again-make_again-requires-clause-begun
-relay_again-make_again-requires-clause-begun g t c =
-    still_begun (c.in_ok-answer.ensures {u = tt}).grown.only c.requires.begun
-
-pub relay_again-make_again-requires-clause-entry : goal.relay_again-make_again-requires-clause-entry
-relay_again-make_again-requires-clause-entry g t c = near_entry c.requires.agrees c.requires.before c.relay_element.new.memo
-
-pub relay_again-make_again-requires-clause-asked : goal.relay_again-make_again-requires-clause-asked
-relay_again-make_again-requires-clause-asked g t c =
-    omega (arith, c.requires.before.serves.within, ap length (one_now c.requires.agrees c.requires.before c.relay_element.new.memo))
-
-pub relay_again-make_again-requires-clause-size : goal.relay_again-make_again-requires-clause-size
-relay_again-make_again-requires-clause-size g t c =
-    let sized = still_sized c.requires.agrees c.requires.before in
-    search rules
-
-pub relay_again-make_again-requires-clause-one_wave : goal.relay_again-make_again-requires-clause-one_wave
-relay_again-make_again-requires-clause-one_wave g t c = (still_regular c.requires.agrees c.requires.before).one_wave
-
-pub relay_again-make_again-requires-clause-shown : goal.relay_again-make_again-requires-clause-shown
-relay_again-make_again-requires-clause-shown g t c =
+pub relay_again-make_again-requires : goal.relay_again-make_again-requires
+relay_again-make_again-requires g t c =
     let asked = (c.in_ok-asked.ensures {u = tt}) in
     let here = turn_of c.requires.agrees c.requires.before c.requires.few c.requires.context c.as_slice.result.now c.index-as_slice-before.result c.as_slice-2.result.now c.index-as_slice-place.result c.as_slice-3.result.now _
     c.as_slice.ensures c.index-as_slice-before.is c.as_slice-2.ensures c.index-as_slice-place.is c.of-view.ensures asked.ok asked.style c.as_slice-3.ensures c.index-as_slice-place-2.is c.at_mut-below.ensures.value in
     let done = (c.in_ok-answer.ensures {u = tt}) in
     let d = heard_of here done.passed done.ok done.kept in
-    shown_again d
-
-pub relay_again-make_again-requires-clause-ones : goal.relay_again-make_again-requires-clause-ones
-relay_again-make_again-requires-clause-ones g t c =
-    let asked = (c.in_ok-asked.ensures {u = tt}) in
-    let here = turn_of c.requires.agrees c.requires.before c.requires.few c.requires.context c.as_slice.result.now c.index-as_slice-before.result c.as_slice-2.result.now c.index-as_slice-place.result c.as_slice-3.result.now _
-    c.as_slice.ensures c.index-as_slice-before.is c.as_slice-2.ensures c.index-as_slice-place.is c.of-view.ensures asked.ok asked.style c.as_slice-3.ensures c.index-as_slice-place-2.is c.at_mut-below.ensures.value in
-    let done = (c.in_ok-answer.ensures {u = tt}) in
-    let d = heard_of here done.passed done.ok done.kept in
-    ones_again d
-
-pub relay_again-make_again-requires-clause-stored : goal.relay_again-make_again-requires-clause-stored
-relay_again-make_again-requires-clause-stored g t c =
-    let asked = (c.in_ok-asked.ensures {u = tt}) in
-    let here = turn_of c.requires.agrees c.requires.before c.requires.few c.requires.context c.as_slice.result.now c.index-as_slice-before.result c.as_slice-2.result.now c.index-as_slice-place.result c.as_slice-3.result.now _
-    c.as_slice.ensures c.index-as_slice-before.is c.as_slice-2.ensures c.index-as_slice-place.is c.of-view.ensures asked.ok asked.style c.as_slice-3.ensures c.index-as_slice-place-2.is c.at_mut-below.ensures.value in
-    let done = (c.in_ok-answer.ensures {u = tt}) in
-    let d = heard_of here done.passed done.ok done.kept in
-    answers_again d
-
-pub relay_again-make_again-requires-clause-fonts : goal.relay_again-make_again-requires-clause-fonts
-relay_again-make_again-requires-clause-fonts g t c =
-    let asked = (c.in_ok-asked.ensures {u = tt}) in
-    let here = turn_of c.requires.agrees c.requires.before c.requires.few c.requires.context c.as_slice.result.now c.index-as_slice-before.result c.as_slice-2.result.now c.index-as_slice-place.result c.as_slice-3.result.now _
-    c.as_slice.ensures c.index-as_slice-before.is c.as_slice-2.ensures c.index-as_slice-place.is c.of-view.ensures asked.ok asked.style c.as_slice-3.ensures c.index-as_slice-place-2.is c.at_mut-below.ensures.value in
-    let done = (c.in_ok-answer.ensures {u = tt}) in
-    let d = heard_of here done.passed done.ok done.kept in
-    fonts_again d
+    let agrees = c.requires.agrees in
+    let before = c.requires.before in
+    let new = c.relay_element.new.memo in
+    let sized = still_sized agrees before in
+    record {
+      begun = still_begun done.grown.only c.requires.begun;
+      entry = near_entry agrees before new;
+      asked = omega (arith, before.serves.within, ap length (one_now agrees before new));
+      shown = shown_again d;
+      fits = search rules;
+      size = search rules;
+      one_wave = (still_regular agrees before).one_wave;
+      ones = ones_again d;
+      stored = answers_again d;
+      fonts = fonts_again d;
+    }
 
 pub relay_again-returns : goal.relay_again-returns
 relay_again-returns g t c =

@@ -1,4 +1,4 @@
-use Rattle.std.proofs.Common.{◌∙◌, sym, ap, subst, arith, All, List, [], Err}
+use Rattle.std.proofs.Common.{◌∙◌, sym, ap, subst, All, List, [], Err}
 use Rattle.std.proofs.lemmas.Option.{same_Some}
 use Rattle.std.specs.Result.{result_err}
 use Rattle.fixed_units.specs.declared.refusal.LayRefusal.TheVariants.{Range}

@@ -1,5 +1,5 @@
-use Rattle.std.proofs.Common.{◌≡◌, ◌∙◌, ◌+◌, ◌≤◌, sym, ap, arith, length, length-append, take, true}
-use Rattle.kept_results.specs.Kept.{is_live, is_marked}
+use Rattle.std.proofs.Common.{◌∙◌, sym, ap, arith, length, length-append, take}
+use Rattle.kept_results.specs.Kept.{is_marked}
 use Rattle.kept_results.specs.declared.memo.Memo.TheViews.{out-Memo}
 use Rattle.kept_sweep.specs.Runs.{live_runs}
 use Rattle.kept_sweep.proofs.Listing.{run_within}

@@ -81,7 +81,7 @@ returns-in-Ok-clause-runs g c =
 
 pub returns-in-Ok-clause-one : goal.returns-in-Ok-clause-one
 returns-in-Ok-clause-one g c nothing =
-    let runs = c.commit.new.store.runs in
+    let runs = c.commit.new.self.runs in
     let kept = returns-in-Ok-clause-kept g c in
     let counted = returns-in-Ok-clause-runs g c in
     let all = returns-in-Ok-clause-all g c in

@@ -1,4 +1,4 @@
-use Rattle.std.proofs.Common.{◌≡◌, ℕ, sym, ap, subst, Bool, true}
+use Rattle.std.proofs.Common.{◌≡◌, ℕ, ap, subst, Bool, true}
 use Rattle.outcome_cells.specs.Store.{StoreValue}
 use Rattle.font_metrics.specs.Metrics.{MetricsValue}
 use Rattle.math_tree.specs.Trees.{IsWhole, TreeValue}
@@ -17,9 +17,6 @@ visits : (m : MetricsValue) (tree : TreeValue) (root : Node) (context : Context)
 visits m tree root context from to whole r s counts =
     visits_law m tree from to whole (of_tree m tree root context (λ (n : Node) (k : Context). CountsNeeded m n k from to) r s counts)
 
-pub start_layout-requires-clause-idle : goal.start_layout-requires-clause-idle
-start_layout-requires-clause-idle g c = ap (λ (s : StoreValue). s.checkpoint) c.make.ensures
-
 pub returns-in-Ok-clause-visits : goal.returns-in-Ok-clause-visits
 returns-in-Ok-clause-visits g c =
     visits _ _ _ _ _ _ c.root.ensures.whole c.root.ensures.exact c.context_of-context.ensures.exact (c.in-Ok.ensures {u = tt}).steps
@@ -31,8 +28,8 @@ returns-in-Err-clause-visits g c =
 pub returns-in-Ok-clause-swept : goal.returns-in-Ok-clause-swept
 returns-in-Ok-clause-swept g c =
     let made = c.in-Ok.ensures {u = tt} in
-    swept_of c.args.metrics c.args.tree c.root.result.now c.context_of-context.result c.in-Ok.memo c.start_layout.new.store c.root.ensures.exact
-    c.context_of-context.ensures.exact made.kept (made.one (ap (λ (s : StoreValue). s.runs) c.make.ensures))
+    swept_of c.args.metrics c.args.tree c.root.result.now c.context_of-context.result c.in-Ok.memo c.start_layout-made.new.store c.root.ensures.exact
+    c.context_of-context.ensures.exact made.kept (made.one (ap (λ (s : StoreValue). s.runs) c.make-store.ensures))
 
 pub returns-in-Ok-clause-few : goal.returns-in-Ok-clause-few
 returns-in-Ok-clause-few g c =
@@ -47,6 +44,6 @@ returns-in-Ok-clause-fit g c =
     let context = c.context_of-context.result in
     let memo = c.in-Ok.memo in
     let made = c.in-Ok.ensures {u = tt} in
-    laid_out m tree root context memo c.start_layout.new.store c.root.ensures.exact c.context_of-context.ensures.exact (sealed_of m root context memo made.kept)
+    laid_out m tree root context memo c.start_layout-made.new.store c.root.ensures.exact c.context_of-context.ensures.exact (sealed_of m root context memo made.kept)
     made.backed made.own made.idle
     (subst (λ (b : Bool). b ≡ true) (ranged m tree root context c.root.ensures.exact c.context_of-context.ensures.exact) made.fit)
