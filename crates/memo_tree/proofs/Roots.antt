@@ -94,14 +94,18 @@ pub takes_missing : (m : MetricsValue) (node : Node) (context : Context) (before
     → Passes m node (Needs m node context) before after from to done → TakesMissing m node context before from to
 takes_missing m node context before after from to done h = record { pairs = h.pairs; steps = h.steps; needed = h.needed_all; missing = h.missing; apart = h.apart }
 
-pub stopped_of : (before laid : MemoTreeValue) → IsChanged before → Agrees laid.metrics laid.tree.root laid.memo → IsSome laid.store.checkpoint → without_pass laid ≡ before
-    → IsStopped laid
-stopped_of before laid changed agrees in_pass same = record { agrees = agrees; in_pass = in_pass; begun = subst IsChanged (sym same) changed }
-
-pub passed_of : (laid : MemoTreeValue) → IsStopped laid → HasRuns laid → IsKept (out-Memo laid.memo) (context_of laid.metrics laid.tree) → IsTidy laid.memo → IsPassed laid
-passed_of laid stopped has_runs kept tidy = record {
-  stopped = stopped;
+pub stopped_of : (before laid : MemoTreeValue) → IsChanged before → Agrees laid.metrics laid.tree.root laid.memo → HasRuns laid → IsSome laid.store.checkpoint
+    → without_pass laid ≡ before → IsStopped laid
+stopped_of before laid changed agrees has_runs in_pass same = record {
+  agrees = agrees;
   has_runs = has_runs;
+  in_pass = in_pass;
+  begun = subst IsChanged (sym same) changed;
+}
+
+pub passed_of : (laid : MemoTreeValue) → IsStopped laid → IsKept (out-Memo laid.memo) (context_of laid.metrics laid.tree) → IsTidy laid.memo → IsPassed laid
+passed_of laid stopped kept tidy = record {
+  stopped = stopped;
   kept = record { entry = kept.entry; held = kept.has; in_context = kept.in_context };
   tidy = tidy;
 }
@@ -159,8 +163,8 @@ sealed_pass laid memo store h is ended =
       };
       has_runs = record {
         backed = subst (λ (z : StoreValue). IsBacked m z.runs root memo) (sym ended)
-            (subst (IsBacked m laid.store.runs root) (sym is) (seal_backed_law m laid.store.runs root laid.memo h.has_runs.backed));
-        own = subst HaveOwnRuns (sym is) (seal_own_runs_law laid.memo h.has_runs.own);
+            (subst (IsBacked m laid.store.runs root) (sym is) (seal_backed_law m laid.store.runs root laid.memo h.stopped.has_runs.backed));
+        own = subst HaveOwnRuns (sym is) (seal_own_runs_law laid.memo h.stopped.has_runs.own);
       };
       idle = ap (λ (z : StoreValue). z.checkpoint) ended;
       fit = subst (λ (c : Context). in_range m root c ≡ true) h.kept.in_context own.fits;

@@ -39,17 +39,18 @@ without_pass laid = record {
   store = at_checkpoint laid.store;
 }
 
--- what is kept agrees with the tree, and without what the pass made it is as a pass may find it
+-- what is kept agrees with the tree, its cells are in the store, and without what the pass made it
+-- is as a pass may find it
 pub record IsStopped (laid : MemoTreeValue) : Type 0 where
   pub agrees : Agrees laid.metrics laid.tree.root laid.memo
+  pub has_runs : HasRuns laid
   pub in_pass : IsSome laid.store.checkpoint
   pub begun : IsChanged (without_pass laid)
 
--- so it is too where a pass was done; the cells of what is kept are in the store, the layout of the
--- root is kept, and nothing is marked or new below an element that the edit and the pass left alone
+-- so it is too where a pass was done; the layout of the root is kept, and nothing is marked or new
+-- below an element that the edit and the pass left alone
 pub record IsPassed (laid : MemoTreeValue) : Type 0 where
   pub stopped : IsStopped laid
-  pub has_runs : HasRuns laid
   pub kept : HoldsOne [] laid.memo (context_of laid.metrics laid.tree)
   pub tidy : IsTidy laid.memo
 
