@@ -42,6 +42,18 @@ pub few_after : (m : MetricsValue) (tree : TreeValue) (before after : Memo) (fro
 few_after m tree before after from to whole takes all few =
     omega (arith, takes.steps, all, few, few_of_tree m tree takes.pairs whole takes.apart takes.needed, count_sealed after)
 
+-- what comes to the runs of a tree with its kept layouts
+abbrev GrownIn : MetricsValue → TreeValue → Runs → Runs → Type 0
+GrownIn m tree before after = GrownByPairs m tree.root (Needs m tree.root (context_of m tree)) before after
+
+-- over the seal, and from before the change
+pub grown_from : (changed new : MemoTreeValue) (before runs : Runs) → GrownIn changed.metrics changed.tree changed.store.runs runs → new.tree ≡ changed.tree
+    → new.metrics ≡ changed.metrics → new.store.runs ≡ runs → changed.store.runs ≡ before → GrownIn new.metrics new.tree before new.store.runs
+grown_from changed new before runs h tree metrics stored same =
+    subst (λ (m : MetricsValue). GrownIn m new.tree before new.store.runs) (sym metrics)
+    (subst (λ (t : TreeValue). GrownIn changed.metrics t before new.store.runs) (sym tree)
+    (subst (GrownIn changed.metrics changed.tree before) (sym stored) (subst (λ (r : Runs). GrownIn changed.metrics changed.tree r runs) same h)))
+
 -- what comes to the store are the cells of layouts that the tree needs
 pub few_cells : (changed new : MemoTreeValue) (runs : Runs) (swept_cells : ℕ)
     → GrownByPairs changed.metrics changed.tree.root (Needs changed.metrics changed.tree.root (context_of changed.metrics changed.tree)) changed.store.runs runs

@@ -1,5 +1,5 @@
 -- What an edit finds of a session, and what stays from before it.
-use Rattle.std.proofs.Common.{◌≡◌, refl, sym, ap, subst, ℕ, Bool, true, false, List, Result, Ok, Err, OnOk}
+use Rattle.std.proofs.Common.{◌≡◌, refl, sym, ap, subst, ℕ, length, ◌+◌, Bool, true, false, List, Result, Ok, Err, OnOk}
 use Rattle.tree_edits.specs.declared.edit.Edit.{Edit}
 use Rattle.kept_results.specs.Kept.{Holds}
 use Rattle.kept_results.specs.Passes.{Needs}
@@ -10,7 +10,7 @@ use Rattle.kept_sweep.specs.Swept.{IsPartOf}
 use Rattle.memo_tree.specs.Counted.{EntriesStay}
 use Rattle.memo_tree.specs.Trees.{IsLaidOut, context_of}
 use Rattle.edit_session.specs.Session.{KeptSession, SessionValue, layouts_of}
-use Rattle.edit_session.specs.Sweeping.{IsFound, IsNoted, IsSwept, NeededStay, RunsStay, is_due}
+use Rattle.edit_session.specs.Sweeping.{HasGrownFrom, IsCarriedOut, IsFound, IsSwept, NeededStay, RunsStay, is_due}
 use Rattle.edit_session.proofs.Staying.{one_held}
 
 -- ---- what is found
@@ -49,8 +49,12 @@ runs_stay old found new edit is h = record {
   stays = λ before behind entry came needs held. h.stays before behind entry came (found_keeps old found is before entry needs held);
 }
 
--- ---- what is noted
+-- ---- what is carried out
 
-pub noted_from : {T E : Type 0} (result : Result T E) (old found new : KeptSession) → IsFound old found → new.swept_cells ≡ found.swept_cells → OnOk result (IsNoted old new)
-noted_from (Ok value) old found new is noted = record { found = found; is = is; noted = noted }
-noted_from (Err refusal) old found new is noted = tt
+pub done_from : {T E : Type 0} (result : Result T E) (old found new : KeptSession) (edit : Edit) (from to : ℕ) → IsFound old found
+    → OnOk result (EntriesStay (layouts_of found) edit (layouts_of new)) → OnOk result (HasGrownFrom found new)
+    → OnOk result (length new.store.runs + from ≡ length found.store.runs + to) → new.swept_cells ≡ found.swept_cells
+    → OnOk result (IsCarriedOut old edit new from to)
+done_from (Ok value) old found new edit from to is stays grown runs noted =
+    record { found = found; is = is; stays = stays; grown = grown; runs = runs; noted = noted }
+done_from (Err refusal) old found new edit from to is stays grown runs noted = tt

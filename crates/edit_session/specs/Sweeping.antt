@@ -1,17 +1,18 @@
 -- When a session drops layouts that nothing needs, and how much it keeps at most.
-use Rattle.std.specs.Prelude.{◌≡◌, ◌⊎◌, ℕ, ◌+◌, ◌*◌, ◌≤◌, Bool, true, false, ◌||◌, nat_lt, List}
+use Rattle.std.specs.Prelude.{◌≡◌, ◌⊎◌, ℕ, ◌+◌, ◌*◌, ◌≤◌, Bool, true, false, ◌||◌, nat_lt, List, length}
 use Rattle.std.specs.List.{AllByRecursion, sum_by}
 use Rattle.box_pool.specs.Runs.{cell_count}
 use Rattle.tree_edits.specs.declared.change.Change.{Change}
 use Rattle.tree_edits.specs.declared.edit.Edit.{Edit}
 use Rattle.kept_results.specs.Ends.{kept_count}
-use Rattle.kept_results.specs.Grown.{pair_cells}
+use Rattle.kept_results.specs.Grown.{GrownByPairs, pair_cells}
 use Rattle.kept_results.specs.Kept.{Holds}
 use Rattle.kept_results.specs.Passes.{HasNoRepeat, Needs, Pair}
 use Rattle.kept_results.specs.declared.memo.Entry.{Entry}
 use Rattle.kept_edits.specs.ByIds.{IsEditAt}
 use Rattle.kept_edits.specs.Need.{CameFrom}
 use Rattle.kept_sweep.specs.Swept.{IsPartOf}
+use Rattle.memo_tree.specs.Counted.{EntriesStay}
 use Rattle.memo_tree.specs.States.{IsIn, Sealed}
 use Rattle.memo_tree.specs.Trees.{IsSwept as AreSwept, MemoTreeValue, context_of}
 use Rattle.edit_session.specs.Session.{KeptSession, layouts_of}
@@ -43,10 +44,11 @@ NeededStay old new = (path : List ℕ) (entry : Entry)
     record { path = path; context = entry.context }
     → Holds path old.memo entry → Holds path new.memo entry
 
--- a session after a sweep: it holds the same; what is kept now was kept before, in the same runs,
--- and what is needed stays; and it is noted how many cells are left
+-- a session after a sweep: it holds the same; its runs have what is kept; what is kept now was kept
+-- before, in the same runs, and what is needed stays; and it is noted how many cells are left
 pub record IsSweptFrom (old new : KeptSession) : Type 0 where
   pub held : new.held ≡ old.held
+  pub sealed : IsIn Sealed (layouts_of new)
   pub swept : IsSwept new
   pub part : IsPartOf new.memo old.memo
   pub stays : NeededStay old new
@@ -63,10 +65,24 @@ abbrev pub IsLeft : KeptSession → SessionRefusal → KeptSession → Type 0
 IsLeft old Memory new = IsFound old new ⊎ (new ≡ old)
 IsLeft old refusal new = IsFound old new
 
--- what an accepted edit leaves noted
-pub record IsNoted (old new : KeptSession) : Type 0 where
+-- what came to the runs of a session from its runs before an edit: cells of layouts that its tree
+-- needs, none of them twice
+abbrev pub HasGrownFrom : KeptSession → KeptSession → Type 0
+HasGrownFrom before new =
+    GrownByPairs new.held.metrics new.held.tree.root
+    (Needs new.held.metrics new.held.tree.root (context_of new.held.metrics new.held.tree))
+    before.store.runs new.store.runs
+
+-- what an accepted edit makes of what it finds, with the steps that were counted before it and
+-- after it: entries of elements that it leaves alone stay, needed layouts or not; a run comes with
+-- each step, and no run goes; and nothing is noted anew
+pub record IsCarriedOut (old : KeptSession) (edit : Edit) (new : KeptSession) (from to : ℕ)
+    : Type 0 where
   pub found : KeptSession
   pub is : IsFound old found
+  pub stays : EntriesStay (layouts_of found) edit (layouts_of new)
+  pub grown : HasGrownFrom found new
+  pub runs : length new.store.runs + from ≡ length found.store.runs + to
   pub noted : new.swept_cells ≡ found.swept_cells
 
 -- ---- what stays

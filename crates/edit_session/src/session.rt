@@ -1,4 +1,4 @@
-ghost use Rattle.std.specs.Prelude.{◌≡◌, ◌≤◌, ◌≢◌, ◌⊎◌, ◌+◌, ◌*◌, false, None, All, Err, IfOk, OnOk, IfErr, OnErr};
+ghost use Rattle.std.specs.Prelude.{◌≡◌, ◌≤◌, ◌≢◌, ◌⊎◌, ◌+◌, ◌*◌, false, length, None, All, Err, IfOk, OnOk, IfErr, OnErr};
 ghost use Rattle.box_pool.specs.Runs.{cell_count};
 ghost use Rattle.box_writer.specs.Items.{IsOfFont};
 ghost use Rattle.fixed_units.specs.declared.refusal.LayRefusal.TheVariants.{Range};
@@ -14,7 +14,7 @@ ghost use Rattle.memo_tree.specs.Counted.{EntriesStay, TakesVisits};
 ghost use Rattle.memo_tree.specs.States.{IsIn, Sealed};
 ghost use Rattle.memo_tree.specs.Trees.{context_of};
 ghost use Rattle.edit_session.specs.Session.{IsCause, IsInRange, edited_session, layouts_of, page, root_box, session_of};
-ghost use Rattle.edit_session.specs.Sweeping.{HasFewCells, IsFound, IsLeft, IsNoted, IsSwept, IsSweptFrom, RunsStay, is_due};
+ghost use Rattle.edit_session.specs.Sweeping.{HasFewCells, HasGrownFrom, IsCarriedOut, IsFound, IsLeft, IsSwept, IsSweptFrom, RunsStay, is_due};
 
 use crate::SessionRefusal;
 use box_writer::Placed;
@@ -113,7 +113,8 @@ impl Session {
         ensures refused { IfErr result (IsCause self.old.held edit) }
         ensures held { OnErr result (self.new.held ≡ self.old.held) }
         ensures left { IfErr result (λ refusal. IsLeft self.old refusal self.new) }
-        ensures noted { OnOk result (IsNoted self.old self.new) }
+        ensures done { OnOk result
+            (IsCarriedOut self.old edit self.new steps.old steps.new) }
         ensures runs { OnOk result (RunsStay self.old edit self.new) }
         ensures few { kept_count self.new.memo ≤ 262_144 }
         ensures cells { OnOk result (HasFewCells self.new) }
@@ -141,7 +142,8 @@ impl Session {
         ensures refused { IfErr result (IsCause self.old.held edit) }
         ensures held { OnErr result (self.new.held ≡ self.old.held) }
         ensures left { IfErr result (λ refusal. IsLeft self.old refusal self.new) }
-        ensures noted { OnOk result (IsNoted self.old self.new) }
+        ensures done { OnOk result
+            (IsCarriedOut self.old edit self.new steps.old steps.new) }
         ensures runs { OnOk result (RunsStay self.old edit self.new) }
         ensures few { kept_count self.new.memo ≤ 262_144 }
         ensures cells { OnOk result (HasFewCells self.new) }
@@ -168,7 +170,8 @@ impl Session {
         ensures refused { IfErr result (IsCause self.old.held edit) }
         ensures held { OnErr result (self.new.held ≡ self.old.held) }
         ensures left { IfErr result (λ refusal. IsLeft self.old refusal self.new) }
-        ensures noted { OnOk result (IsNoted self.old self.new) }
+        ensures done { OnOk result
+            (IsCarriedOut self.old edit self.new steps.old steps.new) }
         ensures runs { OnOk result (RunsStay self.old edit self.new) }
         ensures few { kept_count self.new.memo ≤ 262_144 }
         ensures cells { OnOk result (HasFewCells self.new) }
@@ -214,6 +217,9 @@ impl Session {
         ensures unchanged { OnErr result (self.new ≡ self.old) }
         ensures noted { self.new.swept_cells ≡ self.old.swept_cells }
         ensures stays { OnOk result (EntriesStay (layouts_of self.old) edit (layouts_of self.new)) }
+        ensures grown { OnOk result (HasGrownFrom self.old self.new) }
+        ensures runs { OnOk result (length self.new.store.runs + steps.old ≡
+            length self.old.store.runs + steps.new) }
         ensures few { kept_count self.new.memo ≤ 262_144 }
         ensures cells { OnOk result (HasFewCells self.new) }
         ensures unlaid { refusal_of self.old.held.tree edit ≢ None → steps.new ≡ steps.old }

@@ -1,13 +1,15 @@
 use Rattle.std.proofs.lemmas.Result.{on_ok_weaker}
 use Rattle.memo_tree.specs.Counted.{EntriesStay}
 use Rattle.edit_session.specs.Session.{layouts_of}
-use Rattle.edit_session.specs.Sweeping.{IsNoted, RunsStay}
-use Rattle.edit_session.proofs.Finding.{noted_from, runs_stay}
+use Rattle.edit_session.specs.Sweeping.{IsCarriedOut, RunsStay}
+use Rattle.edit_session.proofs.Finding.{done_from, runs_stay}
 use Rattle.edit_session.proofs.session.Session.carry_out.Goals as goal
 
-pub returns-clause-noted : goal.returns-clause-noted
-returns-clause-noted g c =
-    noted_from c.edit_found.result c.args.self.now c.sweep_if_due.new.self c.edit_found.new.self c.in_ok-sweep_if_due.ensures.found c.edit_found.ensures.noted
+pub returns-clause-done : goal.returns-clause-done
+returns-clause-done g c =
+    let done = c.edit_found.ensures in
+    done_from c.edit_found.result c.args.self.now c.sweep_if_due.new.self c.edit_found.new.self c.args.edit c.args.steps.now c.edit_found.new.steps
+    c.in_ok-sweep_if_due.ensures.found done.stays done.grown done.runs done.noted
 
 pub returns-clause-runs : goal.returns-clause-runs
 returns-clause-runs g c =

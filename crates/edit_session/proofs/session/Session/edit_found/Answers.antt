@@ -1,15 +1,16 @@
-use Rattle.std.proofs.Common.{◌≡◌, ◌∙◌, ◌≤◌, ◌+◌, ◌*◌, ap, arith, ℕ, sym, subst}
+use Rattle.std.proofs.Common.{◌≡◌, ◌∙◌, ◌≤◌, ◌+◌, ◌*◌, ap, arith, ℕ, length, sym, subst}
 use Rattle.math_tree.specs.Trees.{IsWhole}
 use Rattle.box_pool.specs.Runs.{cell_count}
-use Rattle.outcome_cells.specs.Store.{StoreValue}
+use Rattle.outcome_cells.specs.Store.{Runs, StoreValue}
 use Rattle.kept_results.specs.Ends.{fresh_count, kept_count, stripped}
 use Rattle.kept_results.specs.declared.memo.Memo.{Memo}
 use Rattle.kept_edits.specs.ByIds.{TakesNeeded}
 use Rattle.memo_tree.specs.Counted.{EntriesStay}
 use Rattle.memo_tree.specs.Trees.{MemoTreeValue}
 use Rattle.memo_tree.proofs.Changes.{steps_law}
-use Rattle.edit_session.specs.Session.{KeptSession, layouts_of}
-use Rattle.edit_session.proofs.Carrying.{entries_stay, few_after, few_cells}
+use Rattle.edit_session.specs.Session.{KeptSession, layouts_of, session_of}
+use Rattle.edit_session.specs.Sweeping.{HasGrownFrom}
+use Rattle.edit_session.proofs.Carrying.{entries_stay, few_after, few_cells, grown_from}
 use Rattle.edit_session.proofs.Counting.{at_most_noted, sealed_by_fresh}
 use Rattle.edit_session.proofs.session.Session.edit_found.Goals as goal
 
@@ -44,6 +45,23 @@ returns-in-Ok-clause-stays g c =
     let new = c.seal-made.new.self in
     subst (λ (s : KeptSession). EntriesStay (layouts_of s) c.args.edit new) c.self.view_is
     (entries_stay old c.change.new.self c.relay.new.self new c.args.edit c.self.invariant.sealed edited.stays c.relay.ensures.keeps c.in-Ok.ensures.passed c.seal-made.ensures.memo)
+
+pub returns-in-Ok-clause-grown : goal.returns-in-Ok-clause-grown
+returns-in-Ok-clause-grown g c =
+    let old = c.self.inside.layouts in
+    let new = c.seal-made.new.self in
+    subst (λ (s : KeptSession). HasGrownFrom s (session_of new c.self.inside.swept_cells)) c.self.view_is
+    (grown_from c.change.new.self new old.store.runs c.relay.new.self.store.runs c.in-Ok.ensures.cells (c.seal-made.ensures.tree ∙ c.relay.ensures.tree)
+    (c.seal-made.ensures.metrics ∙ c.relay.ensures.metrics) c.seal-made.ensures.runs (ap (λ (s : StoreValue). s.runs) c.in_ok-reversal.ensures.store))
+
+pub returns-in-Ok-clause-runs : goal.returns-in-Ok-clause-runs
+returns-in-Ok-clause-runs g c =
+    let from = c.args.steps.now in
+    let to = c.relay.new.steps in
+    let new = c.seal-made.new.self in
+    let passed = subst (λ (r : Runs). length r + from ≡ length c.change.new.self.store.runs + to) (sym c.seal-made.ensures.runs) c.in-Ok.ensures.runs in
+    let changed = subst (λ (s : StoreValue). length new.store.runs + from ≡ length s.runs + to) c.in_ok-reversal.ensures.store passed in
+    subst (λ (s : KeptSession). length new.store.runs + from ≡ length s.store.runs + to) c.self.view_is changed
 
 pub returns-in-Ok-clause-cells : goal.returns-in-Ok-clause-cells
 returns-in-Ok-clause-cells g c =

@@ -13,6 +13,7 @@ returns-clause-swept c =
     let holds : swept.held ≡ before.held = λ i. record { tree = c.sweep.ensures.tree i; metrics = c.sweep.ensures.metrics i } in
     subst (λ (s : KeptSession). IsSweptFrom s swept) c.self.view_is record {
       held = holds;
+      sealed = found.sealed;
       swept = found.swept;
       part = found.part;
       stays = needed_stay before swept c.self.invariant.sealed holds found.swept found.part;
