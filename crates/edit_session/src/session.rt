@@ -37,7 +37,7 @@ pub struct Session {
     layouts: MemoTree,
     /// How many cells the last sweep left.
     swept_cells: usize,
-    /// No more layouts are kept than this. It is counted anew where it says too little.
+    /// No more layouts are kept than this. They are counted anew where it passes the limit below.
     most_kept: usize,
 }
 
@@ -87,6 +87,7 @@ impl Session {
     {
         let layouts = MemoTree::start(alloc, tree, metrics, steps)?;
         let swept_cells = layouts.cells();
+        // one run for each layout that is kept
         let most_kept = layouts.store().live();
         Ok(Session {
             layouts,
@@ -263,12 +264,14 @@ impl Session {
     {
         self.layouts.sweep(alloc)?;
         self.swept_cells = self.layouts.cells();
+        // one run for each layout that is left
         self.most_kept = self.layouts.store().live();
         Ok(())
     }
 
     /// Says where the boxes and the marks of the tree stand, in document order: the root's baseline
-    /// begins at (0, 0). All layouts are dropped but those that the one of the tree needs.
+    /// begins at (0, 0). All layouts are dropped but those that the one of the tree needs. Where
+    /// memory is refused, either they were dropped all the same or all is as it was.
     pub fn show(&mut self, alloc: Global) -> Result<Placed, Memory>
         ensures page { IfOk result (λ items. items ≡ page self.old.held) }
         ensures glyphs { IfOk result (All (IsOfFont self.old.held.metrics)) }

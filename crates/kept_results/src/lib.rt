@@ -28,7 +28,7 @@
 //! - Models: this project's own; MathML Core says nothing of it.
 //! - Proved: a pass gives the layout exactly, computes nothing that is kept, and nothing twice, and
 //!   can be undone; it puts a run for each step, every run that was there stays, and no two entries
-//!   have one (`Grows`); a pass that is done adds the cells of the layouts that it computed, and no
+//!   have one where no two had (`Grows`); a pass that is done adds the cells of needed layouts, no
 //!   others (`laws`); an outcome that is kept, and follows by the equations from others that do, is
 //!   that of the layout (`laws`).
 //! - Knows nothing of: edits (of `tree_edits` it takes which element a path leads to), and by which
