@@ -1,4 +1,4 @@
-ghost use Rattle.std.specs.Prelude.{◌≡◌, ◌≤◌, ◌≢◌, ◌⊎◌, ◌+◌, ◌*◌, ◌-◌, ◌^◌, min, false, None, All, Err, IfOk, OnOk, IfErr, OnErr};
+ghost use Rattle.std.specs.Prelude.{◌≡◌, ◌≤◌, ◌≢◌, ◌⊎◌, ◌+◌, ◌*◌, false, None, All, Err, IfOk, OnOk, IfErr, OnErr};
 ghost use Rattle.box_pool.specs.Runs.{cell_count};
 ghost use Rattle.box_writer.specs.Items.{IsOfFont};
 ghost use Rattle.fixed_units.specs.declared.refusal.LayRefusal.TheVariants.{Range};
@@ -315,9 +315,10 @@ impl Session {
         self.layouts.root_box()
     }
 
-    /// How many layouts are kept, and 2^64 - 1 where there are more.
+    /// How many layouts are kept. There are never more than 262,144.
     pub fn kept(&self) -> usize
-        ensures { result ≡ min (kept_count self.now.memo) (2 ^ 64 - 1) }
+        ensures exact { result ≡ kept_count self.now.memo }
+        ensures few { kept_count self.now.memo ≤ 262_144 }
     {
         self.layouts.kept()
     }
