@@ -2,7 +2,7 @@ use fixed_units::{LayRefusal, Memory};
 use thiserror::Error;
 use tree_edits::EditRefusal;
 
-/// Why a session didn't carry an edit out; it is then as it was.
+/// Why a session didn't carry an edit out; it then holds what it held.
 #[derive(Clone, Copy, Debug, PartialEq, Eq, Error)]
 pub enum SessionRefusal {
     /// The edit is refused for this reason, which is never want of memory.
