@@ -10,7 +10,7 @@ pub returns-in-Ok-clause-written : goal.returns-in-Ok-clause-written
 returns-in-Ok-clause-written g c =
     let s = c.args.session.now.held in
     let told = g.O.Sink.told in
-    let metrics : c.metrics.result.now ≡ s.metrics = c.metrics.ensures.exact ∙ ap (λ t. t.metrics) c.in-Ok.ensures.unchanged in
+    let metrics : c.metrics.result.now ≡ s.metrics = c.metrics.ensures.exact ∙ ap (λ t. t.metrics) c.in-Ok.ensures.held in
     let same : text_of c.metrics.result.now c.in-Ok.placed ≡ lines_of_page s = λ i. text_of (metrics i) (c.in-Ok.ensures.page i) in
     record {
       result = Ok (whole_text (lines_of_page s));
