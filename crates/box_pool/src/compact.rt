@@ -1,5 +1,5 @@
 ghost use Rattle.std.specs.Prelude.{◌≡◌, ℕ, ◌+◌, ◌<◌, ◌≤◌, length, take, false, slice_index_or, eqb};
-ghost use Rattle.std.specs.List.{All, filter, list_any, IsDistinct};
+ghost use Rattle.std.specs.List.{All, copy_within, filter, list_any, IsDistinct};
 ghost use Rattle.std.specs.List.Sorted.{IsPermutation};
 ghost use Rattle.box_pool.specs.Runs.{runs_at, Follows, is_listed, is_marked};
 
@@ -16,6 +16,21 @@ pub(crate) fn mark_listed(marks: &mut [bool], keep: &[RunId])
     marks.fill(false);
     for run in keep {
         marks[run.0 as usize] = true;
+    }
+}
+
+/// Moves the cells of a run to a place in front of it. They are copied at once where the two don't
+/// overlap.
+fn slide(cells: &mut [Cell], run: Place, to: usize)
+    requires forward { to ≤ run.start }
+    requires within { run.start + run.count ≤ length cells.old }
+    ensures { cells.new ≡ copy_within cells.old run.start (run.start + run.count) to }
+{
+    if run.count <= run.start - to {
+        let (front, back) = cells.split_at_mut(run.start);
+        front[to..to + run.count].copy_from_slice(&back[..run.count]);
+    } else {
+        cells.copy_within(run.start..run.start + run.count, to);
     }
 }
 
@@ -47,7 +62,7 @@ pub(crate) fn compact(
         let id = order[at];
         if marks[id] {
             let place = places[id];
-            cells.copy_within(place.start..place.start + place.count, used);
+            slide(cells, place, used);
             places[id] = Place {
                 start: used,
                 count: place.count,

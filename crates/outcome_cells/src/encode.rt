@@ -1,4 +1,4 @@
-ghost use Rattle.std.specs.Prelude.{◌≡◌, [], ◌∷◌, ◌++◌, OnOk, pos};
+ghost use Rattle.std.specs.Prelude.{◌≡◌, ◌<◌, ◌≤◌, ◌+◌, ◌*◌, [], ◌∷◌, ◌++◌, OnOk, length, pos, vec_capacity, vec_len};
 ghost use Rattle.std.specs.List.{All};
 ghost use Rattle.outcome_cells.specs.Cells.{IsHeld, IsMarkHeld, IsOffsetHeld, IsSpanHeld, axis_number, frame_numbers, in_cells, list_numbers, mark_numbers, offset_numbers, outcome_cells, own_number, span_numbers};
 
@@ -25,11 +25,53 @@ pub fn put_cells(outcome: &Outcome, cells: &mut Vec<Cell>) -> Result<(), Memory>
     Ok(())
 }
 
-/// Adds some cells to others.
-fn put(more: &[Cell], cells: &mut Vec<Cell>) -> Result<(), Memory>
-    ensures { OnOk result (cells.new.items ≡ cells.old.items ++ more.now) }
+/// Adds a cell where there is room for it.
+fn put(cell: Cell, cells: &mut Vec<Cell>)
+    requires room { vec_len cells.old < vec_capacity cells.old }
+    ensures put { cells.new.items ≡ cells.old.items ++ cell ∷ [] }
+    ensures len { vec_len cells.new ≡ vec_len cells.old + 1 }
+    ensures room { vec_capacity cells.new ≡ vec_capacity cells.old }
 {
-    cells.extend_from_slice(more)?;
+    cells.push_reserved(cell);
+}
+
+/// Adds several cells where there is room for them.
+fn put_all(more: &[Cell], cells: &mut Vec<Cell>)
+    requires room { vec_len cells.old + length more.now ≤ vec_capacity cells.old }
+    ensures put { cells.new.items ≡ cells.old.items ++ more.now }
+    ensures len { vec_len cells.new ≡ vec_len cells.old + length more.now }
+    ensures room { vec_capacity cells.new ≡ vec_capacity cells.old }
+{
+    for cell in more {
+        put(*cell, cells);
+    }
+}
+
+/// Adds four cells where there is room for them.
+fn put_four(first: Cell, second: Cell, third: Cell, fourth: Cell, cells: &mut Vec<Cell>)
+    requires room { vec_len cells.old + 4 ≤ vec_capacity cells.old }
+    ensures put { cells.new.items ≡ cells.old.items ++ first ∷ second ∷ third ∷ fourth ∷ [] }
+    ensures len { vec_len cells.new ≡ vec_len cells.old + 4 }
+    ensures room { vec_capacity cells.new ≡ vec_capacity cells.old }
+{
+    put(first, cells);
+    put(second, cells);
+    put(third, cells);
+    put(fourth, cells);
+}
+
+/// Makes room for the count of a list and for so many cells of each of its items.
+fn reserve(items: usize, each: usize, cells: &mut Vec<Cell>) -> Result<(), Memory>
+    ensures room { OnOk result (vec_len cells.new + (1 + items * each) ≤ vec_capacity cells.new) }
+    ensures same { cells.new.items ≡ cells.old.items }
+{
+    let Some(all) = items.checked_mul(each) else {
+        return Err(Memory);
+    };
+    let Some(room) = all.checked_add(1) else {
+        return Err(Memory);
+    };
+    cells.reserve(room)?;
     Ok(())
 }
 
@@ -38,6 +80,7 @@ fn put_frame(frame: &MathBox, cells: &mut Vec<Cell>) -> Result<(), Memory>
     ensures { OnOk result (cells.new.items ≡ cells.old.items
         ++ in_cells (frame_numbers frame.now)) }
 {
+    cells.reserve(7)?;
     let own = [
         Cell(frame.width),
         Cell(frame.ascent),
@@ -47,7 +90,8 @@ fn put_frame(frame: &MathBox, cells: &mut Vec<Cell>) -> Result<(), Memory>
         Cell(frame.italic),
         Cell(frame.accent),
     ];
-    put(&own, cells)
+    put_all(&own, cells);
+    Ok(())
 }
 
 /// The cells of the spaces before and after an element.
@@ -55,7 +99,10 @@ fn put_spaces(answer: &Answer, cells: &mut Vec<Cell>) -> Result<(), Memory>
     ensures { OnOk result (cells.new.items ≡ cells.old.items
         ++ in_cells (answer.now.before ∷ answer.now.after ∷ [])) }
 {
-    put(&[Cell(answer.before), Cell(answer.after)], cells)
+    cells.reserve(2)?;
+    put(Cell(answer.before), cells);
+    put(Cell(answer.after), cells);
+    Ok(())
 }
 
 /// The cells of a list of numbers.
@@ -63,9 +110,10 @@ fn put_numbers(numbers: &[i64], cells: &mut Vec<Cell>) -> Result<(), Memory>
     ensures { OnOk result (cells.new.items ≡ cells.old.items
         ++ in_cells (list_numbers own_number numbers.now)) }
 {
-    put(&[Cell(numbers.len() as i64)], cells)?;
+    reserve(numbers.len(), 1, cells)?;
+    put(Cell(numbers.len() as i64), cells);
     for number in numbers {
-        put(&[Cell(*number)], cells)?;
+        put(Cell(*number), cells);
     }
     Ok(())
 }
@@ -76,25 +124,29 @@ fn put_spans(spans: &[CellSpan], cells: &mut Vec<Cell>) -> Result<(), Memory>
         ++ in_cells (list_numbers span_numbers spans.now)) }
     ensures held { OnOk result (All IsSpanHeld spans.now) }
 {
-    put(&[Cell(spans.len() as i64)], cells)?;
+    reserve(spans.len(), 4, cells)?;
+    put(Cell(spans.len() as i64), cells);
     for span in spans {
-        put_span(*span, cells)?;
+        put_span(*span, cells);
     }
     Ok(())
 }
 
 /// The cells of what a cell spans.
-fn put_span(span: CellSpan, cells: &mut Vec<Cell>) -> Result<(), Memory>
-    ensures put { OnOk result (cells.new.items ≡ cells.old.items ++ in_cells (span_numbers span)) }
+fn put_span(span: CellSpan, cells: &mut Vec<Cell>)
+    requires room { vec_len cells.old + 4 ≤ vec_capacity cells.old }
+    ensures put { cells.new.items ≡ cells.old.items ++ in_cells (span_numbers span) }
     ensures held { IsSpanHeld span }
+    ensures len { vec_len cells.new ≡ vec_len cells.old + 4 }
+    ensures room { vec_capacity cells.new ≡ vec_capacity cells.old }
 {
-    let own = [
+    put_four(
         Cell(i64::from(span.columns)),
         Cell(i64::from(span.rows)),
         Cell(span.ascent),
         Cell(span.descent),
-    ];
-    put(&own, cells)
+        cells,
+    );
 }
 
 /// The cells of a list of offsets.
@@ -103,21 +155,25 @@ fn put_offsets(offsets: &[Offset], cells: &mut Vec<Cell>) -> Result<(), Memory>
         ++ in_cells (list_numbers offset_numbers offsets.now)) }
     ensures held { OnOk result (All IsOffsetHeld offsets.now) }
 {
-    put(&[Cell(offsets.len() as i64)], cells)?;
+    reserve(offsets.len(), 3, cells)?;
+    put(Cell(offsets.len() as i64), cells);
     for offset in offsets {
-        put_offset(*offset, cells)?;
+        put_offset(*offset, cells);
     }
     Ok(())
 }
 
 /// The cells of an offset.
-fn put_offset(offset: Offset, cells: &mut Vec<Cell>) -> Result<(), Memory>
-    ensures put { OnOk result (cells.new.items ≡ cells.old.items
-        ++ in_cells (offset_numbers offset)) }
+fn put_offset(offset: Offset, cells: &mut Vec<Cell>)
+    requires room { vec_len cells.old + 3 ≤ vec_capacity cells.old }
+    ensures put { cells.new.items ≡ cells.old.items ++ in_cells (offset_numbers offset) }
     ensures held { IsOffsetHeld offset }
+    ensures len { vec_len cells.new ≡ vec_len cells.old + 3 }
+    ensures room { vec_capacity cells.new ≡ vec_capacity cells.old }
 {
-    let own = [Cell(i64::from(offset.kid)), Cell(offset.x), Cell(offset.y)];
-    put(&own, cells)
+    put(Cell(i64::from(offset.kid)), cells);
+    put(Cell(offset.x), cells);
+    put(Cell(offset.y), cells);
 }
 
 /// The cells of a list of marks.
@@ -126,32 +182,37 @@ fn put_marks(marks: &[Mark], cells: &mut Vec<Cell>) -> Result<(), Memory>
         ++ in_cells (list_numbers mark_numbers marks.now)) }
     ensures held { OnOk result (All IsMarkHeld marks.now) }
 {
-    put(&[Cell(marks.len() as i64)], cells)?;
+    reserve(marks.len(), 8, cells)?;
+    put(Cell(marks.len() as i64), cells);
     for mark in marks {
-        put_mark(*mark, cells)?;
+        put_mark(*mark, cells);
     }
     Ok(())
 }
 
-/// The cells of a mark.
-fn put_mark(mark: Mark, cells: &mut Vec<Cell>) -> Result<(), Memory>
-    ensures put { OnOk result (cells.new.items ≡ cells.old.items ++ in_cells (mark_numbers mark)) }
+/// The cells of a mark: no more than eight.
+fn put_mark(mark: Mark, cells: &mut Vec<Cell>)
+    requires room { vec_len cells.old + 8 ≤ vec_capacity cells.old }
+    ensures put { cells.new.items ≡ cells.old.items ++ in_cells (mark_numbers mark) }
     ensures held { IsMarkHeld mark }
+    ensures len { vec_len cells.new ≤ vec_len cells.old + 8 }
+    ensures room { vec_capacity cells.new ≡ vec_capacity cells.old }
 {
     match mark {
         Mark::Glyph { x, y, size, glyph } => {
             let glyph = Cell(i64::from(glyph.0));
-            put(&[Cell(0), Cell(x), Cell(y), Cell(size), glyph], cells)
+            put(Cell(0), cells);
+            put_four(Cell(x), Cell(y), Cell(size), glyph, cells);
         }
         Mark::Rule {
             x,
             y,
             width,
             height,
-        } => put(
-            &[Cell(1), Cell(x), Cell(y), Cell(width), Cell(height)],
-            cells,
-        ),
+        } => {
+            put(Cell(1), cells);
+            put_four(Cell(x), Cell(y), Cell(width), Cell(height), cells);
+        }
         Mark::Built {
             x,
             y,
@@ -173,7 +234,7 @@ fn put_mark(mark: Mark, cells: &mut Vec<Cell>) -> Result<(), Memory>
                 Cell(count),
                 Cell(overlap),
             ];
-            put(&own, cells)
+            put_all(&own, cells);
         }
     }
 }

@@ -1,3 +1,4 @@
+use Rattle.std.proofs.Common.{arith}
 use Rattle.std.proofs.lemmas.List.Elements.{All-more}
 use Rattle.outcome_cells.specs.Cells.{IsMarkHeld, mark_numbers}
 use Rattle.outcome_cells.proofs.Encoding.{cells_more}
@@ -5,5 +6,11 @@ use Rattle.outcome_cells.proofs.encode.put_marks.Goals as goal
 
 pub loop-mark-preserved : goal.loop-mark-preserved
 loop-mark-preserved c =
-    let added = c.in_ok-put_mark.ensures {u = tt} in
-    (cells_more mark_numbers c.args.marks.now c.loop-mark.mark-index _ _ _ _ c.loop-mark-test.true c.loop-mark.invariant.0 added.put, All-more IsMarkHeld c.args.marks.now c.loop-mark.mark-index _ c.loop-mark-test.true c.loop-mark.invariant.1 added.held)
+    let added = c.put_mark.ensures in
+    let so_far = c.loop-mark.invariant in
+    let i = c.loop-mark.mark-index in
+    record {
+      put = cells_more mark_numbers c.args.marks.now i _ _ _ _ c.loop-mark-test.true so_far.put added.put;
+      held = All-more IsMarkHeld c.args.marks.now i _ c.loop-mark-test.true so_far.held added.held;
+      room = let room = so_far.room in let len = added.len in let same = added.room in omega (arith, room, len, same);
+    }

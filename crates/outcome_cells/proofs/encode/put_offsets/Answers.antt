@@ -1,3 +1,4 @@
+use Rattle.std.proofs.Common.{arith}
 use Rattle.std.proofs.lemmas.List.Elements.{All-more}
 use Rattle.outcome_cells.specs.Cells.{IsOffsetHeld, offset_numbers}
 use Rattle.outcome_cells.proofs.Encoding.{cells_more}
@@ -5,5 +6,11 @@ use Rattle.outcome_cells.proofs.encode.put_offsets.Goals as goal
 
 pub loop-offset-preserved : goal.loop-offset-preserved
 loop-offset-preserved c =
-    let added = c.in_ok-put_offset.ensures {u = tt} in
-    (cells_more offset_numbers c.args.offsets.now c.loop-offset.offset-index _ _ _ _ c.loop-offset-test.true c.loop-offset.invariant.0 added.put, All-more IsOffsetHeld c.args.offsets.now c.loop-offset.offset-index _ c.loop-offset-test.true c.loop-offset.invariant.1 added.held)
+    let added = c.put_offset.ensures in
+    let so_far = c.loop-offset.invariant in
+    let i = c.loop-offset.offset-index in
+    record {
+      put = cells_more offset_numbers c.args.offsets.now i _ _ _ _ c.loop-offset-test.true so_far.put added.put;
+      held = All-more IsOffsetHeld c.args.offsets.now i _ c.loop-offset-test.true so_far.held added.held;
+      room = let room = so_far.room in let len = added.len in let same = added.room in omega (arith, room, len, same);
+    }

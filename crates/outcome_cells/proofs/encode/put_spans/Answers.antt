@@ -1,3 +1,4 @@
+use Rattle.std.proofs.Common.{arith}
 use Rattle.std.proofs.lemmas.List.Elements.{All-more}
 use Rattle.outcome_cells.specs.Cells.{IsSpanHeld, span_numbers}
 use Rattle.outcome_cells.proofs.Encoding.{cells_more}
@@ -5,5 +6,11 @@ use Rattle.outcome_cells.proofs.encode.put_spans.Goals as goal
 
 pub loop-span-preserved : goal.loop-span-preserved
 loop-span-preserved c =
-    let added = c.in_ok-put_span.ensures {u = tt} in
-    (cells_more span_numbers c.args.spans.now c.loop-span.span-index _ _ _ _ c.loop-span-test.true c.loop-span.invariant.0 added.put, All-more IsSpanHeld c.args.spans.now c.loop-span.span-index _ c.loop-span-test.true c.loop-span.invariant.1 added.held)
+    let added = c.put_span.ensures in
+    let so_far = c.loop-span.invariant in
+    let i = c.loop-span.span-index in
+    record {
+      put = cells_more span_numbers c.args.spans.now i _ _ _ _ c.loop-span-test.true so_far.put added.put;
+      held = All-more IsSpanHeld c.args.spans.now i _ c.loop-span-test.true so_far.held added.held;
+      room = let room = so_far.room in let len = added.len in let same = added.room in omega (arith, room, len, same);
+    }
