@@ -73,9 +73,35 @@ fn flag_asked(node: &Node, own: &Facts, below: &mut List<Memo>, entry: &Entry, m
     flag_wave(node, own, below, &entry.two, metrics);
 }
 
-/// Flags what the answers to the questions of one wave need.
+/// Flags what the answers to the questions of one wave need. Most waves are empty.
 #[cycle(flag)]
 fn flag_wave(
+    node: &Node,
+    own: &Facts,
+    below: &mut List<Memo>,
+    replies: &List<Reply>,
+    metrics: &Metrics,
+)
+    requires own { own.now ≡ facts node.now }
+    requires known { map own_facts below.old ≡ map facts (out-Node node.now).children }
+    requires agrees { BelowAgree metrics.now node.now below.old }
+    requires whole { BelowAgree metrics.now node.now (map cleared below.old) }
+    requires named { AllByRecursion (NamesKept node.now (map cleared below.old))
+        (questions_in replies.now) }
+    ensures flagged { AreFlagged metrics.now node.now (questions_in replies.now) below.old
+        below.new }
+    ensures named { AllByRecursion (NamesKept node.now below.new) (questions_in replies.now) }
+{
+    if !replies.is_empty() {
+        flag_all(node, own, below, replies, metrics);
+    }
+}
+
+/// Flags what these answers need. It stands apart, so that an element without children is passed by
+/// without the frame of this call.
+#[cycle(flag)]
+#[inline(never)]
+fn flag_all(
     node: &Node,
     own: &Facts,
     below: &mut List<Memo>,

@@ -17,7 +17,7 @@ use Rattle.kept_results.specs.declared.memo.Memo.{Memo}
 use Rattle.kept_results.specs.declared.memo.Memo.TheViews.{out-Memo}
 use Rattle.kept_results.proofs.Lists.{all_more, all_then}
 use Rattle.kept_sweep.specs.Flagged.{AreFlagged, BelowAgree, IsFlagged, cleared}
-use Rattle.kept_sweep.proofs.Flagging.{child_read, found_smaller, known_still, named_now, place_near, entry_read, flagged_already, flagged_both, flagged_end, flagged_one, named_one, named_still, never_missing, place_within, ready, same_whole, whole_entries}
+use Rattle.kept_sweep.proofs.Flagging.{child_read, found_smaller, known_still, named_now, place_near, entry_read, flagged_already, flagged_both, flagged_end, flagged_none, flagged_one, named_one, named_still, never_missing, place_within, ready, same_whole, whole_entries}
 use Rattle.kept_sweep.proofs.flags.+flag.Goals as goal
 
 -- ---- one entry
@@ -80,37 +80,40 @@ pub flag_asked-returns-clause-ones : goal.flag_asked-returns-clause-ones
 flag_asked-returns-clause-ones t c =
     all_then (NamesKept c.args.node.now c.flag_wave.new.below) (NamesKept c.args.node.now c.flag_wave-2.new.below) (named_still c.flag_wave-2.ensures.flagged) (questions_in c.args.entry.now.one) c.flag_wave.ensures.named
 
+pub flag_wave-returns-else-not-is_empty-clause-flagged : goal.flag_wave-returns-else-not-is_empty-clause-flagged
+flag_wave-returns-else-not-is_empty-clause-flagged t c = flagged_none (questions_in c.args.replies.now) c.args.below.now c.requires.agrees
+
 -- ---- one question after another
 
-pub flag_wave-place_from-spot-requires-clause-known : goal.flag_wave-place_from-spot-requires-clause-known
-flag_wave-place_from-spot-requires-clause-known t c = ap (map own_facts) c.as_slice.ensures ∙ known_still c.loop-asked.invariant.flagged c.requires.known
+pub flag_all-place_from-spot-requires-clause-known : goal.flag_all-place_from-spot-requires-clause-known
+flag_all-place_from-spot-requires-clause-known t c = ap (map own_facts) c.as_slice.ensures ∙ known_still c.loop-asked.invariant.flagged c.requires.known
 
-pub flag_wave-place_from-spot-requires-clause-within : goal.flag_wave-place_from-spot-requires-clause-within
-flag_wave-place_from-spot-requires-clause-within t c =
+pub flag_all-place_from-spot-requires-clause-within : goal.flag_all-place_from-spot-requires-clause-within
+flag_all-place_from-spot-requires-clause-within t c =
     let node = c.args.node.now in
     let q = c.asked-item.result.question in
     let P : Question → Type 0 = NamesKept node (map cleared c.args.below.now) in
     let named = item_of P _ _ c.loop-asked.asked-index q (All-from_recursion P (questions_in c.args.replies.now) c.requires.named) (ap questions_in c.as_slice-asked-items.ensures) (asked_within _ _ c.loop-asked-test.true) (asked_at _ _ _ c.loop-asked-test.true c.asked-item.is) in
     slice_get_within (flow_children node) q.kid named.child named.to
 
-pub flag_wave-bounds-as_slice-spot : goal.flag_wave-bounds-as_slice-spot
-flag_wave-bounds-as_slice-spot t c =
+pub flag_all-bounds-as_slice-spot : goal.flag_all-bounds-as_slice-spot
+flag_all-bounds-as_slice-spot t c =
     omega (arith, place_near c.args.node.now c.asked-item.result.question.kid c.place_from-spot.result.place c.place_from-spot.ensures.child, ap length c.as_slice-in-loop-asked.ensures)
 
-pub flag_wave-offset_bounds-as_slice-spot : goal.flag_wave-offset_bounds-as_slice-spot
-flag_wave-offset_bounds-as_slice-spot t c =
-    let within = flag_wave-bounds-as_slice-spot t c in
+pub flag_all-offset_bounds-as_slice-spot : goal.flag_all-offset_bounds-as_slice-spot
+flag_all-offset_bounds-as_slice-spot t c =
+    let within = flag_all-bounds-as_slice-spot t c in
     omega (arith, within, c.as_slice-in-loop-asked.type_inv.0, c.as_slice-in-loop-asked.type_inv.1)
 
-pub flag_wave-at_mut-requires : goal.flag_wave-at_mut-requires
-flag_wave-at_mut-requires t c =
+pub flag_all-at_mut-requires : goal.flag_all-at_mut-requires
+flag_all-at_mut-requires t c =
     let node = c.args.node.now in
     let near = place_near node c.asked-item.result.question.kid c.place_from-spot.result.place c.place_from-spot.ensures.child in
     let known = ap length (known_still c.loop-asked.invariant.flagged c.requires.known) in
     omega (arith, near, known, length-map c.loop-asked.below own_facts, length-map (out-Node node).children facts)
 
-pub flag_wave-flag_needed-requires : goal.flag_wave-flag_needed-requires
-flag_wave-flag_needed-requires t c =
+pub flag_all-flag_needed-requires : goal.flag_all-flag_needed-requires
+flag_all-flag_needed-requires t c =
     let m = c.args.metrics.now in
     let node = c.args.node.now in
     let q = c.asked-item.result.question in
@@ -126,8 +129,8 @@ flag_wave-flag_needed-requires t c =
     let now = named_now node kid place q c.args.below.now c.loop-asked.below old to done.same c.at_mut.ensures.value named in
     (omega arith, (done.agrees place kid old at c.at_mut.ensures.value, (c.requires.whole place kid (cleared old) at now.0, now.1)))
 
-pub flag_wave-loop-asked-preserved : goal.flag_wave-loop-asked-preserved
-flag_wave-loop-asked-preserved t c =
+pub flag_all-loop-asked-preserved : goal.flag_all-loop-asked-preserved
+flag_all-loop-asked-preserved t c =
     let m = c.args.metrics.now in
     let node = c.args.node.now in
     let asks = questions_in c.args.replies.now in

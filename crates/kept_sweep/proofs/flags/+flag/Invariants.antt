@@ -17,5 +17,5 @@ pub record Asked (m : MetricsValue) (node : Node) (asks items : List Question) (
   pub named : AllByRecursion (NamesKept node below) (take index items)
   pub counted : spot.index ≡ shown_before node spot.place
 
-abbrev pub invariant-flag_wave-loop-asked : goal.invariant-flag_wave-loop-asked
-invariant-flag_wave-loop-asked l = Asked l.metrics l.node (questions_in l.replies) (questions_in l.asked-items) l.asked-index l.fn.below l.below l.spot
+abbrev pub invariant-flag_all-loop-asked : goal.invariant-flag_all-loop-asked
+invariant-flag_all-loop-asked l = Asked l.metrics l.node (questions_in l.replies) (questions_in l.asked-items) l.asked-index l.fn.below l.below l.spot
