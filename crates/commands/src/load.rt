@@ -1,4 +1,4 @@
-ghost use Rattle.std.specs.Prelude.{◌≡◌, ◌≤◌, None, length};
+ghost use Rattle.std.specs.Prelude.{◌≡◌, ◌≤◌, Err, IfErr, IfOk, None, Some, length};
 ghost use Rattle.std.specs.Option.{option_map};
 ghost use Rattle.tree_edits.specs.Commands.{json_in};
 ghost use Rattle.commands.specs.Answer.{content, metrics_in, tree_in, tree_of_json, of_metrics_file, of_tree_file};
@@ -10,6 +10,7 @@ ghost use Rattle.serde_json.specs.View.{view};
 
 use crate::refusal::Refusal;
 use doc_io::{Inputs, LineReader, read_all};
+use fixed_units::List;
 use font_metrics::{MOST_FILE_BYTES, Metrics, read_metrics};
 use math_tree::{Tree, read_tree};
 use serde_json::Value;
@@ -51,7 +52,7 @@ pub fn load_tree<I: Inputs>(alloc: Global, name: &str, inputs: &mut I) -> Result
         (I.told inputs.old) (I.told inputs.new) result }
 {
     match read_all(alloc, inputs, name, TREE_LIMIT) {
-        Ok(bytes) => tree_of(alloc, bytes.as_slice()),
+        Ok(bytes) => tree_of_list(alloc, bytes),
         Err(refusal) => Err(Refusal::of_reading(refusal, Refusal::TreeLong)),
     }
 }
@@ -60,8 +61,28 @@ pub fn load_tree<I: Inputs>(alloc: Global, name: &str, inputs: &mut I) -> Result
 pub(crate) fn tree_of(alloc: Global, bytes: &[u8]) -> Result<Tree, Refusal>
     ensures { GivesOr (tree_of_json (json_in bytes.now)) result }
 {
+    let value = value_of(alloc, bytes)?;
+    tree_of_value(alloc, &value)
+}
+
+/// The same of bytes that are let go of before the tree is made: those of a long file are a good part
+/// of the most memory that a run takes.
+fn tree_of_list(alloc: Global, bytes: List<u8>) -> Result<Tree, Refusal>
+    ensures { GivesOr (tree_of_json (json_in bytes)) result }
+{
+    let value = value_of(alloc, bytes.as_slice())?;
+    drop(bytes);
+    tree_of_value(alloc, &value)
+}
+
+/// The JSON value of a file's bytes.
+fn value_of(alloc: Global, bytes: &[u8]) -> Result<Value, Refusal>
+    ensures read { IfOk result (λ value. json_in bytes.now ≡ Some (view value)) }
+    ensures refused { IfErr result (λ refusal. GivesOr (tree_of_json (json_in bytes.now))
+        (Err refusal)) }
+{
     match Value::from_slice(alloc, bytes) {
-        Ok(value) => tree_of_value(alloc, &value),
+        Ok(value) => Ok(value),
         Err(error) => {
             if error.is_memory() {
                 Err(Refusal::Memory)

@@ -1,4 +1,4 @@
-ghost use Rattle.std.specs.Prelude.{◌≡◌, ◌<◌, ◌-◌, ◌^◌, min, length, filter};
+ghost use Rattle.std.specs.Prelude.{◌≡◌, ◌-◌, ◌^◌, min, length, filter};
 ghost use Rattle.kept_results.specs.Ends.{kept_count};
 ghost use Rattle.kept_results.specs.Kept.{is_live as is_no_older_one, is_marked};
 ghost use Rattle.kept_results.specs.declared.memo.Memo.TheViews.{out-Memo};
@@ -6,16 +6,8 @@ ghost use Rattle.kept_results.specs.declared.memo.Memo.TheViews.{out-Memo};
 use crate::lookup::is_live;
 use kept_results::Memo;
 
-/// How many entries are kept of an element and of all below it, but for the older ones. It takes no
-/// memory.
-pub fn count(memo: &Memo) -> usize
-    requires few { kept_count memo.now < 2 ^ 64 }
-    ensures { result ≡ kept_count memo.now }
-{
-    count_or_most(memo)
-}
-
-/// The same of any memo; 2^64 - 1 where there are more.
+/// How many entries are kept of an element and of all below it, but for the older ones, and 2^64 - 1
+/// where there are more. It takes no memory.
 pub fn count_or_most(memo: &Memo) -> usize
     ensures { result ≡ min (kept_count memo.now) (2 ^ 64 - 1) }
 {

@@ -21,8 +21,8 @@ mod laid; // a tree of kept layouts
 mod lookup; // one entry of an element
 mod places; // which children may be in flow
 
-pub use amount::{count, count_or_most};
+pub use amount::count_or_most;
 pub use boxes::box_of;
 pub use laid::{KeptLayout, kept_kids, laid_of};
-pub use lookup::{kept_entry, root_box};
+pub use lookup::{is_live, kept_entry, root_box};
 pub use places::may_show;

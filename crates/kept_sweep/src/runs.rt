@@ -1,11 +1,12 @@
 ghost use Rattle.std.specs.Prelude.{◌≡◌, ◌+◌, ◌≤◌, ◌++◌, length, vec_capacity};
 ghost use Rattle.kept_results.specs.Ends.{kept_count};
-ghost use Rattle.kept_results.specs.Kept.{is_live, is_marked};
+ghost use Rattle.kept_results.specs.Kept.{is_marked};
 ghost use Rattle.kept_results.specs.declared.memo.Memo.TheViews.{out-Memo};
 ghost use Rattle.kept_sweep.specs.Runs.{live_runs, runs_of};
 
 use box_pool::RunId;
-use kept_results::{Entry, Memo};
+use kept_laid::is_live;
+use kept_results::Memo;
 
 /// Lists the runs of all entries of an element and of all below it, but for the older ones. There
 /// is room for them already, so it takes no memory.
@@ -29,15 +30,8 @@ fn list_own(memo: &Memo, runs: &mut Vec<RunId>)
     ensures room { vec_capacity runs.new ≡ vec_capacity runs.old }
 {
     for entry in memo.entries.as_slice() {
-        if is_kept(memo, entry) {
+        if is_live(memo, entry) {
             runs.push_reserved(entry.run);
         }
     }
-}
-
-/// Whether an entry of an element is no older one.
-fn is_kept(memo: &Memo, entry: &Entry) -> bool
-    ensures { result ≡ is_live (is_marked (out-Memo memo.now)) entry.now }
-{
-    memo.former.is_none() || entry.is_fresh()
 }

@@ -179,10 +179,10 @@ impl MemoTree {
         ensures refused { IfErr result (IsReason self.old.tree edit) }
         ensures unchanged { OnErr result (self.new ≡ self.old) }
     {
-        self.swept = false;
         let path = self.notes.find(alloc, &self.tree, edit.named())?;
         let found = way_along(&self.tree, &path, &edit);
         let taken = apply_at(alloc, &mut self.tree, path, edit)?;
+        self.swept = false;
         let Some(way) = found else {
             unreachable!();
         };

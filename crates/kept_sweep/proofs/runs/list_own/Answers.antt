@@ -10,7 +10,7 @@ push_reserved-requires c =
     let marked = is_marked (out-Memo c.args.memo.now) in
     let entries = c.as_slice-entry-items.result.now in
     let i = c.loop-entry.entry-index in
-    let live = sym c.is_kept.ensures ∙ c.if-is_kept.true in
+    let live = sym c.is_live.ensures ∙ c.if-is_live.true in
     let more = run_within marked entries i c.entry-item.result c.loop-entry-test.true c.entry-item.is live in
     let so_far = ap length c.loop-entry.invariant.0 in
     omega (
