@@ -12,13 +12,14 @@ ghost use Rattle.commands.specs.HistorySteps.{TakesForLine, TakesForMove, kept_a
 use crate::replies::{Respond, Stop};
 use crate::reply::{Cause, Reply};
 use crate::script::is_white_space;
+use command_reader::CommandReader;
 use doc_io::Sink;
 use edit_ring::{GroundRefusal, Ring, RingRefusal};
 use fixed_units::{Memory, Steps};
 use session_ring::{Move, Undoable, move_in};
 use std::alloc::Global;
 use std::sync::ledger::Ledger;
-use tree_edits::{Command, CommandRefusal, Edit, read_command};
+use tree_edits::{Command, CommandRefusal, Edit};
 
 impl Respond for Ring<Undoable> {
     ghost use Rattle.commands.specs.HistorySteps.{TakesForKept, by_history, kept_by, ring_of};
@@ -32,11 +33,12 @@ impl Respond for Ring<Undoable> {
     fn answer_line<O: Sink, L: Ledger>(
         &mut self,
         alloc: Global,
+        commands: &mut CommandReader,
         line: &[u8],
         out: &mut O,
         steps: &mut Steps<L>,
     ) -> Result<(), Stop> {
-        let reply = reply_to(alloc, self, line, steps)?;
+        let reply = reply_to(alloc, self, commands, line, steps)?;
         reply.write(out, self.metrics())?;
         Ok(())
     }
@@ -47,6 +49,7 @@ impl Respond for Ring<Undoable> {
 pub fn reply_to<L: Ledger>(
     alloc: Global,
     ring: &mut Ring<Undoable>,
+    commands: &mut CommandReader,
     line: &[u8],
     steps: &mut Steps<L>,
 ) -> Result<Reply, Memory>
@@ -58,7 +61,7 @@ pub fn reply_to<L: Ledger>(
     if is_white_space(line) {
         return Ok(Reply::Nothing);
     }
-    match read_command(alloc, line) {
+    match commands.read(alloc, line) {
         Ok(command) => carry_out(alloc, ring, command, steps),
         Err(CommandRefusal::BadLine) => go(alloc, ring, line, steps),
         Err(CommandRefusal::Memory) => Err(Memory),

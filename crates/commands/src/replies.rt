@@ -4,6 +4,7 @@ ghost use Rattle.commands.specs.Responders.{LineSteps, Responder};
 ghost use Rattle.commands.specs.Steps.{TakesForNext, TakesForScript, lines_left};
 
 use crate::status::Status;
+use command_reader::CommandReader;
 use doc_io::{Inputs, Line, LineReader, LineRefusal, Sink, WriteFault};
 use fixed_units::{Memory, Steps};
 use std::alloc::Global;
@@ -33,10 +34,12 @@ pub trait Respond {
     /// What is known.
     ghost known: { Self → responder.Known };
 
-    /// Does what a line asks for, and writes the reply.
+    /// Does what a line asks for, and writes the reply. The commands among the lines are read by
+    /// one reader.
     fn answer_line<O: Sink, L: Ledger>(
         &mut self,
         alloc: Global,
+        commands: &mut CommandReader,
         line: &[u8],
         out: &mut O,
         steps: &mut Steps<L>,
@@ -63,7 +66,8 @@ pub fn answer_lines<A: Respond, I: Inputs, O: Sink, L: Ledger>(
     ensures taken { TakesForScript A.responder A.takes (A.known answerer.old)
         (lines_left reader.old (I.told inputs.old)) steps.old steps.new }
 {
-    match answer_each(alloc, answerer, reader, inputs, out, steps) {
+    let mut commands = CommandReader::make(alloc);
+    match answer_each(alloc, answerer, &mut commands, reader, inputs, out, steps) {
         Ok(()) => Status::Done,
         Err(stop) => stop.status(),
     }
@@ -73,6 +77,7 @@ pub fn answer_lines<A: Respond, I: Inputs, O: Sink, L: Ledger>(
 fn answer_each<A: Respond, I: Inputs, O: Sink, L: Ledger>(
     alloc: Global,
     answerer: &mut A,
+    commands: &mut CommandReader,
     reader: &mut LineReader,
     inputs: &mut I,
     out: &mut O,
@@ -83,7 +88,7 @@ fn answer_each<A: Respond, I: Inputs, O: Sink, L: Ledger>(
     ensures taken { TakesForScript A.responder A.takes (A.known answerer.old)
         (lines_left reader.old (I.told inputs.old)) steps.old steps.new }
 {
-    while answer_next(alloc, answerer, reader, inputs, out, steps)? {}
+    while answer_next(alloc, answerer, commands, reader, inputs, out, steps)? {}
     Ok(())
 }
 
@@ -92,6 +97,7 @@ fn answer_each<A: Respond, I: Inputs, O: Sink, L: Ledger>(
 fn answer_next<A: Respond, I: Inputs, O: Sink, L: Ledger>(
     alloc: Global,
     answerer: &mut A,
+    commands: &mut CommandReader,
     reader: &mut LineReader,
     inputs: &mut I,
     out: &mut O,
@@ -106,7 +112,7 @@ fn answer_next<A: Respond, I: Inputs, O: Sink, L: Ledger>(
     if !next_line(reader, inputs)? {
         return Ok(false);
     }
-    answerer.answer_line(alloc, reader.line(), out, steps)?;
+    answerer.answer_line(alloc, commands, reader.line(), out, steps)?;
     Ok(true)
 }
 

@@ -11,13 +11,14 @@ ghost use Rattle.commands.specs.Steps.{TakesForEdit, TakesForLine, accepted_by, 
 use crate::replies::{Respond, Stop};
 use crate::script::is_white_space;
 use box_writer::{Placed, write_placed};
+use command_reader::CommandReader;
 use doc_io::{ShortText, Sink, WriteFault, write_all};
 use edit_session::{Session, SessionRefusal};
 use fixed_units::{Memory, Steps};
 use font_metrics::Metrics;
 use std::alloc::Global;
 use std::sync::ledger::Ledger;
-use tree_edits::{Command, CommandRefusal, Edit, EditRefusal, read_command};
+use tree_edits::{Command, CommandRefusal, Edit, EditRefusal};
 
 /// Why a line of a script changes nothing.
 #[derive(Clone, Copy, Debug, PartialEq, Eq)]
@@ -57,11 +58,12 @@ impl Respond for Session {
     fn answer_line<O: Sink, L: Ledger>(
         &mut self,
         alloc: Global,
+        commands: &mut CommandReader,
         line: &[u8],
         out: &mut O,
         steps: &mut Steps<L>,
     ) -> Result<(), Stop> {
-        let reply = reply_to(alloc, self, line, steps)?;
+        let reply = reply_to(alloc, self, commands, line, steps)?;
         reply.write(out, self.metrics())?;
         Ok(())
     }
@@ -72,6 +74,7 @@ impl Respond for Session {
 pub fn reply_to<L: Ledger>(
     alloc: Global,
     session: &mut Session,
+    commands: &mut CommandReader,
     line: &[u8],
     steps: &mut Steps<L>,
 ) -> Result<Reply, Memory>
@@ -84,7 +87,7 @@ pub fn reply_to<L: Ledger>(
     if is_white_space(line) {
         return Ok(Reply::Nothing);
     }
-    match read_command(alloc, line) {
+    match commands.read(alloc, line) {
         Ok(command) => carry_out(alloc, session, command, steps),
         Err(CommandRefusal::BadLine) => Ok(Reply::Refused(Cause::NoCommand)),
         Err(CommandRefusal::Memory) => Err(Memory),

@@ -12,6 +12,7 @@ use crate::answer::Answer;
 use crate::copying::put;
 use crate::growing::text_of;
 use crate::kept_reply::KeptReply;
+use command_reader::CommandReader;
 use commands::{Refusal, Reply, history, open};
 use edit_ring::{Ring, RingRefusal};
 use edit_session::Session;
@@ -117,7 +118,13 @@ impl Desk {
         ensures taken { OnOk result (self.new ≡ after self.old line.now) }
         ensures unchanged { OnErr result (self.new ≡ self.old) }
     {
-        let reply = history::reply_to(alloc, &mut self.ring, line, &mut Steps::<L>::new(blank))?;
+        let reply = history::reply_to(
+            alloc,
+            &mut self.ring,
+            &mut CommandReader::make(alloc),
+            line,
+            &mut Steps::<L>::new(blank),
+        )?;
         self.reply = KeptReply::Line(reply);
         self.text = None;
         Ok(())
