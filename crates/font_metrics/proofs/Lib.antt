@@ -2,6 +2,7 @@ pub mod Digits
 pub mod Names
 pub mod Tables
 pub mod Listed
+mod Copies
 pub mod Cuts
 pub mod Steps
 pub mod Pairs

@@ -9,7 +9,7 @@ pub mod Printed
 pub mod Fields
 pub mod FieldWords
 mod Taking
-mod Tables
-mod Following
+pub mod Tables
+pub mod Following
 mod Growing
 pub mod Whole

@@ -1,10 +1,12 @@
-ghost use Rattle.std.specs.Prelude.{◌≡◌, []};
+ghost use Rattle.std.specs.Prelude.{◌≡◌, [], IfOk};
 ghost use Rattle.font_metrics.specs.Metrics.{along, items_of};
 ghost use Rattle.font_metrics.specs.Reading.{taken_along};
 ghost use Rattle.font_metrics.specs.Reads.{Takes};
 
 use crate::by_glyph::ByGlyph;
+use crate::copy::Copied;
 use crate::refusal::LineRefusal;
+use fixed_units::Memory;
 use op_dictionary::Axis;
 use std::alloc::Global;
 use std::marker::Model;
@@ -65,5 +67,17 @@ impl<T: Copy> ByAxis<T> {
             Axis::Block => self.block.take(alloc, most, place, item),
             Axis::Inline => self.inline.take(alloc, most, place, item),
         }
+    }
+}
+
+impl<T: Copied> ByAxis<T> {
+    /// The same items again.
+    pub fn copy(&self, alloc: Global) -> Result<ByAxis<T>, Memory>
+        ensures { IfOk result (λ copied. copied ≡ self.now) }
+    {
+        Ok(ByAxis {
+            block: self.block.copy(alloc)?,
+            inline: self.inline.copy(alloc)?,
+        })
     }
 }

@@ -1,8 +1,9 @@
-ghost use Rattle.std.specs.Prelude.{◌≡◌, true, [], ◌∷◌, ◌++◌, OnOk};
+ghost use Rattle.std.specs.Prelude.{◌≡◌, true, [], ◌∷◌, ◌++◌, IfOk, OnOk};
 ghost use Rattle.font_metrics.specs.Metrics.{items_of, with_item};
 ghost use Rattle.font_metrics.specs.Reading.{taken_into};
 ghost use Rattle.font_metrics.specs.Reads.{Takes};
 
+use crate::copy::{Copied, copied_items};
 use crate::fault::LineFault;
 use crate::refusal::LineRefusal;
 use fixed_units::Memory;
@@ -88,5 +89,18 @@ impl<T: Drop> ByGlyph<T> {
             }
         }
         Ok(())
+    }
+}
+
+impl<T: Copied> ByGlyph<T> {
+    /// The same items again.
+    pub fn copy(&self, alloc: Global) -> Result<ByGlyph<T>, Memory>
+        ensures { IfOk result (λ copied. copied ≡ self.now) }
+    {
+        let mut lists = BTreeMap::new(alloc);
+        for (place, items) in self.items.iter() {
+            lists.insert(*place, copied_items(alloc, items.as_slice())?)?;
+        }
+        Ok(ByGlyph { items: lists })
     }
 }

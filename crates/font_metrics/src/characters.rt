@@ -1,4 +1,4 @@
-ghost use Rattle.std.specs.Prelude.{◌≡◌, [], OnOk, OnErr};
+ghost use Rattle.std.specs.Prelude.{◌≡◌, [], IfOk, OnOk, OnErr};
 ghost use Rattle.std.specs.BTreeMap.{insert_entry};
 ghost use Rattle.std.specs.Ordering.{nat_cmp};
 ghost use Rattle.font_metrics.specs.Metrics.{place_of_code};
@@ -31,6 +31,15 @@ impl CharacterMap {
         CharacterMap {
             places: BTreeMap::new(alloc),
         }
+    }
+
+    /// The same characters again.
+    pub fn copy(&self) -> Result<CharacterMap, Memory>
+        ensures { IfOk result (λ copied. copied ≡ self.now) }
+    {
+        Ok(CharacterMap {
+            places: self.places.clone()?,
+        })
     }
 
     /// The place that the character was given.

@@ -1,4 +1,4 @@
-ghost use Rattle.std.specs.Prelude.{◌≡◌, [], OnOk, OnErr, nat_eq};
+ghost use Rattle.std.specs.Prelude.{◌≡◌, [], IfOk, OnOk, OnErr, nat_eq};
 ghost use Rattle.std.specs.BTreeMap.{insert_entry};
 ghost use Rattle.std.specs.Map.{lookup};
 ghost use Rattle.std.specs.Ordering.{nat_cmp};
@@ -31,6 +31,15 @@ impl ConstantTable {
         ConstantTable {
             values: BTreeMap::new(alloc),
         }
+    }
+
+    /// The same constants again.
+    pub fn copy(&self) -> Result<ConstantTable, Memory>
+        ensures { IfOk result (λ copied. copied ≡ self.now) }
+    {
+        Ok(ConstantTable {
+            values: self.values.clone()?,
+        })
     }
 
     /// The value that the constant at the place was given.

@@ -1,4 +1,4 @@
-ghost use Rattle.std.specs.Prelude.{◌≡◌, ◌<◌, ◌≤◌, [], ◌∷◌, ◌++◌, length, None, Some, option_map, OnOk, OnErr};
+ghost use Rattle.std.specs.Prelude.{◌≡◌, ◌<◌, ◌≤◌, [], ◌∷◌, ◌++◌, length, None, Some, option_map, IfOk, OnOk, OnErr};
 ghost use Rattle.font_metrics.specs.Metrics.{place_of_name, glyph_in_list, name_in_list};
 ghost use Rattle.font_metrics.specs.Kept.{named_glyph};
 
@@ -33,6 +33,15 @@ impl GlyphTable {
         GlyphTable {
             measures: IndexMap::new(alloc),
         }
+    }
+
+    /// The same glyphs again.
+    pub fn copy(&self) -> Result<GlyphTable, Memory>
+        ensures { IfOk result (λ copied. copied ≡ self.now) }
+    {
+        Ok(GlyphTable {
+            measures: self.measures.clone()?,
+        })
     }
 
     /// How many glyphs there are.

@@ -9,7 +9,8 @@
 //! - Proved: `read_metrics` answers `metrics_of` (`specs/Reading.antt`), exactly, or that memory
 //!   was refused; each accessor is its definition in `specs/Metrics.antt`, exactly; numbers stay
 //!   within the bounds of `specs/Taken.antt`; `print` is `print_of` (`specs/Print.antt`), and
-//!   reading it gives the same metrics (`laws`). `read_metrics` and `print` alone take memory.
+//!   reading it gives the same metrics (`laws`). `read_metrics`, `print` and
+//!   `copy` alone take memory.
 //! - Knows nothing of: trees, styles, layout.
 //! - Laws (`specs/Laws.antt`): metrics are what the lines say, each behind those before it; the
 //!   first fault is told; whatever is given is in its range. Bounds for crates above:
@@ -28,6 +29,7 @@ mod characters; // CharacterMap
 mod choices; // words of a small choice: FIX, prefix, block, A
 mod constant_table; // ConstantTable
 mod constants; // ConstName
+mod copy; // Metrics::copy
 mod corner; // Corner
 mod fault; // LineFault
 mod given; // Given: what lines have given so far

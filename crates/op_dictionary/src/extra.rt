@@ -1,4 +1,4 @@
-ghost use Rattle.std.specs.Prelude.{◌≡◌, [], ◌∷◌, ◌++◌, ◌<◌, length, slice_get, Some, OnOk, OnErr, false};
+ghost use Rattle.std.specs.Prelude.{◌≡◌, [], ◌∷◌, ◌++◌, ◌<◌, length, slice_get, Some, IfOk, OnOk, OnErr, false};
 ghost use Rattle.op_dictionary.specs.Dictionary.{is_named, line_category, line_axis, AreDistinct};
 ghost use Rattle.op_dictionary.specs.Pairs.{IsLineText};
 ghost use Rattle.op_dictionary.specs.Kept.{AddsAxis};
@@ -89,6 +89,16 @@ impl Extra {
         self.lines
             .insert(Pair { text, form }, Listing { category, axis })?;
         Ok(())
+    }
+
+    /// The same lines again.
+    pub fn copy(&self) -> Result<Extra, Memory>
+        ensures { IfOk result (λ copied. copied ≡ self.now) }
+    {
+        Ok(Extra {
+            lines: self.lines.clone()?,
+            axes: self.axes.clone()?,
+        })
     }
 
     /// Whether a line names the pair of the text and the form.

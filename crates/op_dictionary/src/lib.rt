@@ -9,7 +9,7 @@
 //!   (also where an infix vertical bar or tilde operator is `Default`).
 //! - Proved: the three look-ups are `category_of`, `axis_of` (`specs/Dictionary.antt`) and
 //!   `properties_of` (`specs/BuiltIn.antt`), exactly; the dictionary is a set of triples with one
-//!   category for a text in a form (`laws`). `Extra::add` alone takes memory.
+//!   category for a text in a form (`laws`). `Extra::add` and `Extra::copy` alone take memory.
 //! - Knows nothing of: fonts, trees, attributes of elements.
 //! - Change a row: `specs/BuiltIn.antt`, then `src/built_in.rt`, then `rt check`.
 #![tactic(auto)]

@@ -35,7 +35,7 @@ fn unasked<'a>(alloc: Global, count: usize, nothing: &'a Answer) -> Result<Vec<&
 {
     let mut kids = Vec::with_capacity(alloc, count)?;
     for _ in 0..count {
-        kids.push(nothing)?;
+        kids.push_reserved(nothing);
     }
     Ok(kids)
 }

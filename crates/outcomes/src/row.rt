@@ -1,9 +1,10 @@
-ghost use Rattle.std.specs.Prelude.{◌≡◌, ◌+◌, ◌^◌, pos, slice_index_or, IfOk};
+ghost use Rattle.std.specs.Prelude.{◌≡◌, ◌≤◌, ◌+◌, ◌^◌, pos, ◌+ℤ◌, length, slice_index_or, IfOk};
 ghost use Rattle.std.specs.List.{All};
 ghost use Rattle.fixed_units.specs.Boxes.{IsBoxWithin};
 ghost use Rattle.fixed_units.specs.Numbers.{IsWithin};
+ghost use Rattle.fixed_units.specs.Sums.{list_to};
 ghost use Rattle.embellished.specs.Seen.{seen_of};
-ghost use Rattle.layout_model.specs.Elements.{along, font, row_frame, row_in, row_x, shows_spaces};
+ghost use Rattle.layout_model.specs.Elements.{along, font, offset, row_frame, row_in, row_x, shows_spaces};
 ghost use Rattle.layout_model.specs.Equations.{cell_outcome, error_outcome, root_sign_over, row_outcome, square_root_outcome};
 ghost use Rattle.layout_model.specs.Rows.{error_of};
 ghost use Rattle.radicals.specs.Equation.{IsRootBox};
@@ -133,6 +134,25 @@ pub fn along<V: View>(
     requires start { IsWithin (2 ^ 62) start }
     ensures { IfOk result (λ offsets. offsets ≡ along e.now row.now start y) }
 {
+    if e.context().style.rtl || row.offsets.len() != e.count() {
+        return along_by_places(alloc, e, row, start, y);
+    }
+    along_offsets(alloc, row.offsets.as_slice(), start, y)
+}
+
+/// The same, where each child is looked up.
+fn along_by_places<V: View>(
+    alloc: Global,
+    e: &Element<V>,
+    row: &Row,
+    start: i64,
+    y: i64,
+) -> Result<List<Offset>, Memory>
+    requires width { IsWithin (2 ^ 50) row.now.frame.width }
+    requires offsets { All (IsWithin (2 ^ 61)) row.now.offsets }
+    requires start { IsWithin (2 ^ 62) start }
+    ensures { IfOk result (λ offsets. offsets ≡ along e.now row.now start y) }
+{
     let mut offsets = List::with_room(alloc, e.count())?;
     for index in 0..e.count() {
         offsets.push(Offset {
@@ -142,6 +162,31 @@ pub fn along<V: View>(
         })?;
     }
     Ok(offsets)
+}
+
+/// Children so far behind a start, from left to right.
+fn along_offsets(
+    alloc: Global,
+    offsets: &[i64],
+    start: i64,
+    y: i64,
+) -> Result<List<Offset>, Memory>
+    requires few { length offsets.now ≤ 65_535 }
+    requires offsets { All (IsWithin (2 ^ 61)) offsets.now }
+    requires start { IsWithin (2 ^ 62) start }
+    ensures { IfOk result (λ places. places ≡ list_to (length offsets.now)
+        (λ kid. offset kid (start +ℤ slice_index_or offsets.now kid (pos 0)) y)) }
+{
+    let count = offsets.len();
+    let mut places = Vec::with_capacity(alloc, count)?;
+    for index in 0..count {
+        places.push_reserved(Offset {
+            kid: index as u32,
+            x: start + offsets[index],
+            y,
+        });
+    }
+    Ok(List::from(places))
 }
 
 /// Where a child begins in a row, in the direction of the element.

@@ -16,14 +16,14 @@ pub fn row_finish<K: RowKids>(alloc: Global, kids: &K, spaces: bool) -> Result<R
     ensures { IfOk result (λ row. row ≡ row_of spaces (K.kids kids.now)) }
 {
     let count = kids.kid_count();
-    let mut offsets = List::with_room(alloc, count)?;
+    let mut offsets = Vec::with_capacity(alloc, count)?;
     let mut at = 0;
     let mut italic = 0;
     let mut all = EMPTY;
     for place in 0..count {
         let kid = kids.kid_at(place);
         at += ahead(&kid, italic, spaces);
-        offsets.push(at)?;
+        offsets.push_reserved(at);
         at += advance(&kid, spaces);
         italic = kid.frame.italic;
         all = with_kid(&all, place, &kid);
@@ -39,6 +39,6 @@ pub fn row_finish<K: RowKids>(alloc: Global, kids: &K, spaces: bool) -> Result<R
             italic,
             accent,
         },
-        offsets,
+        offsets: List::from(offsets),
     })
 }

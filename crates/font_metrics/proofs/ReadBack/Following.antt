@@ -79,7 +79,8 @@ length-front xs front x back e =
     let whole : length xs ≡ length front + length (x ∷ back) = ap length (sym e) ∙ length-append front (x ∷ back) in
     omega arith
 
-sorted-middle : {X : Type 0} (es front : List (ℕ × X)) (e : ℕ × X) (back : List (ℕ × X)) → front ++ e ∷ back ≡ es
+-- what stands before an entry of an ordered list
+pub sorted-middle : {X : Type 0} (es front : List (ℕ × X)) (e : ℕ × X) (back : List (ℕ × X)) → front ++ e ∷ back ≡ es
     → IsStrictlySortedBy nat_cmp (keys_of es)
     → AreBelow e.0 front
 sorted-middle es front e back same h =

@@ -1,6 +1,5 @@
-use Rattle.std.proofs.Common.{rules, ◌≡◌, List, ◌∙◌, refl, sym, subst, ap, ◌<◌, add-one, length, map, take, arith, w64, to_z, of_z, ℕ, ℤ, ◌+ℤ◌}
+use Rattle.std.proofs.Common.{rules, ◌≡◌, List, ◌∙◌, refl, sym, subst, ap, ◌<◌, add-one, length, map, take, arith, w64, to_z, of_z, ℕ, ◌+ℤ◌}
 use Rattle.std.proofs.Math.Seq.{take-length}
-use Rattle.std.proofs.lemmas.Int.{to_z-of_z}
 use Rattle.fixed_units.specs.Boxes.{all_joined}
 use Rattle.fixed_units.specs.Sums.{list_to}
 use Rattle.fixed_units.proofs.Signed.{signed}
@@ -26,7 +25,16 @@ advance_is : (g : _) (c : After-advance-at g) → c.advance-at.result ≡ advanc
 advance_is g c = c.advance-at.ensures ∙ ap (advance_of c.args.spaces) c.kid_at-kid.ensures
 
 pub loop-place-init : goal.loop-place-init
-loop-place-init g c = record { offsets = (c.in_ok-offsets.ensures {u = tt}) ∙ sym (list_to-zero _); at = sym (room_of-zero _ _); italic = refl; all = refl }
+loop-place-init g c =
+    let made = c.in_ok-offsets.ensures {u = tt} in
+    record {
+      offsets = made.items ∙ sym (list_to-zero _);
+      len = made.len;
+      room = made.exact;
+      at = sym (room_of-zero _ _);
+      italic = refl;
+      all = refl;
+    }
 
 pub overflow_add-at : goal.overflow_add-at
 overflow_add-at g c =
@@ -36,6 +44,9 @@ overflow_add-at g c =
     let ahead = ahead_at_in c.args.spaces kids _ l c.requires.fit in
     let room = room_of_in c.args.spaces kids c.loop-place.place (omega (arith, l)) c.requires.fit in
     omega (arith, signed)
+
+pub push_reserved-requires : goal.push_reserved-requires
+push_reserved-requires g c = omega (arith, c.loop-place-test.true, c.loop-place.invariant.len, c.loop-place.invariant.room)
 
 pub advance-at-requires : goal.advance-at-requires
 advance-at-requires g c =
@@ -69,7 +80,9 @@ loop-place-preserved g c =
     omega (arith, signed, offset_of-is s kids i) in
     let italic = (kid_stored kids i l c.requires.fit).frame.italic in
     record {
-      offsets = let pushed = (c.in_ok-push.ensures {u = tt}).ok in let more = list_to-add_one i (offset_of s kids) in cc;
+      offsets = let pushed = c.push_reserved.ensures.items in let more = list_to-add_one i (offset_of s kids) in cc;
+      len = omega (arith, c.push_reserved.ensures.len, c.loop-place.invariant.len);
+      room = c.push_reserved.ensures.capacity ∙ c.loop-place.invariant.room;
       at = omega (arith, signed, room_of-add_one s kids i);
       italic =
           let same = ap (λ (k : RowKid). k.frame.italic) c.kid_at-kid.ensures in
@@ -90,7 +103,7 @@ returns g c =
     let italic = c.loop-place.invariant.italic ∙ ap (italic_before kids) end in
     let all : c.loop-place.all ≡ all_joined (map frame_of_kid kids) =
     c.loop-place.invariant.all ∙ ap (λ (n : ℕ). all_joined (map frame_of_kid (take n kids))) end ∙ ap (λ (l : List RowKid). all_joined (map frame_of_kid l)) (take-length kids) in
-    let offsets : c.loop-place.offsets ≡ list_to (length kids) (offset_of s kids) =
+    let offsets : c.loop-place.offsets.items ≡ list_to (length kids) (offset_of s kids) =
     c.loop-place.invariant.offsets ∙ ap (λ (n : ℕ). list_to n (offset_of s kids)) end in
     let accent = c.accent-accent.ensures in
     search rules

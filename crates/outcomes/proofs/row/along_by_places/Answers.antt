@@ -4,7 +4,7 @@ use Rattle.fixed_units.proofs.Within.{sum_in}
 use Rattle.font_metrics.proofs.Scaling.{back64, within64}
 use Rattle.layout_model.specs.Elements.{along_row, offset, row_x}
 use Rattle.outcomes.proofs.Lists.{pushed_next}
-use Rattle.outcomes.proofs.row.along.Goals as goal
+use Rattle.outcomes.proofs.row.along_by_places.Goals as goal
 
 pub loop-index-init : goal.loop-index-init
 loop-index-init g c = (c.in_ok-offsets.ensures {u = tt}) ∙ sym (list_to-zero _)

@@ -1,7 +1,7 @@
 use Rattle.std.proofs.Common.{◌≡◌}
 use Rattle.fixed_units.specs.Sums.{list_to}
 use Rattle.layout_model.specs.Elements.{along_row}
-use Rattle.outcomes.proofs.row.along.Given as goal
+use Rattle.outcomes.proofs.row.along_by_places.Given as goal
 
 -- the children so far
 abbrev pub invariant-loop-index : goal.invariant-loop-index

@@ -1,0 +1,120 @@
+// Metrics again, in memory of their own.
+ghost use Rattle.std.specs.Prelude.{◌≡◌, IfOk};
+
+use crate::given::Given;
+use crate::growth::{Part, Variant};
+use crate::kern::Kern;
+use crate::kern_tables::KernTables;
+use crate::metrics::Metrics;
+use crate::table::Tables;
+use fixed_units::Memory;
+use op_dictionary::Extra;
+use std::alloc::Global;
+
+/// What a glyph has in a table: it can be made again.
+pub trait Copied: Drop {
+    /// The same again.
+    fn copied(&self, alloc: Global) -> Result<Self, Memory>
+        ensures { IfOk result (λ copied. copied ≡ self.now) };
+}
+
+impl Copied for Variant {
+    fn copied(&self, _alloc: Global) -> Result<Variant, Memory> {
+        Ok(*self)
+    }
+}
+
+impl Copied for Part {
+    fn copied(&self, _alloc: Global) -> Result<Part, Memory> {
+        Ok(*self)
+    }
+}
+
+impl Copied for Kern {
+    fn copied(&self, alloc: Global) -> Result<Kern, Memory> {
+        Ok(Kern {
+            lowest: self.lowest,
+            steps: self.steps.copy(alloc)?,
+        })
+    }
+}
+
+/// The same items again.
+pub fn copied_items<T: Copied>(alloc: Global, items: &[T]) -> Result<Vec<T>, Memory>
+    ensures { IfOk result (λ copied. copied.items ≡ items.now) }
+{
+    let mut copied = Vec::with_capacity(alloc, items.len())?;
+    for item in items {
+        copied.push(item.copied(alloc)?)?;
+    }
+    Ok(copied)
+}
+
+impl KernTables {
+    /// The same kerns again.
+    pub fn copy(&self, alloc: Global) -> Result<KernTables, Memory>
+        ensures { IfOk result (λ copied. copied ≡ self.now) }
+    {
+        Ok(KernTables {
+            top_right: self.top_right.copy(alloc)?,
+            top_left: self.top_left.copy(alloc)?,
+            bottom_right: self.bottom_right.copy(alloc)?,
+            bottom_left: self.bottom_left.copy(alloc)?,
+        })
+    }
+}
+
+impl Tables {
+    /// The same tables again.
+    pub fn copy(&self, alloc: Global) -> Result<Tables, Memory>
+        ensures { IfOk result (λ copied. copied ≡ self.now) }
+    {
+        Ok(Tables {
+            variants: self.variants.copy(alloc)?,
+            parts: self.parts.copy(alloc)?,
+            kerns: self.kerns.copy(alloc)?,
+        })
+    }
+}
+
+impl Given {
+    /// The same again.
+    pub fn copy(&self, alloc: Global) -> Result<Given, Memory>
+        ensures { IfOk result (λ copied. copied ≡ self.now) }
+    {
+        Ok(Given {
+            version: self.version,
+            upem: self.upem,
+            line: self.line,
+            x_height: self.x_height,
+            overlap: self.overlap,
+            constants: self.constants.copy()?,
+            glyphs: self.glyphs.copy()?,
+            characters: self.characters.copy()?,
+            tables: self.tables.copy(alloc)?,
+            operators: copied_lines(&self.operators)?,
+        })
+    }
+}
+
+/// The same operator lines again.
+fn copied_lines(lines: &Extra) -> Result<Extra, Memory>
+    ensures { IfOk result (λ copied. copied ≡ lines.now) }
+{
+    match lines.copy() {
+        Ok(copied) => Ok(copied),
+        Err(_) => Err(Memory),
+    }
+}
+
+impl Metrics {
+    /// The same metrics again, in memory of their own.
+    pub fn copy(&self, alloc: Global) -> Result<Metrics, Memory>
+        ensures { IfOk result (λ copied. copied ≡ self.now) }
+    {
+        Ok(Metrics {
+            needs: self.needs,
+            given: self.given.copy(alloc)?,
+        })
+    }
+}
