@@ -1,4 +1,4 @@
-ghost use Rattle.std.specs.Prelude.{◌≡◌};
+ghost use Rattle.std.specs.Prelude.{◌≡◌, ◌<◌, ◌^◌, true};
 ghost use Rattle.std.specs.List.{list_all};
 ghost use Rattle.fixed_units.specs.Boxes.{is_stored};
 ghost use Rattle.layout_model.specs.Range.{answer_fits, mark_fits, offset_fits, outcome_fits, span_fits};
@@ -51,7 +51,33 @@ fn span_fits(span: &CellSpan) -> bool
 fn offsets_fit(offsets: &[Offset]) -> bool
     ensures { result ≡ list_all offset_fits offsets.now }
 {
-    offsets.iter().all(|offset| offset_fits(offset))
+    are_inside(offsets) || offsets.iter().all(|offset| offset_fits(offset))
+}
+
+/// Whether the bits of all offsets together tell that each can be stored.
+fn are_inside(offsets: &[Offset]) -> bool
+    ensures { result ≡ true → list_all offset_fits offsets.now ≡ true }
+{
+    let mut bits = 0u64;
+    for offset in offsets {
+        bits |= bits_of(offset);
+    }
+    bits < 1 << 31
+}
+
+/// The bits of both numbers of an offset together.
+#[tactic(auto, unfolding(layout_model::specs::Range::offset_fits))]
+fn bits_of(offset: &Offset) -> u64
+    ensures { result < 2 ^ 31 → offset_fits offset.now ≡ true }
+{
+    raised(offset.x) | raised(offset.y)
+}
+
+/// A number raised by 2^30, in bits: where none above the lowest 31 is set, it can be stored.
+fn raised(number: i64) -> u64
+    ensures { result < 2 ^ 31 → is_stored number ≡ true }
+{
+    number.cast_unsigned().wrapping_add(1 << 30)
 }
 
 fn marks_fit(marks: &[Mark]) -> bool

@@ -165,12 +165,7 @@ fn along_by_places<V: View>(
 }
 
 /// Children so far behind a start, from left to right.
-fn along_offsets(
-    alloc: Global,
-    offsets: &[i64],
-    start: i64,
-    y: i64,
-) -> Result<List<Offset>, Memory>
+fn along_offsets(alloc: Global, offsets: &[i64], start: i64, y: i64) -> Result<List<Offset>, Memory>
     requires few { length offsets.now ≤ 65_535 }
     requires offsets { All (IsWithin (2 ^ 61)) offsets.now }
     requires start { IsWithin (2 ^ 62) start }
