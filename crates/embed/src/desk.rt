@@ -35,6 +35,8 @@ pub struct Desk {
     reply: KeptReply,
     /// The bytes of the reply, once they were asked for.
     text: Option<List<u8>>,
+    /// What reads the commands among the lines.
+    commands: CommandReader,
 }
 
 impl Model for Desk {
@@ -94,6 +96,7 @@ impl Desk {
             ring,
             reply: KeptReply::Line(Reply::Nothing),
             text: None,
+            commands: CommandReader::make(alloc),
         })
     }
 
@@ -121,7 +124,7 @@ impl Desk {
         let reply = history::reply_to(
             alloc,
             &mut self.ring,
-            &mut CommandReader::make(alloc),
+            &mut self.commands,
             line,
             &mut Steps::<L>::new(blank),
         )?;
