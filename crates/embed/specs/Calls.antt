@@ -1,5 +1,5 @@
 -- How each call ends: what the answer says, and what is changed with it.
-use Rattle.std.specs.Prelude.{◌≡◌, ◌≢◌, ◌<◌, ℕ, ℤ, List, length, take, drop, Option, Some, None, Result, Ok, Err}
+use Rattle.std.specs.Prelude.{◌≡◌, ◌≢◌, ◌<◌, ◌≤◌, ℕ, ℤ, List, length, take, drop, Option, Some, None, Result, Ok, Err}
 use Rattle.doc_io.specs.LineReader.{longest_line}
 use Rattle.font_metrics.specs.Metrics.{MetricsValue}
 use Rattle.edit_ring.specs.declared.ring.RingRefusal.{RingRefusal}
@@ -49,16 +49,20 @@ Puts text old new told answer = ⊥
 abbrev pub refusal_room : ℕ
 refusal_room = 160
 
+-- the buffer of a refusal holds the line of each
+abbrev pub HasRoom : {Kept : Type 0} → Seen Kept → Type 0
+HasRoom old = refusal_room ≤ length old.bytes
+
 -- a session over these bytes is opened in a closed handle, or why not; a refusal is told in a line
 abbrev pub Opens : List ℕ → List ℕ → Seen DeskValue → Seen DeskValue → Answer → Type 0
 Opens metrics tree old new Done =
-    (old.kept ≡ None) × (desk : DeskValue) × IsOpened metrics tree desk
+    HasRoom old × (old.kept ≡ None) × (desk : DeskValue) × IsOpened metrics tree desk
     × (new ≡ record old { kept = Some desk })
 Opens metrics tree old new (Refused refusal) =
-    (old.kept ≡ None) × (refusal ≢ NoMemory → opened metrics tree ≡ Err refusal)
+    HasRoom old × (old.kept ≡ None) × (refusal ≢ NoMemory → opened metrics tree ≡ Err refusal)
     × (new.kept ≡ old.kept) × Copies (line_of refusal) old.bytes new.bytes new.told
 Opens metrics tree old new Memory = ⊥
-Opens metrics tree old new Open = (old.kept ≢ None) × (new ≡ old)
+Opens metrics tree old new Open = HasRoom old × (old.kept ≢ None) × (new ≡ old)
 Opens metrics tree old new Short = (length old.bytes < refusal_room) × (new ≡ old)
 Opens metrics tree old new LineLong = ⊥
 Opens metrics tree old new Closed = ⊥
@@ -67,12 +71,12 @@ Opens metrics tree old new Nothing = ⊥
 -- the metrics of these bytes are kept in a closed handle, or why not; a refusal is told in a line
 abbrev pub Reads : List ℕ → Seen MetricsValue → Seen MetricsValue → Answer → Type 0
 Reads bytes old new Done =
-    (old.kept ≡ None) × (metrics : MetricsValue) × (metrics_in bytes ≡ Ok metrics)
+    HasRoom old × (old.kept ≡ None) × (metrics : MetricsValue) × (metrics_in bytes ≡ Ok metrics)
     × (new ≡ record old { kept = Some metrics })
 Reads bytes old new (Refused refusal) =
-    (old.kept ≡ None) × (refusal ≢ NoMemory → metrics_in bytes ≡ Err refusal)
+    HasRoom old × (old.kept ≡ None) × (refusal ≢ NoMemory → metrics_in bytes ≡ Err refusal)
     × (new.kept ≡ old.kept) × Copies (line_of refusal) old.bytes new.bytes new.told
-Reads bytes old new Open = (old.kept ≢ None) × (new ≡ old)
+Reads bytes old new Open = HasRoom old × (old.kept ≢ None) × (new ≡ old)
 Reads bytes old new Short = (length old.bytes < refusal_room) × (new ≡ old)
 Reads bytes old new answer = ⊥
 
@@ -81,13 +85,15 @@ Reads bytes old new answer = ⊥
 abbrev pub Starts : Option MetricsValue → List ℕ → Seen DeskValue → Seen DeskValue → Answer
     → Type 0
 Starts font tree old new Done =
-    (old.kept ≡ None) × (desk : DeskValue) × Keeps font (λ metrics. IsStarted metrics tree desk)
+    HasRoom old × (old.kept ≡ None) × (desk : DeskValue)
+    × Keeps font (λ metrics. IsStarted metrics tree desk)
     × (new ≡ record old { kept = Some desk })
 Starts font tree old new (Refused refusal) =
-    (old.kept ≡ None)
+    HasRoom old × (old.kept ≡ None)
     × Keeps font (λ metrics. refusal ≢ NoMemory → opened_over metrics tree ≡ Err refusal)
     × (new.kept ≡ old.kept) × Copies (line_of refusal) old.bytes new.bytes new.told
-Starts font tree old new Open = (font ≢ None) × (old.kept ≢ None) × (new ≡ old)
+Starts font tree old new Open =
+    (font ≢ None) × HasRoom old × (old.kept ≢ None) × (new ≡ old)
 Starts font tree old new Closed = (font ≡ None) × (new ≡ old)
 Starts font tree old new Short =
     (font ≢ None) × (length old.bytes < refusal_room) × (new ≡ old)

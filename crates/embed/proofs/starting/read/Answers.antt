@@ -6,6 +6,7 @@ use Rattle.embed.proofs.starting.read.Goals as goal
 pub returns-in-Ok : goal.returns-in-Ok
 returns-in-Ok c =
     let shut : c.has_metrics.result ≡ false = search (rules, tests) in (
+      search rules,
       c.has_metrics.ensures.none shut,
       c.in-Ok.metrics.value,
       c.in-Ok.ensures.read,
