@@ -4,13 +4,14 @@
    replies are those of `mathlay history 1000`: docs/FORMATS.md has them all. docs/EMBEDDING.md shows the calls by example.
 
    What a caller owes, and nobody checks:
-   1. A session starts as MATHLAY_CLOSED, and then the calls alone write it. It is never copied, except as a move after
-      which the old one isn't used.
+   1. A session starts as MATHLAY_CLOSED, and so do metrics; then the calls alone write them. They are never copied, except
+      as a move after which the old one isn't used.
    2. No pointer is null, even with a length of 0; each points to as many bytes as its length says, of which those that
       are read have a value; what a call writes overlaps no other argument.
-   3. One call at a time on a session, and none from a signal handler.
-      A session may go from thread to thread, if a lock, a thread's start or its end orders the calls.
-      Sessions share nothing: different ones may be used by different threads at the same time. */
+   3. One call at a time on a session, and on metrics, and none from a signal handler.
+      Both may go from thread to thread, if a lock, a thread's start or its end orders the calls.
+      Sessions share nothing, even if they were started with the same metrics: different ones may be used by different
+      threads at the same time. */
 #ifndef MATHLAY_H
 #define MATHLAY_H
 
@@ -26,7 +27,13 @@ typedef struct mathlay_session {
     void *at;
 } mathlay_session;
 
-/* How a session starts: `mathlay_session session = MATHLAY_CLOSED;`. One in memory of the heap is started by
+/* The metrics of a font, read once for any number of sessions; or none, as long as they are closed. What `at` points to is the
+   library's own. */
+typedef struct mathlay_metrics {
+    void *at;
+} mathlay_metrics;
+
+/* How both start: `mathlay_session session = MATHLAY_CLOSED;`. One in memory of the heap is started by
    `*session = (mathlay_session)MATHLAY_CLOSED;`. */
 #define MATHLAY_CLOSED { NULL }
 
@@ -40,8 +47,8 @@ enum mathlay_answer {
     MATHLAY_LINE_LONG = 9, /* the line has more than 1,048,576 bytes */
     MATHLAY_NODE = 10,     /* no element in flow has this number */
     MATHLAY_PAINT = 11,    /* more would be painted than may be */
-    MATHLAY_OPEN = 32,     /* the session is open already */
-    MATHLAY_NOT_OPEN = 33, /* the session is closed */
+    MATHLAY_OPEN = 32,     /* the session is open already, or the metrics are read */
+    MATHLAY_NOT_OPEN = 33, /* the session is closed, or the metrics are */
     MATHLAY_SHORT = 34,    /* the buffer is too short */
     MATHLAY_NOTHING = 35   /* no box holds the point, or there is nothing to undo or redo */
 };
@@ -66,6 +73,18 @@ typedef struct mathlay_frame {
    both are as before. With room for fewer than MATHLAY_REFUSAL_ROOM bytes nothing is done, and the answer is MATHLAY_SHORT. */
 uint32_t mathlay_open(const uint8_t *metrics, size_t metrics_len, const uint8_t *tree, size_t tree_len,
                       mathlay_session *session, uint8_t *refusal, size_t refusal_room, size_t *refusal_len);
+
+/* Reads the bytes of a metrics file into closed metrics. What is wrong with them is told as mathlay_open tells it. */
+uint32_t mathlay_read(const uint8_t *metrics, size_t metrics_len, mathlay_metrics *font,
+                      uint8_t *refusal, size_t refusal_room, size_t *refusal_len);
+
+/* Opens a closed session as mathlay_open does, over the bytes of a tree file and a copy of metrics that were read before.
+   The metrics stay as they are, whatever the answer is. Where they are closed, it is MATHLAY_NOT_OPEN. */
+uint32_t mathlay_start(mathlay_metrics *font, const uint8_t *tree, size_t tree_len, mathlay_session *session,
+                       uint8_t *refusal, size_t refusal_room, size_t *refusal_len);
+
+/* Frees metrics, if there are any. They are closed then, and may be read again. Sessions that were started with them stay. */
+void mathlay_forget(mathlay_metrics *font);
 
 /* Does what a line of a script asks for. It needs no line feed at its end, nor a zero byte. The reply is kept until the next
    line, show, picture or selection that is done. After MATHLAY_MEMORY the session and its last reply are as before. */

@@ -1,6 +1,6 @@
 """mathlay in Python: formulas that are laid out, edited and laid out again, by the proved library.
 
-    from mathlay import Session
+    from mathlay import Metrics, Session
 
     with Session(metrics_bytes, tree_bytes) as session:
         session.line(b'{"op":"text","node":14,"text":"44"}')    # b'ok\\n'
@@ -8,6 +8,9 @@
         session.root().width                                    # in 1/1024 px
         session.undo()                                          # True: the text is the old one again
         session.paint()                                         # an SVG of the formula
+
+    with Metrics(metrics_bytes) as font:                        # read once for many formulas
+        sessions = [Session(font, tree_bytes) for tree_bytes in trees]
 
 The library is a shared object, `libmathlay.so` (`make library` at the top of the repository). It is looked for in the
 variable MATHLAY_LIBRARY, beside this file, at the top of the repository, where `make install-library` puts it, and where the
@@ -19,11 +22,11 @@ import operator
 import os
 import pathlib
 import threading
-from typing import List, NamedTuple, Optional
+from typing import List, NamedTuple, Optional, Union
 
-__all__ = ["Area", "Frame", "MathlayError", "Refusal", "Session", "library"]
+__all__ = ["Area", "Frame", "MathlayError", "Metrics", "Refusal", "Session", "library"]
 
-DONE, NODE, SHORT, NOTHING = 0, 10, 34, 35
+DONE, NODE, CLOSED, SHORT, NOTHING = 0, 10, 33, 34, 35
 REFUSAL_ROOM = 160
 FARTHEST = 2**62
 
@@ -35,8 +38,8 @@ NAMES = {
     9: "the line has more than 1,048,576 bytes",
     10: "no element in flow has this number",
     11: "more would be painted than may be",
-    32: "the session is open already",
-    33: "the session is closed",
+    32: "the session is open already, or the metrics are read",
+    33: "the session is closed, or the metrics are",
     34: "the buffer is too short",
     35: "no box holds the point, or there is nothing to undo or redo",
 }
@@ -53,7 +56,7 @@ class MathlayError(Exception):
 
 
 class Refusal(MathlayError):
-    """The files give no session."""
+    """The files give no session, or no metrics."""
 
 
 class Frame(NamedTuple):
@@ -126,6 +129,9 @@ def _typed(loaded: ctypes.CDLL) -> ctypes.CDLL:
     told, number = ctypes.POINTER(ctypes.c_size_t), ctypes.c_uint32
     for name, types, result in (
         ("open", [text, size, text, size, handle, text, size, told], ctypes.c_uint32),
+        ("read", [text, size, handle, text, size, told], ctypes.c_uint32),
+        ("start", [handle, text, size, handle, text, size, told], ctypes.c_uint32),
+        ("forget", [handle], None),
         ("line", [handle, text, size], ctypes.c_uint32),
         ("undo", [handle], ctypes.c_uint32),
         ("redo", [handle], ctypes.c_uint32),
@@ -142,25 +148,70 @@ def _typed(loaded: ctypes.CDLL) -> ctypes.CDLL:
     return loaded
 
 
+def _opened(call, *given) -> None:
+    """Makes a call that tells a refusal in a line, and raises what it tells."""
+    line, length = ctypes.create_string_buffer(REFUSAL_ROOM), ctypes.c_size_t()
+    status = call(*given, line, REFUSAL_ROOM, length)
+    if status == CLOSED:
+        raise MathlayError(status)
+    if status != DONE:
+        raise Refusal(status, line.raw[: length.value])
+
+
+class Metrics:
+    """The metrics of a font, read once for any number of sessions. Each session takes a copy, so these may be closed before.
+
+    Calls of several threads on them wait for each other. They can't be copied or pickled.
+    """
+
+    def __init__(self, metrics: bytes) -> None:
+        """Reads a metrics file's bytes, or raises `Refusal`."""
+        metrics = _bytes(metrics, "a metrics file")
+        self._library = library()
+        self._lock = threading.RLock()
+        self._handle = _Handle()
+        _opened(self._library.mathlay_read, metrics, len(metrics), self._handle)
+
+    def _start(self, tree: bytes, session: _Handle) -> None:
+        """Opens a session with a copy of these metrics."""
+        with self._lock:
+            _opened(self._library.mathlay_start, self._handle, tree, len(tree), session)
+
+    def close(self) -> None:
+        """Frees the metrics. Closed ones may be closed again, and start no session: that raises `MathlayError`."""
+        if getattr(self, "_handle", None) is not None:
+            with self._lock:
+                self._library.mathlay_forget(self._handle)
+
+    __del__ = close
+
+    def __reduce__(self):
+        raise TypeError("metrics can't be copied or pickled")
+
+    def __enter__(self) -> "Metrics":
+        return self
+
+    def __exit__(self, *_) -> None:
+        self.close()
+
+
 class Session:
     """A formula that is laid out, and stays laid out under edits, of which the last 1,000 can be undone.
 
     Calls of several threads on one session wait for each other. A session can't be copied or pickled.
     """
 
-    def __init__(self, metrics: bytes, tree: bytes) -> None:
-        """Lays the tree of a JSON text out with a metrics file's bytes, or raises `Refusal`."""
-        metrics, tree = _bytes(metrics, "a metrics file"), _bytes(tree, "a tree file")
+    def __init__(self, metrics: Union[bytes, Metrics], tree: bytes) -> None:
+        """Lays the tree of a JSON text out with a metrics file's bytes, or with metrics; or raises `Refusal`."""
+        is_read = isinstance(metrics, Metrics)
+        metrics, tree = metrics if is_read else _bytes(metrics, "a metrics file"), _bytes(tree, "a tree file")
         self._library = library()
         self._lock = threading.RLock()
         self._handle = _Handle()
-        line = ctypes.create_string_buffer(REFUSAL_ROOM)
-        length = ctypes.c_size_t()
-        status = self._library.mathlay_open(
-            metrics, len(metrics), tree, len(tree), self._handle, line, REFUSAL_ROOM, length
-        )
-        if status != DONE:
-            raise Refusal(status, line.raw[: length.value])
+        if is_read:
+            metrics._start(tree, self._handle)
+        else:
+            _opened(self._library.mathlay_open, metrics, len(metrics), tree, len(tree), self._handle)
 
     def line(self, line: bytes) -> bytes:
         """Answers one line of a script, which needs no line feed. An edit that is refused is a reply too."""

@@ -27,6 +27,8 @@ METRICS = TOP / "samples" / "latin-modern-math.metrics"
 CALLS = "tools/tests/library/calls.c"
 TREES = [TOP / "samples" / name for name in ("quadratic.json", "matrix.json", "tensor.json", "nested_roots.json")]
 SCRIPTS = 1_000
+# a tree whose layout is out of range
+WIDE = b'{"name":"math","children":[{"name":"mspace","attributes":{"width":"2000000px"}}]}'
 VALGRIND = shutil.which("valgrind")
 MEMCHECK = [[VALGRIND, "-q", "--leak-check=full", "--error-exitcode=9"]] if VALGRIND else []
 HELGRIND = [[VALGRIND, "-q", "--tool=helgrind", "--error-exitcode=9"]] if VALGRIND else []
@@ -101,6 +103,42 @@ class Library(InFolder):
             with self.subTest(sample=sample.name):
                 shown = self.session(sample.read_bytes()).show()
                 self.assertEqual(shown, b"shown\n" + self.program("layout", METRICS, sample))
+
+    @needs_program
+    def test_every_sample_is_shown_so_with_metrics_that_are_read_once(self):
+        from mathlay import Metrics, Session
+        samples = sorted((TOP / "samples").glob("*.json"))
+        with Metrics(METRICS.read_bytes()) as font:
+            sessions = [Session(font, sample.read_bytes()) for sample in samples]
+        for sample, session in zip(samples, sessions):
+            self.addCleanup(session.close)
+            with self.subTest(sample=sample.name):
+                self.assertEqual(session.show(), b"shown\n" + self.program("layout", METRICS, sample))
+
+    def test_metrics_stay_whatever_becomes_of_a_session(self):
+        from mathlay import MathlayError, Metrics, Refusal, Session
+        tree = (TOP / "samples" / "quadratic.json").read_bytes()
+        font = Metrics(METRICS.read_bytes())
+        for wrong, status in ((b"{", 4), (b'{"name":"mi"}', 4), (WIDE, 8)):
+            with self.assertRaises(Refusal) as caught:
+                Session(font, wrong)
+            self.assertEqual(caught.exception.status, status)
+        one, other = Session(font, tree), Session(font, tree)
+        page = self.session(tree).show()
+        self.assertEqual(one.line(b'{"op":"text","node":14,"text":"44"}'), b"ok\n")
+        self.assertNotEqual(one.show(), page)
+        one.close()
+        self.assertEqual(other.show(), page)
+        font.close()
+        font.close()
+        self.assertEqual(other.line(b'{"op":"show"}'), page)
+        other.close()
+        with self.assertRaises(MathlayError) as caught:
+            Session(font, tree)
+        self.assertEqual((caught.exception.status, isinstance(caught.exception, Refusal)), (33, False))
+        with self.assertRaises(Refusal) as caught:
+            Metrics(b"none")
+        self.assertEqual((caught.exception.status, caught.exception.line), (3, b"metrics 1 2\n"))
 
     @needs_program
     def test_scripts_are_answered_as_by_the_program(self):
@@ -216,19 +254,35 @@ class Library(InFolder):
         self.assertNotIn(b">=<", asked(""))
 
     def test_what_isnt_bytes_or_a_whole_number_is_refused_by_its_type(self):
-        from mathlay import Session
+        from mathlay import Metrics, Session
         session = self.session(b'{"name":"math"}')
-        for call in (lambda: Session("", b""), lambda: Session(b"", 7), lambda: session.line('{"op":"show"}'),
+        for call in (lambda: Session("", b""), lambda: Session(b"", 7), lambda: session.line('{"op":"show"}'), lambda: Metrics(""),
                      lambda: session.hit(0.5, 0), lambda: session.select(1.0, 1)):
             with self.assertRaises(TypeError):
                 call()
         self.assertEqual(session.line(bytearray(b'{"op":"show"}\n')), session.show())
 
-    def test_a_session_isnt_copied(self):
-        session = self.session(b'{"name":"math"}')
-        for copying in (copy.copy, copy.deepcopy, pickle.dumps):
-            with self.assertRaises(TypeError):
-                copying(session)
+    def test_sessions_and_metrics_arent_copied(self):
+        from mathlay import Metrics
+        font = Metrics(METRICS.read_bytes())
+        for owner in (self.session(b'{"name":"math"}'), font):
+            for copying in (copy.copy, copy.deepcopy, pickle.dumps):
+                with self.assertRaises(TypeError):
+                    copying(owner)
+
+    def test_threads_start_sessions_with_the_same_metrics(self):
+        from mathlay import Metrics, Session
+        pages = []
+        with Metrics(METRICS.read_bytes()) as font:
+            def formula():
+                with Session(font, (TOP / "samples" / "quadratic.json").read_bytes()) as session:
+                    pages.append(session.show())
+            work = [threading.Thread(target=lambda: [formula() for _ in range(20)]) for _ in range(4)]
+            for each in work:
+                each.start()
+            for each in work:
+                each.join()
+        self.assertEqual((len(pages), len(set(pages))), (80, 1))
 
     def test_threads_wait_for_each_other(self):
         session = self.session(b'{"name":"math","children":[{"name":"mn","text":"1"}]}')
@@ -269,6 +323,12 @@ class Archive(InFolder):
             self.assertTrue(said.startswith(b"ok\nrefused root\nshown\nbox 1 math 0 0 "), said[:80])
             self.assertIn(b"\nroot ", said)
 
+    def test_the_example_of_many_formulas_runs_and_loses_nothing(self):
+        program = self.built("examples/c/formulas.c")
+        for words in ([], *MEMCHECK):
+            lines = self.said(*words, program, METRICS, *TREES).splitlines()
+            self.assertEqual([line.split(b":")[0].decode() for line in lines], [str(tree) for tree in TREES])
+
     @unittest.skipUnless(shutil.which("make"), "make is needed")
     def test_it_is_installed_and_linked_there(self):
         needed(self, SHARED)
@@ -284,7 +344,7 @@ class Archive(InFolder):
 
     def test_random_calls_are_answered_as_the_header_says(self):
         program = self.built(CALLS, "-fsanitize=address,undefined")
-        wide = self.file("wide", '{"name":"math","children":[{"name":"mspace","attributes":{"width":"2000000px"}}]}')
+        wide = self.file("wide", WIDE)
         for seed in ("1", "2"):
             answers = self.said(program, seed, "10000", METRICS, wide, *TREES).split()
             self.assertEqual([int(answer) for answer in answers], [0, 3, 4, 8, 9, 10, 32, 33, 34, 35])

@@ -4,8 +4,8 @@
 //! its memory from line to line. A line whose members are texts, whole numbers and nulls, as most
 //! are, is read token by token; any other is left to `read_command`.
 //!
-//! - Models: a reader that is made once and lent each line. The kit's `json` wants 16 KiB of cleared
-//!   memory for a text, which `serde_json` takes anew each time.
+//! - Models: a reader that is made once and lent each line. The kit's `json` wants 16 KiB of
+//!   cleared memory for a text, which `serde_json` takes anew each time.
 //! - Proved: a line gives the command of `command_in` and is refused exactly where it has none
 //!   (`tree_edits/specs/Commands.antt`); what is read token by token is the value that `serde_json`
 //!   reads.

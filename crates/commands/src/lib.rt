@@ -29,7 +29,7 @@ mod reply; // to one line
 mod script; // white space
 mod status; // how a run ends
 
-pub use opening::open;
+pub use opening::{metrics_in, open, open_tree};
 pub use program::run;
 pub use refusal::Refusal;
 pub use reply::{Cause, Reply, reply_to};

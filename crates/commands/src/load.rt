@@ -65,8 +65,8 @@ pub(crate) fn tree_of(alloc: Global, bytes: &[u8]) -> Result<Tree, Refusal>
     tree_of_value(alloc, &value)
 }
 
-/// The same of bytes that are let go of before the tree is made: those of a long file are a good part
-/// of the most memory that a run takes.
+/// The same of bytes that are let go of before the tree is made: those of a long file are a good
+/// part of the most memory that a run takes.
 fn tree_of_list(alloc: Global, bytes: List<u8>) -> Result<Tree, Refusal>
     ensures { GivesOr (tree_of_json (json_in bytes)) result }
 {

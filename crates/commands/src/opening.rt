@@ -30,7 +30,7 @@ pub fn open<L: Ledger>(
 
 /// The metrics of a file's bytes, which may be too many.
 #[tactic(auto, unfolding(crate::specs::Answer::metrics_in))]
-fn metrics_in(alloc: Global, bytes: &[u8]) -> Result<Metrics, Refusal>
+pub fn metrics_in(alloc: Global, bytes: &[u8]) -> Result<Metrics, Refusal>
     ensures { GivesOr (metrics_in bytes.now) result }
 {
     if bytes.len() > MOST_FILE_BYTES {
@@ -40,7 +40,7 @@ fn metrics_in(alloc: Global, bytes: &[u8]) -> Result<Metrics, Refusal>
 }
 
 /// The session of a tree file's bytes with these metrics.
-fn open_tree<L: Ledger>(
+pub fn open_tree<L: Ledger>(
     alloc: Global,
     metrics: Metrics,
     tree: &[u8],

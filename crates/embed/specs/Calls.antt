@@ -1,17 +1,18 @@
 -- How each call ends: what the answer says, and what is changed with it.
-use Rattle.std.specs.Prelude.{◌≡◌, ◌≢◌, ◌<◌, ℕ, ℤ, List, length, take, drop, Option, Some, None, Result, Ok, Err}
+use Rattle.std.specs.Prelude.{◌≡◌, ◌≢◌, ◌<◌, ◌≤◌, ℕ, ℤ, List, length, take, drop, Option, Some, None, Result, Ok, Err}
 use Rattle.doc_io.specs.LineReader.{longest_line}
+use Rattle.font_metrics.specs.Metrics.{MetricsValue}
 use Rattle.edit_ring.specs.declared.ring.RingRefusal.{RingRefusal}
 use Rattle.edit_ring.specs.declared.ring.RingRefusal.TheVariants.{Nothing as HoldsNone, Memory as LacksMemory}
 use Rattle.edit_session.specs.Session.{root_box}
 use Rattle.queries.specs.Queries.{IsCause, answer_to}
 use Rattle.queries.specs.declared.query.Query.{Query}
 use Rattle.queries.specs.declared.query.QueryRefusal.{QueryRefusal}
-use Rattle.commands.specs.Answer.{opened}
+use Rattle.commands.specs.Answer.{metrics_in, opened, opened_over}
 use Rattle.commands.specs.History.{session_in}
 use Rattle.commands.specs.Refusals.{line_of, of_query}
 use Rattle.commands.specs.declared.refusal.Refusal.TheVariants.{NoNode, Memory as NoMemory}
-use Rattle.embed.specs.Desks.{DeskValue, IsAnswered, IsOpened, after, element_at, shown}
+use Rattle.embed.specs.Desks.{DeskValue, IsAnswered, IsOpened, IsStarted, after, element_at, shown}
 use Rattle.embed.specs.Frames.{frame_of}
 use Rattle.embed.specs.Kept.{Becomes, Keeps}
 use Rattle.embed.specs.Status.{number_of}
@@ -23,13 +24,13 @@ use Rattle.embed.specs.declared.answer.Answer.TheVariants.{Done, Refused, LineLo
 abbrev pub Answers : (Answer → Type 0) → ℕ → Type 0
 Answers Ends number = (answer : Answer) × (number ≡ number_of answer) × Ends answer
 
--- what the handle keeps, the caller's buffer, and the length that the caller is told
-pub record Seen : Type 0 where
-  pub kept : Option DeskValue
+-- what a handle keeps, the caller's buffer, and the length that the caller is told
+pub record Seen (Kept : Type 0) : Type 0 where
+  pub kept : Option Kept
   pub bytes : List ℕ
   pub told : ℕ
 
-abbrev pub seen : Option DeskValue → List ℕ → ℕ → Seen
+abbrev pub seen : {Kept : Type 0} → Option Kept → List ℕ → ℕ → Seen Kept
 seen kept bytes told = record { kept = kept; bytes = bytes; told = told }
 
 -- the text stands at the front of the buffer, the rest of it is as it was, and its length is told
@@ -48,20 +49,55 @@ Puts text old new told answer = ⊥
 abbrev pub refusal_room : ℕ
 refusal_room = 160
 
+-- the buffer of a refusal holds the line of each
+abbrev pub HasRoom : {Kept : Type 0} → Seen Kept → Type 0
+HasRoom old = refusal_room ≤ length old.bytes
+
 -- a session over these bytes is opened in a closed handle, or why not; a refusal is told in a line
-abbrev pub Opens : List ℕ → List ℕ → Seen → Seen → Answer → Type 0
+abbrev pub Opens : List ℕ → List ℕ → Seen DeskValue → Seen DeskValue → Answer → Type 0
 Opens metrics tree old new Done =
-    (old.kept ≡ None) × (desk : DeskValue) × IsOpened metrics tree desk
+    HasRoom old × (old.kept ≡ None) × (desk : DeskValue) × IsOpened metrics tree desk
     × (new ≡ record old { kept = Some desk })
 Opens metrics tree old new (Refused refusal) =
-    (old.kept ≡ None) × (refusal ≢ NoMemory → opened metrics tree ≡ Err refusal)
+    HasRoom old × (old.kept ≡ None) × (refusal ≢ NoMemory → opened metrics tree ≡ Err refusal)
     × (new.kept ≡ old.kept) × Copies (line_of refusal) old.bytes new.bytes new.told
 Opens metrics tree old new Memory = ⊥
-Opens metrics tree old new Open = (old.kept ≢ None) × (new ≡ old)
+Opens metrics tree old new Open = HasRoom old × (old.kept ≢ None) × (new ≡ old)
 Opens metrics tree old new Short = (length old.bytes < refusal_room) × (new ≡ old)
 Opens metrics tree old new LineLong = ⊥
 Opens metrics tree old new Closed = ⊥
 Opens metrics tree old new Nothing = ⊥
+
+-- the metrics of these bytes are kept in a closed handle, or why not; a refusal is told in a line
+abbrev pub Reads : List ℕ → Seen MetricsValue → Seen MetricsValue → Answer → Type 0
+Reads bytes old new Done =
+    HasRoom old × (old.kept ≡ None) × (metrics : MetricsValue) × (metrics_in bytes ≡ Ok metrics)
+    × (new ≡ record old { kept = Some metrics })
+Reads bytes old new (Refused refusal) =
+    HasRoom old × (old.kept ≡ None) × (refusal ≢ NoMemory → metrics_in bytes ≡ Err refusal)
+    × (new.kept ≡ old.kept) × Copies (line_of refusal) old.bytes new.bytes new.told
+Reads bytes old new Open = HasRoom old × (old.kept ≢ None) × (new ≡ old)
+Reads bytes old new Short = (length old.bytes < refusal_room) × (new ≡ old)
+Reads bytes old new answer = ⊥
+
+-- a session over the bytes of a tree and the metrics of another handle is opened in a closed
+-- handle, or why not; a refusal is told in a line
+abbrev pub Starts : Option MetricsValue → List ℕ → Seen DeskValue → Seen DeskValue → Answer
+    → Type 0
+Starts font tree old new Done =
+    HasRoom old × (old.kept ≡ None) × (desk : DeskValue)
+    × Keeps font (λ metrics. IsStarted metrics tree desk)
+    × (new ≡ record old { kept = Some desk })
+Starts font tree old new (Refused refusal) =
+    HasRoom old × (old.kept ≡ None)
+    × Keeps font (λ metrics. refusal ≢ NoMemory → opened_over metrics tree ≡ Err refusal)
+    × (new.kept ≡ old.kept) × Copies (line_of refusal) old.bytes new.bytes new.told
+Starts font tree old new Open =
+    (font ≢ None) × HasRoom old × (old.kept ≢ None) × (new ≡ old)
+Starts font tree old new Closed = (font ≡ None) × (new ≡ old)
+Starts font tree old new Short =
+    (font ≢ None) × (length old.bytes < refusal_room) × (new ≡ old)
+Starts font tree old new answer = ⊥
 
 -- a line is answered, or why not; its reply is kept
 abbrev pub Lines : List ℕ → Option DeskValue → Option DeskValue → Answer → Type 0
@@ -114,7 +150,7 @@ Misses old new answer = new ≡ old
 
 -- the last reply is copied, or why not; of a reply that is too long for the buffer the length is
 -- told
-abbrev pub Tells : Seen → Seen → Answer → Type 0
+abbrev pub Tells : Seen DeskValue → Seen DeskValue → Answer → Type 0
 Tells old new Done = Keeps old.kept (λ desk. Copies desk.text old.bytes new.bytes new.told)
     × (new.kept ≡ old.kept)
 Tells old new Short =

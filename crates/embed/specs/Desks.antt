@@ -10,7 +10,7 @@ use Rattle.hit_test.specs.Hits.{holding, id_of_box, last_of}
 use Rattle.queries.specs.Queries.{IsWritable, answer_to, bytes_of}
 use Rattle.queries.specs.declared.query.Query.{Query}
 use Rattle.session_ring.specs.declared.undoable.Undoable.{Undoable}
-use Rattle.commands.specs.Answer.{opened}
+use Rattle.commands.specs.Answer.{opened, opened_over}
 use Rattle.commands.specs.History.{Remembered, after_line, remembered, session_in, told_of}
 use Rattle.commands.specs.HistorySteps.{kept_by, ring_of}
 use Rattle.commands.specs.Replies.{IsReplyOfFont, text_of_reply}
@@ -36,6 +36,11 @@ fresh session = record { kept = remembered depth session; text = [] }
 abbrev pub IsOpened : List ℕ → List ℕ → DeskValue → Type 0
 IsOpened metrics tree desk =
     (session : SessionValue) × (opened metrics tree ≡ Ok session) × (desk ≡ fresh session)
+
+-- the session that metrics and the bytes of a tree file give, asked for nothing yet
+abbrev pub IsStarted : MetricsValue → List ℕ → DeskValue → Type 0
+IsStarted metrics tree desk =
+    (session : SessionValue) × (opened_over metrics tree ≡ Ok session) × (desk ≡ fresh session)
 
 -- behind a line of a script whose edits can be undone: what is kept after it, and its reply
 abbrev pub after : DeskValue → List ℕ → DeskValue

@@ -21,7 +21,7 @@ use std::alloc::Global;
 const LONGEST_LINE: usize = 1_048_576;
 
 /// The most bytes that the line of a refusal may have.
-const REFUSAL_ROOM: usize = 160;
+pub const REFUSAL_ROOM: usize = 160;
 
 /// Opens a session in a closed handle.
 pub fn opened(
@@ -55,7 +55,7 @@ pub fn opened(
 }
 
 /// Whether the handle keeps a session.
-fn is_open(alloc: Global, handle: &mut Handle) -> bool
+pub fn is_open(alloc: Global, handle: &mut Handle) -> bool
     ensures some { result ≡ true → handle.old.kept ≢ None }
     ensures none { result ≡ false → handle.old.kept ≡ None }
     ensures kept { handle.new.kept ≡ handle.old.kept }

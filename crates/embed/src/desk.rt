@@ -2,21 +2,22 @@ ghost use Rattle.std.specs.Prelude.{◌≡◌, ◌<◌, None, Some, Ok, Err, IfO
 ghost use Rattle.edit_ring.specs.declared.ring.RingRefusal.TheVariants.{Nothing as HoldsNone};
 ghost use Rattle.edit_session.specs.Session.{root_box};
 ghost use Rattle.queries.specs.Queries.{IsCause, answer_to};
-ghost use Rattle.commands.specs.Answer.{opened};
+ghost use Rattle.commands.specs.Answer.{opened, opened_over};
 ghost use Rattle.commands.specs.Ends.{GivesOr};
 ghost use Rattle.commands.specs.History.{session_in};
 ghost use Rattle.embed.specs.Calls.{Tells, seen};
-ghost use Rattle.embed.specs.Desks.{IsAnswered, IsOpened, after, element_at, fresh, redone, shown, undone};
+ghost use Rattle.embed.specs.Desks.{IsAnswered, IsOpened, IsStarted, after, element_at, fresh, redone, shown, undone};
 
 use crate::answer::Answer;
 use crate::copying::put;
 use crate::growing::text_of;
 use crate::kept_reply::KeptReply;
 use command_reader::CommandReader;
-use commands::{Refusal, Reply, history, open};
+use commands::{Refusal, Reply, history, open, open_tree};
 use edit_ring::{Ring, RingRefusal};
 use edit_session::Session;
 use fixed_units::{List, MathBox, Memory, Steps};
+use font_metrics::Metrics;
 use hit_test::hit;
 use math_tree::NodeId;
 use queries::{Query, QueryRefusal, answer_over};
@@ -83,6 +84,33 @@ impl Desk {
             (λ refusal. GivesOr (opened metrics.now tree.now) (Err refusal)) }
     {
         let session = open(alloc, metrics, tree, &mut Steps::<L>::new(blank))?;
+        Ok(Desk::over(alloc, session)?)
+    }
+
+    /// The session of a tree file's bytes with metrics, asked for nothing yet.
+    pub fn start(alloc: Global, metrics: Metrics, tree: &[u8]) -> Result<Desk, Refusal>
+        ensures started { IfOk result (IsStarted metrics tree.now) }
+        ensures refused { IfErr result
+            (λ refusal. GivesOr (opened_over metrics tree.now) (Err refusal)) }
+    {
+        Desk::start_counted::<Brand>(alloc, metrics, tree, Blank::new(1))
+    }
+
+    /// The same, and counts on the ledger `L`, which takes no bytes.
+    fn start_counted<L: Ledger>(
+        alloc: Global,
+        metrics: Metrics,
+        tree: &[u8],
+        blank: Blank,
+    ) -> Result<Desk, Refusal>
+        requires name { blank.name ≡ L.name }
+        requires parts { blank.parts ≡ L.parts }
+        requires some { 0 < blank.parts }
+        ensures started { IfOk result (IsStarted metrics tree.now) }
+        ensures refused { IfErr result
+            (λ refusal. GivesOr (opened_over metrics tree.now) (Err refusal)) }
+    {
+        let session = open_tree(alloc, metrics, tree, &mut Steps::<L>::new(blank))?;
         Ok(Desk::over(alloc, session)?)
     }
 

@@ -2,8 +2,9 @@
 //! library. `include/mathlay.h` is what a C program reads.
 //!
 //! A handle is closed, or it keeps a desk: a session whose edits can be undone, and the reply to
-//! the last call. No call has a condition: a closed handle, one that is open already, a line that
-//! is too long, a buffer that is too short are told, and lose nothing.
+//! the last call. A handle of another kind keeps metrics, of which any number of sessions take
+//! copies. No call has a condition: a closed handle, one that is open already, a line that is too
+//! long, a buffer that is too short are told, and lose nothing.
 //!
 //! - Models: the lines of docs/FORMATS.md, and their replies, as `history` answers them.
 //! - Proved: what each call makes of the session that the handle keeps, and of the caller's buffer,
@@ -18,20 +19,24 @@ mod answer; // Answer
 mod calls; // what each export does
 mod copying; // texts into buffers
 mod desk; // Desk
+mod font; // Font
 mod frame; // Frame
 mod growing; // a sink in memory
 mod handle; // Handle
 mod kept_reply; // KeptReply
+mod starting; // what the exports over a handle of metrics do
 
 ghost use Rattle.std.specs.Prelude.{◌≡◌, None};
 ghost use Rattle.queries.specs.declared.query.Query.TheVariants.{Paint, Select};
-ghost use Rattle.embed.specs.Calls.{Answers, Asks, Goes, Hits, Lines, Measures, Misses, Opens, Shows, Tells, seen};
+ghost use Rattle.embed.specs.Calls.{Answers, Asks, Goes, Hits, Lines, Measures, Misses, Opens, Reads, Shows, Starts, Tells, seen};
 ghost use Rattle.embed.specs.Desks.{redone, undone};
 
 pub use answer::Answer;
 use calls::{answered, hit_at, measured, opened, painted, redone, selected, shown, told, undone};
+pub use font::Font;
 pub use frame::Frame;
 pub use handle::Handle;
+use starting::{read, started};
 use std::alloc::Global;
 
 /// Opens a session in a closed handle, over the bytes of a metrics file and of a tree file. A
@@ -51,6 +56,51 @@ pub extern "C" fn mathlay_open(
         (seen handle.new.kept refusal.new refusal_len.new)) result }
 {
     opened(alloc, metrics, tree, handle, refusal, refusal_len).number()
+}
+
+/// Reads the bytes of a metrics file into a closed handle of metrics. A refusal is told as
+/// `mathlay_open` tells it.
+#[unsafe(no_mangle)]
+pub extern "C" fn mathlay_read(
+    alloc: Global,
+    metrics: &[u8],
+    font: &mut Font,
+    refusal: &mut [u8],
+    refusal_len: &mut usize,
+) -> u32
+    ensures { Answers (Reads metrics.now
+        (seen font.old.kept refusal.old refusal_len.old)
+        (seen font.new.kept refusal.new refusal_len.new)) result }
+{
+    read(alloc, metrics, font, refusal, refusal_len).number()
+}
+
+/// Opens a session in a closed handle, over the bytes of a tree file and a copy of the metrics that
+/// another handle keeps. That handle stays as it is. A refusal is told as `mathlay_open` tells it.
+#[unsafe(no_mangle)]
+pub extern "C" fn mathlay_start(
+    alloc: Global,
+    font: &mut Font,
+    tree: &[u8],
+    handle: &mut Handle,
+    refusal: &mut [u8],
+    refusal_len: &mut usize,
+) -> u32
+    ensures kept { font.new.kept ≡ font.old.kept }
+    ensures starts { Answers (Starts font.old.kept tree.now
+        (seen handle.old.kept refusal.old refusal_len.old)
+        (seen handle.new.kept refusal.new refusal_len.new)) result }
+{
+    started(alloc, font, tree, handle, refusal, refusal_len).number()
+}
+
+/// Drops the metrics, if there are any. Sessions that were started with them stay. The handle is
+/// closed then, and may be used again.
+#[unsafe(no_mangle)]
+pub extern "C" fn mathlay_forget(alloc: Global, font: &mut Font)
+    ensures { font.new.kept ≡ None }
+{
+    std::mem::drop(font.take(alloc));
 }
 
 /// Does what a line of a script asks for. The reply is kept.

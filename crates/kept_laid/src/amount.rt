@@ -6,8 +6,8 @@ ghost use Rattle.kept_results.specs.declared.memo.Memo.TheViews.{out-Memo};
 use crate::lookup::is_live;
 use kept_results::Memo;
 
-/// How many entries are kept of an element and of all below it, but for the older ones, and 2^64 - 1
-/// where there are more. It takes no memory.
+/// How many entries are kept of an element and of all below it, but for the older ones, and
+/// 2^64 - 1 where there are more. It takes no memory.
 pub fn count_or_most(memo: &Memo) -> usize
     ensures { result ≡ min (kept_count memo.now) (2 ^ 64 - 1) }
 {

@@ -22,7 +22,7 @@ use std::marker::Model;
 pub struct Store {
     pool: Pool,
     /// Where the cells of an outcome are listed before they are put. It keeps its memory, so that
-    /// listing takes some only where an outcome has more cells than any before.
+    /// listing takes some only where more room is asked for than ever before: eight cells a mark.
     desk: Vec<Cell>,
 }
 

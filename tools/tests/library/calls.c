@@ -11,10 +11,11 @@
 #include <string.h>
 
 #define WANT(x) ((x) ? (void)0 : wrong(__LINE__, #x))
-enum { SESSIONS = 4, GUARD = 32, FILL = 0xA5, MOST_TREES = 64, LONGEST = 1 << 20 };
+enum { SESSIONS = 4, FONTS = 2, GUARD = 32, FILL = 0xA5, MOST_TREES = 64, LONGEST = 1 << 20 };
 
 typedef struct { uint8_t *at; size_t len; } bytes;
 typedef struct { mathlay_session handle; int is_open; bytes reply; } desk; /* with the reply that it has to have */
+typedef struct { mathlay_metrics handle; bytes file; } font;               /* with the bytes that they were read of, or none */
 
 static long call, told[36]; /* how often each answer was told */
 static uint64_t state;
@@ -113,6 +114,33 @@ static bytes spoilt(bytes file) {
     return copy;
 }
 
+static int is_refused(uint32_t answer) {
+    return answer == MATHLAY_METRICS || answer == MATHLAY_TREE || answer == MATHLAY_RANGE || answer == MATHLAY_MEMORY;
+}
+
+/* The line of a refusal has to be there, but for want of memory, with nothing written behind it; else nothing is written. */
+static void has_line(uint32_t answer, const uint8_t *line, size_t room, size_t len) {
+    if (is_refused(answer)) {
+        WANT(len <= room && is_filled(line, len, room + GUARD));
+        WANT(answer == MATHLAY_MEMORY ? len == 0 : len > 0 && line[len - 1] == '\n');
+    } else WANT(len == 77 && is_filled(line, 0, room + GUARD));
+}
+
+/* A session is open now, or isn't since it was told why. */
+static void is_opened(desk *d, uint32_t answer, void *was, size_t room) {
+    if (answer == MATHLAY_DONE) {
+        WANT(!d->is_open && d->handle.at);
+        d->is_open = 1;
+        take_reply(d);
+        WANT(d->reply.len == 0);
+        return;
+    }
+    WANT(d->handle.at == was);
+    if (answer == MATHLAY_SHORT) WANT(room < MATHLAY_REFUSAL_ROOM);
+    else if (answer == MATHLAY_OPEN) WANT(d->is_open);
+    else WANT(answer == MATHLAY_NOT_OPEN || (!d->is_open && is_refused(answer)));
+}
+
 static void open_one(desk *d) {
     bytes font = draw(8) ? metrics : spoilt(metrics), tree = spoilt(trees[draw((uint64_t)tree_count)]);
     size_t room = draw(8) ? MATHLAY_REFUSAL_ROOM + draw(9) : draw(MATHLAY_REFUSAL_ROOM), len = 77;
@@ -120,23 +148,66 @@ static void open_one(desk *d) {
     void *was = d->handle.at;
     arm();
     uint32_t answer = disarmed(mathlay_open(font.at, font.len, tree.at, tree.len, &d->handle, line, room, &len));
-    switch (answer) {
-        case MATHLAY_DONE:
-            WANT(!d->is_open && d->handle.at && is_filled(line, 0, room) && len == 77);
-            d->is_open = 1;
-            take_reply(d);
-            WANT(d->reply.len == 0);
-            break;
-        case MATHLAY_METRICS: case MATHLAY_TREE: case MATHLAY_RANGE: case MATHLAY_MEMORY:
-            WANT(!d->is_open && !d->handle.at && len <= room && is_filled(line, len, room));
-            WANT(answer == MATHLAY_MEMORY ? len == 0 : len > 0 && line[len - 1] == '\n');
-            break;
-        case MATHLAY_SHORT: WANT(room < MATHLAY_REFUSAL_ROOM && d->handle.at == was && len == 77); break;
-        case MATHLAY_OPEN: WANT(d->is_open && d->handle.at && len == 77 && is_filled(line, 0, room)); break;
-        default: WANT(!"an answer that it may give");
-    }
-    WANT(is_filled(line, room, room + GUARD));
+    WANT(answer != MATHLAY_NOT_OPEN);
+    has_line(answer, line, room, len);
+    is_opened(d, answer, was, room);
     if (font.at != metrics.at) free(font.at);
+    free(tree.at), free(line);
+}
+
+static void read_one(font *f) {
+    bytes file = spoilt(metrics);
+    size_t room = draw(8) ? MATHLAY_REFUSAL_ROOM + draw(9) : draw(MATHLAY_REFUSAL_ROOM), len = 77;
+    uint8_t *line = filled(room);
+    void *was = f->handle.at;
+    arm();
+    uint32_t answer = disarmed(mathlay_read(file.at, file.len, &f->handle, line, room, &len));
+    has_line(answer, line, room, len);
+    if (answer == MATHLAY_DONE) WANT(!f->file.at && f->handle.at), f->file = file;
+    else {
+        WANT(f->handle.at == was);
+        if (answer == MATHLAY_SHORT) WANT(room < MATHLAY_REFUSAL_ROOM);
+        else if (answer == MATHLAY_OPEN) WANT(f->file.at);
+        else WANT(!f->file.at && (answer == MATHLAY_METRICS || answer == MATHLAY_MEMORY));
+        free(file.at);
+    }
+    free(line);
+}
+
+static void forget_one(font *f) {
+    mathlay_forget(&f->handle);
+    WANT(!f->handle.at);
+    free(f->file.at);
+    f->file = (bytes){NULL, 0};
+}
+
+/* A session shows what another one shows that is opened over these files. */
+static void shows_same(desk *d, bytes file, bytes tree) {
+    desk other = {MATHLAY_CLOSED, 0, {NULL, 0}};
+    uint8_t line[MATHLAY_REFUSAL_ROOM];
+    size_t len;
+    WANT(mathlay_show(&d->handle) == MATHLAY_DONE);
+    take_reply(d);
+    WANT(mathlay_open(file.at, file.len, tree.at, tree.len, &other.handle, line, sizeof line, &len) == MATHLAY_DONE);
+    WANT(mathlay_show(&other.handle) == MATHLAY_DONE);
+    other.reply = d->reply;
+    has_reply(&other);
+    mathlay_close(&other.handle);
+}
+
+/* The metrics stay as they are, whatever comes of it. */
+static void start_one(desk *d, font *f) {
+    bytes tree = spoilt(trees[draw((uint64_t)tree_count)]);
+    size_t room = draw(8) ? MATHLAY_REFUSAL_ROOM + draw(9) : draw(MATHLAY_REFUSAL_ROOM), len = 77;
+    uint8_t *line = filled(room);
+    void *was = d->handle.at, *metrics_were = f->handle.at;
+    arm();
+    uint32_t answer = disarmed(mathlay_start(&f->handle, tree.at, tree.len, &d->handle, line, room, &len));
+    WANT(f->handle.at == metrics_were && answer != MATHLAY_METRICS);
+    WANT((answer == MATHLAY_NOT_OPEN) == !f->file.at);
+    has_line(answer, line, room, len);
+    is_opened(d, answer, was, room);
+    if (answer == MATHLAY_DONE && !draw(4)) shows_same(d, f->file, tree);
     free(tree.at), free(line);
 }
 
@@ -257,14 +328,19 @@ static void close_one(desk *d) {
 
 int main(int count, char **words) {
     desk desks[SESSIONS] = {{MATHLAY_CLOSED, 0, {NULL, 0}}};
+    font fonts[FONTS] = {{MATHLAY_CLOSED, {NULL, 0}}};
     if (count < 5 || count - 4 > MOST_TREES) return 2;
     state = strtoull(words[1], NULL, 10) * 2 + 1;
     metrics = file_of(words[3]);
     for (tree_count = 0; tree_count < count - 4; tree_count++) trees[tree_count] = file_of(words[4 + tree_count]);
     for (long calls = strtol(words[2], NULL, 10); call < calls; call++) {
         desk *d = &desks[draw(SESSIONS)], *other = &desks[draw(SESSIONS)];
-        uint64_t what = draw(80);
-        if (what < 6 || (what < 20 && !d->is_open)) open_one(d);
+        font *f = &fonts[draw(FONTS)];
+        uint64_t what = draw(84);
+        if (what >= 83) forget_one(f);
+        else if (what >= 80) read_one(f);
+        else if (what < 3 || (what < 13 && !d->is_open)) open_one(d);
+        else if (what < 6 || (what < 20 && !d->is_open)) start_one(d, f);
         else if (what < 34) ask(d, LINE);
         else if (what < 40) ask(d, SHOW);
         else if (what >= 76) ask(d, PAINT);
@@ -282,6 +358,7 @@ int main(int count, char **words) {
         }
     }
     for (int i = 0; i < SESSIONS; i++) close_one(&desks[i]);
+    for (int i = 0; i < FONTS; i++) forget_one(&fonts[i]);
     for (int i = 0; i < tree_count; i++) free(trees[i].at);
     free(metrics.at);
     for (int i = 0; i < 36; i++) if (told[i]) printf("%d\n", i);

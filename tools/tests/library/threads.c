@@ -1,4 +1,5 @@
-/* A session on each thread, and each handed from thread to thread, ordered by start and join. The threads have 1 MB of stack.
+/* A session on each thread, and each handed from thread to thread, ordered by start and join; they are started by these threads
+   with the same metrics, under a lock. The threads have 1 MB of stack.
 
        threads METRICS TREE */
 #include "mathlay.h"
@@ -21,6 +22,19 @@ static bytes file_of(const char *name) {
     return all;
 }
 
+static bytes tree;
+static mathlay_metrics font = MATHLAY_CLOSED;
+static pthread_mutex_t lock = PTHREAD_MUTEX_INITIALIZER;
+
+static void *begin(void *session) {
+    uint8_t refusal[MATHLAY_REFUSAL_ROOM];
+    size_t len = 0;
+    pthread_mutex_lock(&lock);
+    uint32_t answer = mathlay_start(&font, tree.at, tree.len, session, refusal, sizeof refusal, &len);
+    pthread_mutex_unlock(&lock);
+    return answer == MATHLAY_DONE ? NULL : session;
+}
+
 /* Edits, and shows the formula. */
 static void *edit(void *session) {
     char line[64];
@@ -38,7 +52,8 @@ static void *end(void *session) {
 
 int main(int count, char **words) {
     if (count != 3) return 2;
-    bytes metrics = file_of(words[1]), tree = file_of(words[2]);
+    bytes metrics = file_of(words[1]);
+    tree = file_of(words[2]);
     mathlay_session sessions[THREADS] = {MATHLAY_CLOSED};
     pthread_t threads[THREADS];
     pthread_attr_t small;
@@ -46,8 +61,11 @@ int main(int count, char **words) {
     size_t len = 0, other_len = 0;
     void *wrong;
     if (pthread_attr_init(&small) || pthread_attr_setstacksize(&small, STACK)) return 2;
-    for (int i = 0; i < THREADS; i++)
-        if (mathlay_open(metrics.at, metrics.len, tree.at, tree.len, &sessions[i], refusal, sizeof refusal, &len)) return 3;
+    if (mathlay_open(metrics.at, metrics.len, tree.at, tree.len, &sessions[0], refusal, sizeof refusal, &len)) return 3;
+    if (mathlay_read(metrics.at, metrics.len, &font, refusal, sizeof refusal, &len)) return 3;
+    for (int i = 1; i < THREADS; i++) pthread_create(&threads[i], &small, begin, &sessions[i]);
+    for (int i = 1; i < THREADS; i++) if (pthread_join(threads[i], &wrong), wrong) return 3;
+    mathlay_forget(&font);
     for (int round = 0; round < 2; round++) {
         for (int i = 0; i < THREADS; i++) pthread_create(&threads[i], &small, edit, &sessions[(i + round) % THREADS]);
         for (int i = 0; i < THREADS; i++) if (pthread_join(threads[i], &wrong), wrong) return 4;

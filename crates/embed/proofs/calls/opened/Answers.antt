@@ -6,6 +6,7 @@ use Rattle.embed.proofs.calls.opened.Goals as goal
 pub returns-in-Ok : goal.returns-in-Ok
 returns-in-Ok c =
     let shut : c.is_open.result ≡ false = search (rules, tests) in (
+      search rules,
       c.is_open.ensures.none shut,
       c.in-Ok.desk.value,
       c.in-Ok.ensures.opened,
