@@ -75,7 +75,7 @@ const KINDS: [(&str, Kind); 30] = [
 
 impl Kind {
     /// The kind that a name decides. Names are compared exactly.
-    pub(crate) fn of_name(name: &str) -> Kind
+    pub fn of_name(name: &str) -> Kind
         ensures { result ≡ kind_of name.now }
     {
         kind_among(&KINDS, name)

@@ -37,7 +37,7 @@ impl Model for Tree {
 
 impl Tree {
     /// The tree of a root, of a next id that fits it, and of its totals.
-    pub(crate) fn whole(root: Node, next_id: u64, elements: u32, bytes: u64) -> Tree
+    pub fn whole(root: Node, next_id: u64, elements: u32, bytes: u64) -> Tree
         requires { IsTotalled (record { root = root; next_id = next_id }) elements bytes }
         ensures { result ≡ record { root = root; next_id = next_id } }
     {
