@@ -22,6 +22,9 @@ const INITIAL: Style = Style {
     rtl: false,
 };
 
+/// No depth is greater.
+const DEEPEST: u8 = 15;
+
 /// The style of the root: 16 px, in display style where its `display` is `block`, and what its
 /// attributes say.
 #[tactic(auto, unfolding(crate::specs::Styles::root_style_of))]
@@ -62,6 +65,13 @@ fn by_attributes(metrics: &Metrics, parent: &Style, attributes: &Attributes, sty
     ensures value { result ≡ by_attributes metrics.now parent.now attributes.now style }
     ensures style { IsStyle result }
 {
+    // Most elements have none, of which nothing needs to be looked up.
+    if attributes.as_slice().is_empty() {
+        return Style {
+            depth: style.depth.min(DEEPEST),
+            ..style
+        };
+    }
     let style = by_display(attributes, by_direction(attributes, style));
     let style = by_level(parent.depth, attributes, style);
     match mathsize(attributes) {
