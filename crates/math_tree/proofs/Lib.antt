@@ -7,17 +7,18 @@ pub mod OnLiterals
 pub mod Members
 pub mod Lookup
 pub mod Puts
+-- for the crates above: what is read of an element, from what is read of those below it
+pub mod ReadParts
+pub mod Ordered
+pub mod Whole
 mod Worked
 mod Known
 mod Items
 mod Below
 mod Listing
 mod FirstFault
-mod ReadParts
-mod Ordered
 mod Entries
 mod Proper
-mod Whole
 mod Firsts
 mod Printing
 mod Reread
