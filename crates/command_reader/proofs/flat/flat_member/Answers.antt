@@ -8,7 +8,7 @@ use Rattle.serde_json.specs.Read.{converted, of_json}
 use Rattle.serde_json.specs.View.{view}
 use Rattle.serde_json.specs.declared.value.Value.{Null, String, the_lemmas}
 use Rattle.command_reader.specs.Flat.{IsNumber}
-use Rattle.command_reader.proofs.Found.{found_too}
+use Rattle.tree_reader.proofs.Found.{found_too}
 use Rattle.command_reader.proofs.flat.flat_member.Goals as goal
 
 pub returns-in_ok-from_str-in-Some-String-clause-read : goal.returns-in_ok-from_str-in-Some-String-clause-read

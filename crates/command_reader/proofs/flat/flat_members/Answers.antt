@@ -5,7 +5,7 @@ use Rattle.json.proofs.Grammar.{read_key-shorter}
 use Rattle.serde_json.specs.Data.{put}
 use Rattle.serde_json.specs.Read.{converted, of_json, of_members}
 use Rattle.serde_json.specs.View.{members_view, view}
-use Rattle.command_reader.proofs.Members.{all_read, one_read}
+use Rattle.tree_reader.proofs.Members.{all_read, one_read}
 use Rattle.serde_json.proofs.Views.{members_view-insert_entry}
 use Rattle.command_reader.proofs.flat.flat_members.Goals as goal
 

@@ -7,7 +7,7 @@ use Rattle.json.proofs.Grammar.{value-begin_object}
 use Rattle.serde_json.specs.Data.{no_members, object}
 use Rattle.serde_json.specs.Read.{converted, of_json, of_members}
 use Rattle.serde_json.specs.View.{members_view}
-use Rattle.command_reader.proofs.Members.{of_object}
+use Rattle.tree_reader.proofs.Members.{of_object}
 use Rattle.serde_json.proofs.Views.{view-Object}
 use Rattle.command_reader.proofs.flat.flat_object.Goals as goal
 

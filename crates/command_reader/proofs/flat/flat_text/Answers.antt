@@ -3,8 +3,8 @@ use Rattle.json.specs.Json.{value}
 use Rattle.json.specs.Lex.{tokens}
 use Rattle.serde_json.specs.Read.{converted, of_json, read}
 use Rattle.serde_json.specs.View.{view}
-use Rattle.command_reader.proofs.Members.{whole_text}
-use Rattle.command_reader.proofs.Found.{found_too}
+use Rattle.tree_reader.proofs.Members.{whole_text}
+use Rattle.tree_reader.proofs.Found.{found_too}
 use Rattle.command_reader.proofs.flat.flat_text.Goals as goal
 
 pub returns : goal.returns

@@ -4,7 +4,7 @@ use Rattle.serde_json.specs.Read.{read}
 use Rattle.serde_json.specs.View.{view}
 use Rattle.serde_json.specs.declared.value.Value.{Value}
 use Rattle.tree_edits.specs.Commands.{json_in}
-use Rattle.command_reader.proofs.Found.{found_too, given_too, json_of_text}
+use Rattle.tree_reader.proofs.Found.{found_too, given_too, json_of_text}
 use Rattle.command_reader.proofs.flat.flat_value.Goals as goal
 
 pub returns : goal.returns

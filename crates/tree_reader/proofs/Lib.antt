@@ -1,0 +1,7 @@
+pub mod Found
+pub mod Items
+pub mod Means
+pub mod Members
+pub mod Open
+pub mod Puts
+pub mod Shapes

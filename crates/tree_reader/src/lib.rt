@@ -1,0 +1,22 @@
+//! The tree of a text, read token by token.
+//!
+//! `ordered_tree` makes the elements as their tokens come, without a JSON value between. It reads a
+//! tree without a fault in which the keys of each element stand in the order `name`, `attributes`,
+//! `text`, `children`, as most writers put them; whoever calls it reads any other tree from its
+//! JSON value, by `math_tree::read_tree`, which also tells the first fault.
+//!
+//! - Models: a reader of events in one pass, in place of one that builds a document first.
+//! - Proved: what is read is the tree that `tree_of` gives for the value of the bytes
+//!   (`math_tree/specs/Reading.antt`).
+//! - Knows nothing of: what is at fault, edits, layout.
+//! - Change the keys of an element: `math_tree`, `specs/Elements.antt`, then `src/keys.rt` and
+//!   `specs/Said.antt`.
+#![tactic(auto)]
+
+mod attributes; // the attributes of an element
+mod element; // an element and those below it
+mod keys; // keys, texts and brackets
+mod said; // what an element says of itself
+mod tree; // ordered_tree
+
+pub use tree::ordered_tree;
