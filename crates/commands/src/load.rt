@@ -10,11 +10,11 @@ ghost use Rattle.serde_json.specs.View.{view};
 
 use crate::refusal::Refusal;
 use doc_io::{Inputs, LineReader, read_all};
-use fixed_units::List;
 use font_metrics::{MOST_FILE_BYTES, Metrics, read_metrics};
 use math_tree::{Tree, read_tree};
 use serde_json::Value;
 use std::alloc::Global;
+use tree_reader::ordered_tree;
 
 /// The most bytes that a tree file may have: 4 MiB.
 pub(crate) const TREE_LIMIT: usize = 4_194_304;
@@ -52,26 +52,27 @@ pub fn load_tree<I: Inputs>(alloc: Global, name: &str, inputs: &mut I) -> Result
         (I.told inputs.old) (I.told inputs.new) result }
 {
     match read_all(alloc, inputs, name, TREE_LIMIT) {
-        Ok(bytes) => tree_of_list(alloc, bytes),
+        Ok(bytes) => tree_of(alloc, bytes.as_slice()),
         Err(refusal) => Err(Refusal::of_reading(refusal, Refusal::TreeLong)),
     }
 }
 
-/// The tree of a file's bytes.
+/// The tree of a file's bytes. It is read token by token where the keys of its elements stand in
+/// order, and else by its JSON value, which also tells what is at fault.
 pub(crate) fn tree_of(alloc: Global, bytes: &[u8]) -> Result<Tree, Refusal>
     ensures { GivesOr (tree_of_json (json_in bytes.now)) result }
 {
-    let value = value_of(alloc, bytes)?;
-    tree_of_value(alloc, &value)
+    match ordered_tree(alloc, bytes)? {
+        Some(tree) => Ok(tree),
+        None => tree_by_value(alloc, bytes),
+    }
 }
 
-/// The same of bytes that are let go of before the tree is made: those of a long file are a good
-/// part of the most memory that a run takes.
-fn tree_of_list(alloc: Global, bytes: List<u8>) -> Result<Tree, Refusal>
-    ensures { GivesOr (tree_of_json (json_in bytes)) result }
+/// The same by the JSON value of the bytes.
+fn tree_by_value(alloc: Global, bytes: &[u8]) -> Result<Tree, Refusal>
+    ensures { GivesOr (tree_of_json (json_in bytes.now)) result }
 {
-    let value = value_of(alloc, bytes.as_slice())?;
-    drop(bytes);
+    let value = value_of(alloc, bytes)?;
     tree_of_value(alloc, &value)
 }
 

@@ -1,8 +1,11 @@
-use Rattle.std.proofs.Common.{subst, sym}
-use Rattle.commands.specs.Answer.{tree_of_json}
-use Rattle.commands.specs.Ends.{GivesOr}
+use Rattle.std.proofs.Common.{◌∙◌, ap, inr, subst, sym}
+use Rattle.std.specs.Prelude.{IfSome}
+use Rattle.tree_reader.specs.Read.{IsTreeOf}
+use Rattle.commands.specs.Answer.{of_tree_file, tree_of_json}
 use Rattle.commands.proofs.load.tree_of.Goals as goal
 
-pub returns : goal.returns
-returns c =
-    subst (λ j. GivesOr (tree_of_json j) c.tree_of_value.result) (sym (c.in_ok-value.ensures {u = tt}).read) c.tree_of_value.ensures
+pub returns-in-Some : goal.returns-in-Some
+returns-in-Some c =
+    let bytes = c.args.bytes.now in
+    let tree : IsTreeOf bytes c.in-Some.tree = ? in
+    inr (sym (ap tree_of_json tree.read ∙ ap of_tree_file tree.tree_is))
