@@ -1,4 +1,5 @@
-ghost use Rattle.std.specs.Prelude.{◌≡◌, ◌-◌, ◌^◌, Some, filter, length, min, slice_get};
+ghost use Rattle.std.specs.Prelude.{◌≡◌, ◌<◌, ◌-◌, ◌^◌, Some, filter, length, min, slice_get};
+ghost use Rattle.std.specs.List.{remove};
 ghost use Rattle.kept_results.specs.Ends.{all_undone, fresh_below, fresh_count, sealed, sealed_below, settled, settled_all, stripped};
 ghost use Rattle.kept_results.specs.Kept.{is_fresh};
 ghost use Rattle.kept_results.specs.Tidy.{AreTidy, IsTidy, only_touched};
@@ -116,11 +117,11 @@ fn undo_entries(entries: &mut List<Entry>)
         let at = count - 1 - step;
         match take_origin(entries.at_mut(at)) {
             Origin::Standing => {}
-            Origin::Made => drop(entries.remove(at)),
+            Origin::Made => drop_at(entries, at),
             Origin::Remade(was) => match first_of(was) {
                 Some(before) => restore(entries.at_mut(at), before),
                 // (an entry that was made anew holds what it was)
-                None => drop(entries.remove(at)),
+                None => drop_at(entries, at),
             },
         }
     }
@@ -156,7 +157,17 @@ fn drop_older(entries: &mut List<Entry>, marked: bool)
         if is_live(marked, &entries.as_slice()[at]) {
             drop(take_origin(entries.at_mut(at)));
         } else {
-            drop(entries.remove(at));
+            drop_at(entries, at);
         }
     }
+}
+
+/// Drops the entry at a place. It stands apart, so that entries that stay are passed by without the
+/// frame of this call, which has room for an entry.
+#[inline(never)]
+fn drop_at(entries: &mut List<Entry>, at: usize)
+    requires { at < length entries.old }
+    ensures { entries.new ≡ remove entries.old at }
+{
+    drop(entries.remove(at));
 }

@@ -33,7 +33,7 @@ loop-step-preserved c =
           (sym (w.entries-is ∙ mid ∙ ap (set now at) same ∙ set_same now at x c.at_mut.ensures.value))
           (standing_in before now (count - step) at e x is old stood)
       | in-Made w ↦ subst (λ (l : List Entry). Dropped all_undone before l at)
-          (sym (w.entries-is ∙ w.remove.ensures.others ∙ remove_set now at c.take_origin.new.entry))
+          (sym (w.entries-is ∙ w.drop_at.ensures ∙ remove_set now at c.take_origin.new.entry))
           (made_out before now (count - step) at e x is old (sym origin ∙ w.in-Made.is))
       | in-Remade+in-Some w ↦
           let y = w.at_mut-in-Some.result.now in
@@ -44,6 +44,6 @@ loop-step-preserved c =
           (sym (w.entries-is ∙ set_twice now at c.take_origin.new.entry w.restore.new.entry ∙ ap (set now at) (w.restore.ensures ∙ ap (λ (z : Entry). restored z one) there)))
           (remade_in before now (count - step) at e x is w.in-Remade.was one old (sym origin ∙ w.in-Remade.is) (sym w.first_of.ensures ∙ w.in-Some.is))
       | in-Remade+in-None w ↦ subst (λ (l : List Entry). Dropped all_undone before l at)
-          (sym (w.entries-is ∙ w.remove-in-None.ensures.others ∙ remove_set now at c.take_origin.new.entry))
+          (sym (w.entries-is ∙ w.drop_at-in-None.ensures ∙ remove_set now at c.take_origin.new.entry))
           (remade_out before now (count - step) at e x is w.in-Remade.was old (sym origin ∙ w.in-Remade.is) (sym w.first_of.ensures ∙ w.in-None.is))
     ])
