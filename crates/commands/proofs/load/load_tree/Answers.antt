@@ -1,4 +1,4 @@
-use Rattle.std.proofs.Common.{◌≡◌, refl}
+use Rattle.std.proofs.Common.{◌≡◌}
 use Rattle.commands.specs.Answer.{tree_limit, tree_in}
 use Rattle.commands.specs.declared.refusal.Refusal.TheVariants.{TreeLong, ReadFault}
 use Rattle.commands.proofs.Loading.{tree_read, tree_long, not_read}
@@ -6,7 +6,7 @@ use Rattle.commands.proofs.load.load_tree.Goals as goal
 
 pub returns-in-Ok : goal.returns-in-Ok
 returns-in-Ok g c =
-    tree_read _ _ _ _ _ _ c.in-Ok.ensures.reads refl c.tree_of_list.ensures
+    tree_read _ _ _ _ _ _ c.in-Ok.ensures.reads c.as_slice.ensures c.tree_of.ensures
 
 pub returns-in-Err : goal.returns-in-Err
 returns-in-Err g c =

@@ -7,5 +7,5 @@ use Rattle.commands.proofs.load.tree_of.Goals as goal
 pub returns-in-Some : goal.returns-in-Some
 returns-in-Some c =
     let bytes = c.args.bytes.now in
-    let tree : IsTreeOf bytes c.in-Some.tree = ? in
+    let tree : IsTreeOf bytes c.in-Some.tree = subst (λ o. IfSome o (IsTreeOf bytes)) c.in-Some.is c.in_ok-tree.ensures in
     inr (sym (ap tree_of_json tree.read ∙ ap of_tree_file tree.tree_is))
