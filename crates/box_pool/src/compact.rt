@@ -19,13 +19,16 @@ pub(crate) fn mark_listed(marks: &mut [bool], keep: &[RunId])
     }
 }
 
-/// Moves the cells of a run to a place in front of it. They are copied at once where the two don't
-/// overlap.
+/// Moves the cells of a run to a place in front of it, or leaves them where they are to stay. They
+/// are copied at once where the two don't overlap.
 fn slide(cells: &mut [Cell], run: Place, to: usize)
     requires forward { to ≤ run.start }
     requires within { run.start + run.count ≤ length cells.old }
     ensures { cells.new ≡ copy_within cells.old run.start (run.start + run.count) to }
 {
+    if to == run.start {
+        return;
+    }
     if run.count <= run.start - to {
         let (front, back) = cells.split_at_mut(run.start);
         front[to..to + run.count].copy_from_slice(&back[..run.count]);
