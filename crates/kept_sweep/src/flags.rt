@@ -120,20 +120,11 @@ fn flag_all(
 {
     let mut spot = Spot { index: 0, place: 0 };
     for asked in replies.as_slice() {
-        spot = place_from(
-            node,
-            own,
-            below.as_slice(),
-            spot,
-            asked.question.kid as usize,
-        );
-        let child = &node.children.as_slice()[spot.place];
-        flag_needed(
-            child,
-            below.at_mut(spot.place),
-            &asked.question.context,
-            metrics,
-        );
+        let kid = asked.question.kid as usize;
+        let place = place_from(node, own, below.as_slice(), &mut spot, kid);
+        let child = &node.children.as_slice()[place];
+        let context = &asked.question.context;
+        flag_needed(child, below.at_mut(place), context, metrics);
     }
 }
 

@@ -17,8 +17,8 @@ pub struct Spot {
     pub place: usize,
 }
 
-/// From where on to look for a child in flow: from the last one that was found, or from the start
-/// where it stands before that one.
+/// From where on to look for a child in flow: from behind the last one that was found, or from the
+/// start where it stands before that.
 fn start_for(node: &Node, last: Spot, wanted: usize) -> Spot
     requires last { last.index ≡ shown_before node.now last.place }
     ensures spot { result.index ≡ shown_before node.now result.place }
@@ -31,24 +31,29 @@ fn start_for(node: &Node, last: Spot, wanted: usize) -> Spot
     }
 }
 
-/// Where a child in flow stands among all children, from its place among those in flow. A row asks
-/// its children in order, so that all of them together are found in one walk.
-pub fn place_from(node: &Node, own: &Facts, below: &[Memo], last: Spot, wanted: usize) -> Spot
+/// Where a child in flow stands among all children, from its place among those in flow. The next
+/// search begins behind it: a row asks its children in order, so that all of them together are
+/// found in one walk.
+pub fn place_from(node: &Node, own: &Facts, below: &[Memo], from: &mut Spot, wanted: usize) -> usize
     requires own { own.now ≡ facts node.now }
     requires known { map own_facts below.now ≡ map facts (out-Node node.now).children }
-    requires last { last.index ≡ shown_before node.now last.place }
+    requires last { from.old.index ≡ shown_before node.now from.old.place }
     requires within { wanted < length (flow_children node.now) }
-    ensures spot { result.index ≡ shown_before node.now result.place }
-    ensures child { HasChild node.now wanted (λ child. child.place ≡ result.place) }
+    ensures spot { from.new.index ≡ shown_before node.now from.new.place }
+    ensures child { HasChild node.now wanted (λ child. child.place ≡ result) }
 {
-    let start = start_for(node, last, wanted);
+    let start = start_for(node, *from, wanted);
     let mut index = start.index;
     for place in start.place..below.len() {
         if may_show(own.laid, below[place].facts.laid) {
-            if index == wanted {
-                return Spot { index, place };
-            }
             index += 1;
+            if index > wanted {
+                *from = Spot {
+                    index,
+                    place: place + 1,
+                };
+                return place;
+            }
         }
     }
     unreachable!()

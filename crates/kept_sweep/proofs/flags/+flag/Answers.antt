@@ -85,30 +85,30 @@ flag_wave-returns-else-not-is_empty-clause-flagged t c = flagged_none (questions
 
 -- ---- one question after another
 
-pub flag_all-place_from-spot-requires-clause-known : goal.flag_all-place_from-spot-requires-clause-known
-flag_all-place_from-spot-requires-clause-known t c = ap (map own_facts) c.as_slice.ensures ∙ known_still c.loop-asked.invariant.flagged c.requires.known
+pub flag_all-place_from-place-requires-clause-known : goal.flag_all-place_from-place-requires-clause-known
+flag_all-place_from-place-requires-clause-known t c = ap (map own_facts) c.as_slice.ensures ∙ known_still c.loop-asked.invariant.flagged c.requires.known
 
-pub flag_all-place_from-spot-requires-clause-within : goal.flag_all-place_from-spot-requires-clause-within
-flag_all-place_from-spot-requires-clause-within t c =
+pub flag_all-place_from-place-requires-clause-within : goal.flag_all-place_from-place-requires-clause-within
+flag_all-place_from-place-requires-clause-within t c =
     let node = c.args.node.now in
     let q = c.asked-item.result.question in
     let P : Question → Type 0 = NamesKept node (map cleared c.args.below.now) in
     let named = item_of P _ _ c.loop-asked.asked-index q (All-from_recursion P (questions_in c.args.replies.now) c.requires.named) (ap questions_in c.as_slice-asked-items.ensures) (asked_within _ _ c.loop-asked-test.true) (asked_at _ _ _ c.loop-asked-test.true c.asked-item.is) in
     slice_get_within (flow_children node) q.kid named.child named.to
 
-pub flag_all-bounds-as_slice-spot : goal.flag_all-bounds-as_slice-spot
-flag_all-bounds-as_slice-spot t c =
-    omega (arith, place_near c.args.node.now c.asked-item.result.question.kid c.place_from-spot.result.place c.place_from-spot.ensures.child, ap length c.as_slice-in-loop-asked.ensures)
+pub flag_all-bounds-as_slice-place : goal.flag_all-bounds-as_slice-place
+flag_all-bounds-as_slice-place t c =
+    omega (arith, place_near c.args.node.now c.asked-item.result.question.kid c.place_from-place.result c.place_from-place.ensures.child, ap length c.as_slice-in-loop-asked.ensures)
 
-pub flag_all-offset_bounds-as_slice-spot : goal.flag_all-offset_bounds-as_slice-spot
-flag_all-offset_bounds-as_slice-spot t c =
-    let within = flag_all-bounds-as_slice-spot t c in
+pub flag_all-offset_bounds-as_slice-place : goal.flag_all-offset_bounds-as_slice-place
+flag_all-offset_bounds-as_slice-place t c =
+    let within = flag_all-bounds-as_slice-place t c in
     omega (arith, within, c.as_slice-in-loop-asked.type_inv.0, c.as_slice-in-loop-asked.type_inv.1)
 
 pub flag_all-at_mut-requires : goal.flag_all-at_mut-requires
 flag_all-at_mut-requires t c =
     let node = c.args.node.now in
-    let near = place_near node c.asked-item.result.question.kid c.place_from-spot.result.place c.place_from-spot.ensures.child in
+    let near = place_near node c.asked-item.result.question.kid c.place_from-place.result c.place_from-place.ensures.child in
     let known = ap length (known_still c.loop-asked.invariant.flagged c.requires.known) in
     omega (arith, near, known, length-map c.loop-asked.below own_facts, length-map (out-Node node).children facts)
 
@@ -117,13 +117,13 @@ flag_all-flag_needed-requires t c =
     let m = c.args.metrics.now in
     let node = c.args.node.now in
     let q = c.asked-item.result.question in
-    let place = c.place_from-spot.result.place in
-    let kid = c.index-as_slice-spot.result in
+    let place = c.place_from-place.result in
+    let kid = c.index-as_slice-place.result in
     let old = c.at_mut.result.now in
     let done = c.loop-asked.invariant.flagged in
     let P : Question → Type 0 = NamesKept node (map cleared c.args.below.now) in
     let named = item_of P _ _ c.loop-asked.asked-index q (All-from_recursion P (questions_in c.args.replies.now) c.requires.named) (ap questions_in c.as_slice-asked-items.ensures) (asked_within _ _ c.loop-asked-test.true) (asked_at _ _ _ c.loop-asked-test.true c.asked-item.is) in
-    let to = child_read node kid q.kid place c.as_slice-in-loop-asked.result.now c.place_from-spot.ensures.child c.as_slice-in-loop-asked.ensures c.index-as_slice-spot.is in
+    let to = child_read node kid q.kid place c.as_slice-in-loop-asked.result.now c.place_from-place.ensures.child c.as_slice-in-loop-asked.ensures c.index-as_slice-place.is in
     let at : slice_get (out-Node node).children place ≡ Some kid = among node q.kid record { place = place; node = kid } to in
     let falls : size-Node kid < size-Node node = found_smaller node kid q.kid place to in
     let now = named_now node kid place q c.args.below.now c.loop-asked.below old to done.same c.at_mut.ensures.value named in
@@ -139,10 +139,10 @@ flag_all-loop-asked-preserved t c =
     let q = c.asked-item.result.question in
     let below = c.loop-asked.below in
     let new = c.flag_needed.new.memo in
-    let place = c.place_from-spot.result.place in
-    let kid = c.index-as_slice-spot.result in
+    let place = c.place_from-place.result in
+    let kid = c.index-as_slice-place.result in
     let asked : Contains asks q = subst (λ (l : List Question). Contains l q) (ap questions_in c.as_slice-asked-items.ensures) (i, asked_within _ _ c.loop-asked-test.true, sym (asked_at _ _ _ c.loop-asked-test.true c.asked-item.is)) in
-    let to = child_read node kid q.kid place c.as_slice-in-loop-asked.result.now c.place_from-spot.ensures.child c.as_slice-in-loop-asked.ensures c.index-as_slice-spot.is in
+    let to = child_read node kid q.kid place c.as_slice-in-loop-asked.result.now c.place_from-place.ensures.child c.as_slice-in-loop-asked.ensures c.index-as_slice-place.is in
     let one : AreFlagged m node asks below (set below place new) =
     flagged_one m node kid place asks q asked to below c.at_mut.result.now new c.at_mut.ensures.value c.flag_needed.ensures c.loop-asked.invariant.flagged.agrees in
     let last : NamesKept node (set below place new) q = named_one m node kid place asks q asked to below c.at_mut.result.now new c.at_mut.ensures.value c.flag_needed.ensures in
@@ -150,5 +150,5 @@ flag_all-loop-asked-preserved t c =
       flagged = flagged_both asks (λ x k. k) (λ x k. k) c.loop-asked.invariant.flagged one;
       named = all_more (NamesKept node (set below place new)) items i q (asked_within _ _ c.loop-asked-test.true) (asked_at _ _ _ c.loop-asked-test.true c.asked-item.is)
           (all_then (NamesKept node below) (NamesKept node (set below place new)) (named_still one) (take i items) c.loop-asked.invariant.named) last;
-      counted = c.place_from-spot.ensures.spot;
+      counted = c.place_from-place.ensures.spot;
     }

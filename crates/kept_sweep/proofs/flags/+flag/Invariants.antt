@@ -11,7 +11,7 @@ use Rattle.kept_laid.specs.Places.{shown_before}
 use Rattle.kept_sweep.specs.declared.places.Spot.{Spot}
 use Rattle.kept_sweep.proofs.flags.+flag.Given as goal
 
--- what the first questions need is flagged, and the last child that was asked stands where it was found
+-- what the first questions need is flagged, and the next search begins behind the last child that was asked
 pub record Asked (m : MetricsValue) (node : Node) (asks items : List Question) (index : ℕ) (before below : List Memo) (spot : Spot) : Type 0 where
   pub flagged : AreFlagged m node asks before below
   pub named : AllByRecursion (NamesKept node below) (take index items)

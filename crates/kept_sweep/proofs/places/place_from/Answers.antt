@@ -1,18 +1,43 @@
-use Rattle.std.proofs.Common.{◌∙◌, sym, ap, length, arith}
+use Rattle.std.proofs.Common.{rules, ◌≡◌, ◌∙◌, refl, ap, ℕ, ◌≤◌, Bool, not, length, length-take, take, arith}
 use Rattle.std.proofs.lemmas.List.{length-map}
+use Rattle.std.proofs.lemmas.List.Filters.{length-filter_both}
+use Rattle.math_tree.specs.declared.node.Node.{Node}
 use Rattle.math_tree.specs.declared.node.Node.TheViews.{out-Node}
 use Rattle.embellished.specs.Facts.{facts}
+use Rattle.embellished.specs.Flow.{may_show}
+use Rattle.embellished.specs.Seen.{Child, laid_child}
 use Rattle.kept_results.specs.Looking.{own_facts}
+use Rattle.kept_laid.specs.Places.{all_children, shown_before}
 use Rattle.kept_laid.proofs.Walking.{child_told, found, no_more, not_at_end, one_more}
 use Rattle.kept_sweep.proofs.places.place_from.Goals.{then-may_show+else-index-wanted, else-may_show}
 use Rattle.kept_sweep.proofs.places.place_from.Goals as goal
+
+-- no more may be in flow than stand before a place
+few_before : (node : Node) (place index : ℕ) → index ≡ shown_before node place → index ≤ place
+few_before node place index is =
+    let shows : Child → Bool = λ child. may_show (facts node).laid (laid_child child) in
+    let both = length-filter_both shows (λ child. not (shows child)) (λ child. refl) (take place (all_children node)) in
+    omega (arith, is, both, length-take place (all_children node))
 
 pub returns-then-index-wanted-clause-child : goal.returns-then-index-wanted-clause-child
 returns-then-index-wanted-clause-child c =
     let node = c.args.node.now in
     let place = c.loop-place.place in
     let told = child_told node c.args.own.now c.args.below.now place _ c.may_show.result c.requires.own c.requires.known c.loop-place-test.true c.may_show.ensures in
-    found node place told.0 told.1 c.args.wanted c.requires.within (told.2 ∙ c.if-may_show.true) (sym c.if-index-wanted.true ∙ c.loop-place.invariant.0)
+    let last : c.args.wanted ≡ c.loop-place.index = omega (arith, c.loop-place.invariant.1, c.if-index-wanted.true) in
+    found node place told.0 told.1 c.args.wanted c.requires.within (told.2 ∙ c.if-may_show.true) (last ∙ c.loop-place.invariant.0)
+
+pub returns-then-index-wanted-clause-spot : goal.returns-then-index-wanted-clause-spot
+returns-then-index-wanted-clause-spot c =
+    let node = c.args.node.now in
+    let place = c.loop-place.place in
+    let told = child_told node c.args.own.now c.args.below.now place _ c.may_show.result c.requires.own c.requires.known c.loop-place-test.true c.may_show.ensures in
+    one_more node place told.0 told.1 c.loop-place.index (told.2 ∙ c.if-may_show.true) c.loop-place.invariant.0
+
+pub overflow_add-index : goal.overflow_add-index
+overflow_add-index c =
+    let few : c.loop-place.index ≤ c.loop-place.place = few_before c.args.node.now c.loop-place.place c.loop-place.index c.loop-place.invariant.0 in
+    search rules
 
 pub loop-place-preserved : goal.loop-place-preserved
 loop-place-preserved c =
