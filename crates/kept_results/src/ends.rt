@@ -147,6 +147,18 @@ fn take_origin(entry: &mut Entry) -> Origin
     mem::replace(&mut entry.origin, Origin::Standing)
 }
 
+/// Has an entry stand from now on. Of one that the pass made out of nothing there is nothing to let
+/// go of: most are such.
+fn settle(entry: &mut Entry)
+    ensures { entry.new ≡ settled entry.old }
+{
+    if entry.is_new() {
+        entry.origin = Origin::Standing;
+    } else {
+        drop(take_origin(entry));
+    }
+}
+
 /// Drops the older entries. The others stand from then on.
 fn drop_older(entries: &mut List<Entry>, marked: bool)
     ensures { entries.new ≡ settled_all marked entries.old }
@@ -155,7 +167,7 @@ fn drop_older(entries: &mut List<Entry>, marked: bool)
     for step in 0..count {
         let at = count - 1 - step;
         if is_live(marked, &entries.as_slice()[at]) {
-            drop(take_origin(entries.at_mut(at)));
+            settle(entries.at_mut(at));
         } else {
             drop_at(entries, at);
         }

@@ -23,7 +23,7 @@ loop-step-preserved c =
     (elim c.if-is_live.branch [
       | then-is_live w ↦
           let same : x ≡ w.at_mut.result.now = is ∙ get_or_from_slice_get now at w.at_mut.result.now x w.at_mut.ensures.value in
-          subst (λ (l : List Entry). Dropped (settled_all marked) before l at) (sym (w.entries-is ∙ ap (set now at) (w.take_origin.ensures.entry ∙ ap settled (sym same))))
+          subst (λ (l : List Entry). Dropped (settled_all marked) before l at) (sym (w.entries-is ∙ ap (set now at) (w.settle.ensures ∙ ap settled (sym same))))
           (live_in before now (count - step) at e x is marked c.loop-step.invariant (sym c.is_live.ensures ∙ w.if-is_live.true))
       | else-is_live w ↦ subst (λ (l : List Entry). Dropped (settled_all marked) before l at) (sym (w.entries-is ∙ w.drop_at.ensures))
           (older_out before now (count - step) at e x is marked c.loop-step.invariant (sym c.is_live.ensures ∙ w.if-is_live.false))
