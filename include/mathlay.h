@@ -37,7 +37,8 @@ typedef struct mathlay_metrics {
    `*session = (mathlay_session)MATHLAY_CLOSED;`. */
 #define MATHLAY_CLOSED { NULL }
 
-/* What a call answers. Up to 31 it is the status with which the program ends for the same cause. */
+/* What a call answers. Up to 31 it is the status with which the program ends for the same cause. After any answer but
+   MATHLAY_DONE the session, its last reply, what can be undone and redone, and metrics are as before. */
 enum mathlay_answer {
     MATHLAY_DONE = 0,
     MATHLAY_METRICS = 3,   /* the metrics file is too long, or has a fault */
@@ -47,7 +48,7 @@ enum mathlay_answer {
     MATHLAY_LINE_LONG = 9, /* the line has more than 1,048,576 bytes */
     MATHLAY_NODE = 10,     /* no element in flow has this number */
     MATHLAY_PAINT = 11,    /* more would be painted than may be */
-    MATHLAY_OPEN = 32,     /* the session is open already, or the metrics are read */
+    MATHLAY_OPEN = 32,     /* the session is open already, or the metrics are read already */
     MATHLAY_NOT_OPEN = 33, /* the session is closed, or the metrics are */
     MATHLAY_SHORT = 34,    /* the buffer is too short */
     MATHLAY_NOTHING = 35   /* no box holds the point, or there is nothing to undo or redo */
@@ -70,16 +71,19 @@ typedef struct mathlay_frame {
 /* Opens a closed session over the bytes of a metrics file and of a tree file, and lays the tree out. Files that give no
    session are answered by MATHLAY_METRICS, MATHLAY_TREE or MATHLAY_RANGE, and told by a line, as `metrics 4 13` with a line
    feed, at the front of `refusal`; `refusal_len` is told how long it is, and 0 after MATHLAY_MEMORY. After any other answer
-   both are as before. With room for fewer than MATHLAY_REFUSAL_ROOM bytes nothing is done, and the answer is MATHLAY_SHORT. */
+   both are as before. With room for fewer than MATHLAY_REFUSAL_ROOM bytes the answer is MATHLAY_SHORT, whatever else is wrong;
+   where the session is open it is MATHLAY_OPEN, whatever the files have. */
 uint32_t mathlay_open(const uint8_t *metrics, size_t metrics_len, const uint8_t *tree, size_t tree_len,
                       mathlay_session *session, uint8_t *refusal, size_t refusal_room, size_t *refusal_len);
 
-/* Reads the bytes of a metrics file into closed metrics. What is wrong with them is told as mathlay_open tells it. */
+/* Reads the bytes of a metrics file into closed metrics. What is wrong with them is told as mathlay_open tells it, and so are
+   a room that is too short, and metrics that are read already. */
 uint32_t mathlay_read(const uint8_t *metrics, size_t metrics_len, mathlay_metrics *font,
                       uint8_t *refusal, size_t refusal_room, size_t *refusal_len);
 
-/* Opens a closed session as mathlay_open does, over the bytes of a tree file and a copy of metrics that were read before.
-   The metrics stay as they are, whatever the answer is. Where they are closed, it is MATHLAY_NOT_OPEN. */
+/* Opens a closed session over the bytes of a tree file and a copy of metrics that were read before: with what mathlay_open
+   answers to the bytes of both, and with just the session that it opens, unless memory is refused. The metrics stay as they
+   are, whatever the answer is. Where they are closed, it is MATHLAY_NOT_OPEN, whatever else is wrong. */
 uint32_t mathlay_start(mathlay_metrics *font, const uint8_t *tree, size_t tree_len, mathlay_session *session,
                        uint8_t *refusal, size_t refusal_room, size_t *refusal_len);
 
@@ -87,7 +91,7 @@ uint32_t mathlay_start(mathlay_metrics *font, const uint8_t *tree, size_t tree_l
 void mathlay_forget(mathlay_metrics *font);
 
 /* Does what a line of a script asks for. It needs no line feed at its end, nor a zero byte. The reply is kept until the next
-   line, show, picture or selection that is done. After MATHLAY_MEMORY the session and its last reply are as before. */
+   line, show, picture or selection that is done. */
 uint32_t mathlay_line(mathlay_session *session, const uint8_t *line, size_t line_len);
 
 /* Undoes the last edit that wasn't undone, and makes the edit again that was undone last. Elements get back the numbers that
@@ -109,16 +113,17 @@ uint32_t mathlay_paint(mathlay_session *session);
 uint32_t mathlay_select(mathlay_session *session, uint32_t first, uint32_t second, uint32_t *missing);
 
 /* Copies the kept reply to the front of `out`, with no zero byte behind it, and tells its length in `len`. Where the room is
-   too short it writes nothing, tells the length in `len` and answers MATHLAY_SHORT; nothing is lost. Until the first line, show,
-   picture or selection the reply is empty. */
+   too short nothing is written, the length is told in `len`, and the answer is MATHLAY_SHORT. With another answer both are as
+   before. Until the first line, show, picture or selection the reply is empty. */
 uint32_t mathlay_reply(mathlay_session *session, uint8_t *out, size_t out_room, size_t *len);
 
-/* The box of the whole formula. */
+/* The box of the whole formula. `frame` is written by no other answer than MATHLAY_DONE. */
 uint32_t mathlay_root(mathlay_session *session, mathlay_frame *frame);
 
 /* The number of the element at a point, as box lines have it: of those whose boxes hold the point, the last of the deepest.
    A box holds its left and its upper edge, and not the others. The point is given in 1/1024 px, to the right and downward
-   from where the baseline of the whole begins, as in the lines of boxes. */
+   from where the baseline of the whole begins, as in the lines of boxes. `element` is written by no other answer than
+   MATHLAY_DONE. */
 uint32_t mathlay_hit(mathlay_session *session, int64_t x, int64_t y, uint32_t *element);
 
 /* Ends the session, if it is open, and frees all that it has. It is closed then, and may be opened again. */

@@ -38,7 +38,7 @@ NAMES = {
     9: "the line has more than 1,048,576 bytes",
     10: "no element in flow has this number",
     11: "more would be painted than may be",
-    32: "the session is open already, or the metrics are read",
+    32: "the session is open already, or the metrics are read already",
     33: "the session is closed, or the metrics are",
     34: "the buffer is too short",
     35: "no box holds the point, or there is nothing to undo or redo",
