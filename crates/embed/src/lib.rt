@@ -24,6 +24,7 @@ mod frame; // Frame
 mod growing; // a sink in memory
 mod handle; // Handle
 mod kept_reply; // KeptReply
+pub mod laws; // of all files
 mod starting; // what the exports over a handle of metrics do
 
 ghost use Rattle.std.specs.Prelude.{◌≡◌, None};
