@@ -29,7 +29,7 @@ use std::sync::ledger::{Blank, Ledger};
 /// How many edits can be undone.
 const DEPTH: usize = 1_000;
 
-/// What a handle keeps: a session whose edits can be undone, and the reply to the last call.
+/// What a handle keeps: a session whose edits can be undone, and its last reply.
 #[derive(Drop)]
 pub struct Desk {
     ring: Ring<Undoable>,
