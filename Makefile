@@ -16,7 +16,7 @@ PROGRAM = crates/mathlay/out/mathlay
 TOOLS = page formula picture font_metrics mathml_tree explain editor
 
 KIT = $(dir $(shell rt doc))
-ARCHIVE = crates/embed/out/libembed.a
+ARCHIVE = crates/embed_c/out/libembed_c.a
 
 help:
 	@echo 'make install PREFIX=FOLDER    the program, the tools and the manual page (PREFIX is $(PREFIX))'
@@ -51,7 +51,7 @@ uninstall:
 	rm -rf $(SHARE)
 
 library:
-	cd crates/embed && rt lib
+	cd crates/embed_c && rt lib
 	$(MAKE) -s archive
 
 # It stands alone: the kit's heap, over malloc, is put in.

@@ -8,10 +8,13 @@
       as a move after which the old one isn't used.
    2. No pointer is null, even with a length of 0; each points to as many bytes as its length says, of which those that
       are read have a value; what a call writes overlaps no other argument.
-   3. One call at a time on a session, and on metrics, and none from a signal handler.
+   3. One call at a time on a session, and on metrics; a start is one on both. None from a signal handler, nor in the child
+      that a process with threads has forked.
       Both may go from thread to thread, if a lock, a thread's start or its end orders the calls.
       Sessions share nothing, even if they were started with the same metrics: different ones may be used by different
-      threads at the same time. */
+      threads at the same time.
+   4. `malloc`, `realloc` and `free` are those of one heap, which any thread may call, and whose blocks are aligned as the C
+      library's are. */
 #ifndef MATHLAY_H
 #define MATHLAY_H
 

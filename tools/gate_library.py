@@ -4,12 +4,13 @@
     python3 tools/gate_library.py
 
 `rt ci` builds no static library, and `rt lib` would prove all crates below once more, since it takes nothing of what the gate
-proved. So `rattle build` is called here as `rt lib` calls it, with the libraries that the gate left in each crate's folder out/. It
-proves the crate `embed` once more, and builds it. The last line says how long that took, or what was in the way; the status is 0
-where all was made, 1 where `embed` was refused, and 2 otherwise. tests/test_library.py does the same by itself, in a clone where
-`rt ci` alone has built anything and MATHLAY_LIBRARY is set.
+proved. So `rattle build` is called here as `rt lib` calls it, with the libraries that the gate left in each crate's folder out/. Only
+the exports, the crate `embed_c`, are proved once more. What was made of just these libraries and exports before is kept. The last
+line says what came of it; the status is 0 where both are there, 1 where `embed_c` was refused, and 2 where something was in the way.
+tests/test_library.py does the same by itself, in a clone where `rt ci` alone has built anything.
 """
 
+import hashlib
 import os
 import shutil
 import signal
@@ -21,7 +22,8 @@ from pathlib import Path
 import quick
 
 TOP = quick.TOP
-NAME = "embed"
+NAME = "embed_c"
+COMMANDS = ("rt", "make", "ar", "cc")
 SECONDS = 600
 MADE, REFUSED, HINDERED = 0, 1, 2
 LINES = 20
@@ -34,28 +36,42 @@ def main():
 
 
 def make():
-    """Makes both, and gives the status and what is to be told."""
+    """Finds or makes both, and gives the status and what is to be told."""
     began = time.monotonic()
-    rt = shutil.which("rt")
-    if not rt or not shutil.which("make"):
-        return HINDERED, "`make`, and the kit's folder bin/, have to be in PATH"
+    lost = [name for name in COMMANDS if not shutil.which(name)]
+    if lost:
+        return HINDERED, f"{', '.join(lost)}: not in PATH, and needed to make the library"
     lost = [name for name, library in libraries().items() if not (library / "format").is_file()]
     if lost:
         return HINDERED, f"{', '.join(lost)}: not built by `rt ci`"
-    kit, folder = Path(os.path.realpath(rt)).parent.parent, TOP / "crates" / NAME
+    kit = Path(os.path.realpath(shutil.which("rt"))).parent.parent
+    wanted, note = sum_of(kit), TOP / "build" / "made_of"
+    files = [TOP / "libmathlay.a", TOP / "libmathlay.so"]
+    if all(file.is_file() for file in files) and note.is_file() and note.read_text(encoding="utf-8") == wanted + sum_of_files(files):
+        return MADE, "the library that was made of the same before"
+    status, told = build(kit)
+    if status:
+        return status, told
+    note.parent.mkdir(exist_ok=True)
+    note.write_text(wanted + sum_of_files(files), encoding="utf-8")
+    return MADE, f"made in {time.monotonic() - began:.0f} s"
+
+
+def build(kit):
+    """Proves the exports, and makes both libraries of them."""
+    folder = TOP / "crates" / NAME
     (folder / "out").mkdir(exist_ok=True)
     status, told = within(SECONDS, words(kit), folder)
     if status:
         return REFUSED if status == 1 else HINDERED, f"{NAME} isn't built: status {status}\n{told}"
     status, told = within(SECONDS, ["make", "-s", "archive"], TOP)
-    if status:
-        return HINDERED, f"`make archive` ended with status {status}\n{told}"
-    return MADE, f"made in {time.monotonic() - began:.0f} s"
+    return (HINDERED, f"`make archive` ended with status {status}\n{told}") if status else (MADE, told)
 
 
 def is_behind_the_gate():
     """Whether `rt ci` has built all libraries below, and no other command has: a library of theirs has a stamp beside it."""
-    return all((library / "format").is_file() and not (library.parent / "stamp").exists() for library in libraries().values())
+    found = libraries().values()
+    return bool(found) and all((library / "format").is_file() and not (library.parent / "stamp").exists() for library in found)
 
 
 def libraries():
@@ -63,6 +79,21 @@ def libraries():
     crates = quick.crates_named()
     return {name: TOP / "crates" / name / "out" / "rlib" / f"{name}.rlib"
             for name in sorted(quick.below(crates, NAME) - {NAME}) if name in crates}
+
+
+def sum_of(kit):
+    """A sum of all that the library is made of. A library's file `format` has the sum of its other files."""
+    exports = sorted(path for part in ("src", "specs", "proofs") for path in (TOP / "crates" / NAME / part).rglob("*") if path.is_file())
+    kept = [library / "format" for library in libraries().values()]
+    return sum_of_files([*kept, *exports, TOP / "crates.txt", TOP / "Makefile", TOP / "include" / "mathlay.map", kit / "KIT-ID"])
+
+
+def sum_of_files(files):
+    """A sum of files: where each stands, and its bytes. One that isn't there counts as empty."""
+    found = hashlib.sha256()
+    for file in files:
+        found.update(repr((os.path.relpath(file, TOP), file.read_bytes() if file.is_file() else b"")).encode())
+    return found.hexdigest()
 
 
 def words(kit):

@@ -1,8 +1,8 @@
 """The library for other programs: its answers are the program's own bytes, and programs of C that misuse it lose nothing.
 
 `rt ci` proves it and builds no archive; `make library` does. In a clone where `rt ci` alone has built anything, as where `.ci/run`
-runs, the archive is made here first, of what `rt ci` proved (gate_library.py), if MATHLAY_LIBRARY is set: that proves `embed` once
-more, which takes minutes. The quick run, which proves nothing, forbids it."""
+runs, the archive is found or made here first, of what `rt ci` proved (gate_library.py): that proves the exports once more. The quick
+run, which proves nothing, forbids it."""
 
 import copy
 import json
@@ -37,19 +37,26 @@ needs_program = unittest.skipUnless(PROGRAM.exists(), "the program isn't built: 
 sys.path.insert(0, str(TOP / "bindings" / "python"))
 
 
-# What came of making the archive behind the gate: the status, and what was told.
+# What came of finding or making the archive behind the gate: the status, and what was told.
 BEHIND_THE_GATE = []
 
 
 def setUpModule():
-    wanted = "MATHLAY_LIBRARY" in os.environ and quick.NO_PROOF not in os.environ
-    if wanted and not ARCHIVE.exists() and gate_library.is_behind_the_gate():
+    if quick.NO_PROOF not in os.environ and gate_library.is_behind_the_gate():
         BEHIND_THE_GATE.append(gate_library.make())
         print(f"gate_library: {BEHIND_THE_GATE[0][1]}", flush=True)
 
 
+def hindered(told):
+    """Why a test over the archive is skipped, in a line."""
+    return f"the library isn't made behind the gate: {told.splitlines()[0]}"
+
+
 def needed(test, *files):
-    """Skips a test where one of these isn't there."""
+    """Skips a test where one of these isn't there, or wasn't made of what the gate has proved."""
+    status, told = BEHIND_THE_GATE[0] if BEHIND_THE_GATE else (gate_library.MADE, "")
+    if status:
+        test.skipTest(hindered(told))
     lost = [file.name for file in files if not file.exists()]
     if lost:
         test.skipTest(f"{' and '.join(lost)} isn't built: make library")
@@ -80,7 +87,9 @@ class TheGate(unittest.TestCase):
         if not BEHIND_THE_GATE:
             self.skipTest("the archive isn't made by gate_library.py here")
         status, told = BEHIND_THE_GATE[0]
-        self.assertNotEqual(status, gate_library.REFUSED, told)
+        if status == gate_library.HINDERED:
+            self.skipTest(hindered(told))
+        self.assertEqual(status, gate_library.MADE, told)
 
 
 class Library(InFolder):

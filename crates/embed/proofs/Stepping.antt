@@ -1,7 +1,8 @@
 -- What a call of a ring makes of what its desk keeps.
-use Rattle.std.proofs.Common.{◌≡◌, ◌∙◌, sym, ap, refl, subst, ℕ, List, Option, Some, None}
+use Rattle.std.proofs.Common.{◌≡◌, ◌≢◌, ◌∙◌, sym, ap, refl, subst, ℕ, List, Option, Some, None}
 use Rattle.std.specs.Prelude.{Result, Ok, Err, IfOk, OnOk, OnErr, IfSome}
 use Rattle.std.specs.Option.{option_map}
+use Rattle.std.proofs.lemmas.Option.{none-some}
 use Rattle.font_metrics.specs.Metrics.{MetricsValue}
 use Rattle.tree_edits.specs.declared.command.Command.TheVariants.{Show}
 use Rattle.tree_edits.specs.declared.edit.Edit.{Edit}
@@ -11,7 +12,7 @@ use Rattle.edit_session.specs.Session.{SessionValue, page}
 use Rattle.edit_ring.specs.Grounds.{GroundTold}
 use Rattle.edit_ring.specs.Rings.{History, RingMoves, RingState, after_redo, after_undo, history_of, redone as ring_redone, undone as ring_undone}
 use Rattle.edit_ring.specs.declared.ring.RingRefusal.{RingRefusal}
-use Rattle.edit_ring.specs.declared.ring.RingRefusal.TheVariants.{Nothing as HoldsNone}
+use Rattle.edit_ring.specs.declared.ring.RingRefusal.TheVariants.{Nothing as HoldsNone, Memory as LacksMemory}
 use Rattle.queries.specs.Queries.{IsCause, answer_to, bytes_of}
 use Rattle.queries.specs.declared.answers.Answer.{Answer}
 use Rattle.queries.specs.declared.query.Query.{Query}
@@ -51,6 +52,13 @@ module _ (way : RingState → Option RingState) (next : History → Option Histo
   no_step : (result : Result (Unit {0}) RingRefusal) → RingMoves TakesNeeded way next before after kept s t result → result ≡ Err HoldsNone → Then ≡ None
   no_step result m is = ap (option_map (with_history (desk_in reply before))) (m.nothing.0 is)
 
+  none_there : (found : Option History) → option_map (with_history (desk_in reply before)) found ≡ None → found ≡ None
+  none_there None none = refl
+  none_there (Some history) none = absurd (none-some _ (sym none))
+
+  some_step : (result : Result (Unit {0}) RingRefusal) → RingMoves TakesNeeded way next before after kept s t result → result ≡ Err LacksMemory → Then ≢ None
+  some_step result m is none = absurd (let e = sym is ∙ m.nothing.1 (none_there (next (history_of before)) none) in cc)
+
   unmoved : (result : Result (Unit {0}) RingRefusal) → RingMoves TakesNeeded way next before after kept s t result
       → OnErr result (desk_in reply after ≡ desk_in reply before)
   unmoved (Ok done) m = tt
@@ -80,6 +88,9 @@ module _ (before after : RingState) (s t : ℕ) (reply : KeptReply) (result : Re
     pub undo_none : result ≡ Err HoldsNone → undone (desk_in reply before) ≡ None
     undo_none = no_step ring_undone after_undo before after before.past s t keeps_back reply result m
 
+    pub undo_some : result ≡ Err LacksMemory → undone (desk_in reply before) ≢ None
+    undo_some = some_step ring_undone after_undo before after before.past s t keeps_back reply result m
+
     pub undo_kept : OnErr result (desk_in reply after ≡ desk_in reply before)
     undo_kept = unmoved ring_undone after_undo before after before.past s t keeps_back reply result m
 
@@ -95,6 +106,9 @@ module _ (before after : RingState) (s t : ℕ) (reply : KeptReply) (result : Re
 
     pub redo_none : result ≡ Err HoldsNone → redone (desk_in reply before) ≡ None
     redo_none = no_step ring_redone after_redo before after before.future s t keeps_forth reply result m
+
+    pub redo_some : result ≡ Err LacksMemory → redone (desk_in reply before) ≢ None
+    redo_some = some_step ring_redone after_redo before after before.future s t keeps_forth reply result m
 
     pub redo_kept : OnErr result (desk_in reply after ≡ desk_in reply before)
     redo_kept = unmoved ring_redone after_redo before after before.future s t keeps_forth reply result m

@@ -101,9 +101,10 @@ Starts font tree old new answer = ⊥
 
 -- a line is answered, or why not; its reply is kept
 abbrev pub Lines : List ℕ → Option DeskValue → Option DeskValue → Answer → Type 0
-Lines line old new Done = Becomes old new (λ desk next. next ≡ after desk line)
+Lines line old new Done =
+    (length line ≤ longest_line) × Becomes old new (λ desk next. next ≡ after desk line)
 Lines line old new LineLong = (old ≢ None) × (longest_line < length line) × (new ≡ old)
-Lines line old new Memory = (old ≢ None) × (new ≡ old)
+Lines line old new Memory = (old ≢ None) × (length line ≤ longest_line) × (new ≡ old)
 Lines line old new Closed = (old ≡ None) × (new ≡ old)
 Lines line old new answer = ⊥
 
@@ -120,12 +121,13 @@ answer_of_step (Ok done) = Done
 answer_of_step (Err HoldsNone) = Nothing
 answer_of_step (Err LacksMemory) = Memory
 
--- an edit is undone, or made again: `way` says what is kept then; there is none, or why not
+-- an edit is undone, or made again: `way` says what is kept then; or there is none; or there is one,
+-- and why it isn't
 abbrev pub Goes : (DeskValue → Option DeskValue) → Option DeskValue → Option DeskValue → Answer
     → Type 0
 Goes way old new Done = Becomes old new (λ desk next. way desk ≡ Some next)
 Goes way old new Nothing = Keeps old (λ desk. way desk ≡ None) × (new ≡ old)
-Goes way old new Memory = (old ≢ None) × (new ≡ old)
+Goes way old new Memory = Keeps old (λ desk. way desk ≢ None) × (new ≡ old)
 Goes way old new Closed = (old ≡ None) × (new ≡ old)
 Goes way old new answer = ⊥
 

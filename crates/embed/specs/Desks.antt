@@ -1,5 +1,4 @@
--- What a handle keeps: a formula with what can be undone and redone, and the reply to the last
--- call.
+-- What a handle keeps: a formula with what can be undone and redone, and its last reply.
 use Rattle.std.specs.Prelude.{◌≡◌, ℕ, ℤ, List, [], Option, Ok}
 use Rattle.std.specs.Option.{option_map}
 use Rattle.font_metrics.specs.Metrics.{MetricsValue}

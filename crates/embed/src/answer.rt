@@ -8,15 +8,15 @@ use commands::{Refusal, Status};
 pub enum Answer {
     /// What was asked for is done.
     Done,
-    /// The files don't give a session, or the page has no answer.
+    /// The files give no session or no metrics, or the page has no answer.
     Refused(Refusal),
     /// The line has more bytes than the longest.
     LineLong,
     /// Memory was refused.
     Memory,
-    /// The handle keeps a session already.
+    /// The handle keeps a session or metrics already.
     Open,
-    /// The handle keeps no session.
+    /// The handle keeps no session, or no metrics.
     Closed,
     /// The buffer is too short.
     Short,

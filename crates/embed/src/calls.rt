@@ -20,10 +20,10 @@ use std::alloc::Global;
 /// The most bytes that a line may have: 1 MiB.
 const LONGEST_LINE: usize = 1_048_576;
 
-/// The most bytes that the line of a refusal may have.
+/// The room that a caller has for the line of a refusal.
 pub const REFUSAL_ROOM: usize = 160;
 
-/// Opens a session in a closed handle.
+/// Opens a session in a closed handle, over the bytes of a metrics file and of a tree file.
 pub fn opened(
     alloc: Global,
     metrics: &[u8],
@@ -222,7 +222,7 @@ fn answer_query(found: Result<(), QueryRefusal>) -> Answer
     }
 }
 
-/// Copies the last reply.
+/// Copies the last reply to the front of a buffer.
 pub fn told(alloc: Global, handle: &mut Handle, out: &mut [u8], len: &mut usize) -> Answer
     ensures { Tells (seen handle.old.kept out.old len.old)
         (seen handle.new.kept out.new len.new) result }
@@ -280,4 +280,11 @@ fn tell_element(alloc: Global, desk: &mut Desk, x: i64, y: i64, element: &mut u3
         Ok(None) => Answer::Nothing,
         Err(Memory) => Answer::Memory,
     }
+}
+
+/// Ends the session, if there is one.
+pub fn closed(alloc: Global, handle: &mut Handle)
+    ensures { handle.new.kept ≡ None }
+{
+    std::mem::drop(handle.take(alloc));
 }

@@ -1,5 +1,5 @@
-ghost use Rattle.std.specs.Prelude.{◌≡◌, ◌<◌, None, Some, Ok, Err, IfOk, IfErr, OnOk, OnErr};
-ghost use Rattle.edit_ring.specs.declared.ring.RingRefusal.TheVariants.{Nothing as HoldsNone};
+ghost use Rattle.std.specs.Prelude.{◌≡◌, ◌≢◌, ◌<◌, None, Some, Ok, Err, IfOk, IfErr, OnOk, OnErr};
+ghost use Rattle.edit_ring.specs.declared.ring.RingRefusal.TheVariants.{Nothing as HoldsNone, Memory as LacksMemory};
 ghost use Rattle.edit_session.specs.Session.{root_box};
 ghost use Rattle.queries.specs.Queries.{IsCause, answer_to};
 ghost use Rattle.commands.specs.Answer.{opened, opened_over};
@@ -29,7 +29,7 @@ use std::sync::ledger::{Blank, Ledger};
 /// How many edits can be undone.
 const DEPTH: usize = 1_000;
 
-/// What a handle keeps: a session whose edits can be undone, and the reply to the last call.
+/// What a handle keeps: a session whose edits can be undone, and its last reply.
 #[derive(Drop)]
 pub struct Desk {
     ring: Ring<Undoable>,
@@ -165,6 +165,7 @@ impl Desk {
     pub fn undo(&mut self, alloc: Global) -> Result<(), RingRefusal>
         ensures undone { OnOk result (undone self.old ≡ Some self.new) }
         ensures nothing { result ≡ Err HoldsNone → undone self.old ≡ None }
+        ensures memory { result ≡ Err LacksMemory → undone self.old ≢ None }
         ensures unchanged { OnErr result (self.new ≡ self.old) }
     {
         self.undo_counted::<Brand>(alloc, Blank::new(1))
@@ -177,6 +178,7 @@ impl Desk {
         requires some { 0 < blank.parts }
         ensures undone { OnOk result (undone self.old ≡ Some self.new) }
         ensures nothing { result ≡ Err HoldsNone → undone self.old ≡ None }
+        ensures memory { result ≡ Err LacksMemory → undone self.old ≢ None }
         ensures unchanged { OnErr result (self.new ≡ self.old) }
     {
         self.ring.undo(alloc, &mut Steps::<L>::new(blank))
@@ -186,6 +188,7 @@ impl Desk {
     pub fn redo(&mut self, alloc: Global) -> Result<(), RingRefusal>
         ensures redone { OnOk result (redone self.old ≡ Some self.new) }
         ensures nothing { result ≡ Err HoldsNone → redone self.old ≡ None }
+        ensures memory { result ≡ Err LacksMemory → redone self.old ≢ None }
         ensures unchanged { OnErr result (self.new ≡ self.old) }
     {
         self.redo_counted::<Brand>(alloc, Blank::new(1))
@@ -198,6 +201,7 @@ impl Desk {
         requires some { 0 < blank.parts }
         ensures redone { OnOk result (redone self.old ≡ Some self.new) }
         ensures nothing { result ≡ Err HoldsNone → redone self.old ≡ None }
+        ensures memory { result ≡ Err LacksMemory → redone self.old ≢ None }
         ensures unchanged { OnErr result (self.new ≡ self.old) }
     {
         self.ring.redo(alloc, &mut Steps::<L>::new(blank))

@@ -11,8 +11,8 @@ use std::marker::Model;
 use std::mem;
 use std::ptr::null_mut;
 
-/// What C holds of the metrics of a font: where they lie, or null. It is as large as a pointer, and
-/// whoever has it owns the metrics.
+/// A handle of metrics: what C holds of the metrics of a font, where they lie, or null. It is as
+/// large as a pointer, and whoever has it owns the metrics.
 #[repr(C)]
 pub struct Font {
     at: *mut u8,
@@ -25,15 +25,18 @@ impl Model for Font {
     ghost also_owns = { λ font. font_owns font.at font.kept };
 }
 
+// What it owns says the same to every thread.
+unsafe impl Send for Font {}
+
 impl Font {
-    /// One that keeps nothing.
+    /// A handle that keeps nothing.
     pub(crate) fn closed() -> Font
         ensures { result.kept ≡ None }
     {
         Font { at: null_mut() }
     }
 
-    /// One that keeps the metrics.
+    /// A handle that keeps the metrics.
     pub(crate) fn of(metrics: Loose<Metrics, Global>) -> Font
         ensures { result.kept ≡ Some metrics.value }
     {
@@ -41,7 +44,7 @@ impl Font {
         Font { at: at as *mut u8 }
     }
 
-    /// What it keeps, taken apart.
+    /// What the handle keeps, taken apart.
     pub(crate) fn into_loose(self, alloc: Global) -> Option<Loose<Metrics, Global>>
         ensures { MatchOption result (self.kept ≡ None) (λ l. self.kept ≡ Some l.value) }
     {
@@ -56,7 +59,7 @@ impl Font {
         }
     }
 
-    /// Takes out what it keeps, and leaves it closed.
+    /// Takes out what the handle keeps, and leaves it closed.
     pub(crate) fn take(&mut self, alloc: Global) -> Option<Box<Metrics>>
         ensures taken { MatchOption result (self.old.kept ≡ None) (λ metrics. self.old.kept
             ≡ Some metrics.value) }

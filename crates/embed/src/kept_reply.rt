@@ -6,7 +6,7 @@ use doc_io::{Sink, WriteFault};
 use font_metrics::Metrics;
 use queries::Answer;
 
-/// A reply that is kept until another call is answered.
+/// A reply that is kept until the next one.
 #[derive(Debug, Drop)]
 pub enum KeptReply {
     /// To a line of a script, or to a look at the page.

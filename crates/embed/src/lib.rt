@@ -1,22 +1,23 @@
-//! The engine for other programs: sessions that a C program holds from call to call, in a static
-//! library. `include/mathlay.h` is what a C program reads.
+//! The engine for other programs: sessions that a C program holds from call to call. `embed_c` is
+//! the static library over it, and `include/mathlay.h` what a C program reads.
 //!
-//! A handle is closed, or it keeps a desk: a session whose edits can be undone, and the reply to
-//! the last call. A handle of another kind keeps metrics, of which any number of sessions take
+//! A handle is closed, or it keeps a desk: a session whose edits can be undone, and its last reply.
+//! A handle of another kind is closed, or it keeps metrics, of which any number of sessions take
 //! copies. No call has a condition: a closed handle, one that is open already, a line that is too
 //! long, a buffer that is too short are told, and lose nothing.
 //!
 //! - Models: the lines of docs/FORMATS.md, and their replies, as `history` answers them.
-//! - Proved: what each call makes of the session that the handle keeps, and of the caller's buffer,
-//!   and when it gives each of its answers (`specs/Calls.antt`).
-//! - Not proved: what the C program owes, which stands in the header.
+//! - Proved: what each call makes of the session or the metrics that a handle keeps, and of the
+//!   caller's buffer, and when it gives each of its answers (`specs/Calls.antt`); that a session
+//!   which is started with metrics is the one that is opened over their bytes (a law).
 //! - Knows nothing of: files, fonts, how a line is answered, how an edit is undone, what is
 //!   painted.
-//! - Change a call: its definition in `specs/Calls.antt`, then its function here, then the header.
+//! - Change a call: its definition in `specs/Calls.antt`, then its function here, its export in
+//!   `embed_c` and the header.
 #![tactic(auto)]
 
 mod answer; // Answer
-mod calls; // what each export does
+pub mod calls; // on a session
 mod copying; // texts into buffers
 mod desk; // Desk
 mod font; // Font
@@ -24,187 +25,10 @@ mod frame; // Frame
 mod growing; // a sink in memory
 mod handle; // Handle
 mod kept_reply; // KeptReply
-mod starting; // what the exports over a handle of metrics do
-
-ghost use Rattle.std.specs.Prelude.{◌≡◌, None};
-ghost use Rattle.queries.specs.declared.query.Query.TheVariants.{Paint, Select};
-ghost use Rattle.embed.specs.Calls.{Answers, Asks, Goes, Hits, Lines, Measures, Misses, Opens, Reads, Shows, Starts, Tells, seen};
-ghost use Rattle.embed.specs.Desks.{redone, undone};
+pub mod laws; // of all files
+pub mod starting; // on metrics, and a session with them
 
 pub use answer::Answer;
-use calls::{answered, hit_at, measured, opened, painted, redone, selected, shown, told, undone};
 pub use font::Font;
 pub use frame::Frame;
 pub use handle::Handle;
-use starting::{read, started};
-use std::alloc::Global;
-
-/// Opens a session in a closed handle, over the bytes of a metrics file and of a tree file. A
-/// refusal is told by the program's status and by the program's line, for which there must be 160
-/// bytes of room.
-#[unsafe(no_mangle)]
-pub extern "C" fn mathlay_open(
-    alloc: Global,
-    metrics: &[u8],
-    tree: &[u8],
-    handle: &mut Handle,
-    refusal: &mut [u8],
-    refusal_len: &mut usize,
-) -> u32
-    ensures { Answers (Opens metrics.now tree.now
-        (seen handle.old.kept refusal.old refusal_len.old)
-        (seen handle.new.kept refusal.new refusal_len.new)) result }
-{
-    opened(alloc, metrics, tree, handle, refusal, refusal_len).number()
-}
-
-/// Reads the bytes of a metrics file into a closed handle of metrics. A refusal is told as
-/// `mathlay_open` tells it.
-#[unsafe(no_mangle)]
-pub extern "C" fn mathlay_read(
-    alloc: Global,
-    metrics: &[u8],
-    font: &mut Font,
-    refusal: &mut [u8],
-    refusal_len: &mut usize,
-) -> u32
-    ensures { Answers (Reads metrics.now
-        (seen font.old.kept refusal.old refusal_len.old)
-        (seen font.new.kept refusal.new refusal_len.new)) result }
-{
-    read(alloc, metrics, font, refusal, refusal_len).number()
-}
-
-/// Opens a session in a closed handle, over the bytes of a tree file and a copy of the metrics that
-/// another handle keeps. That handle stays as it is. A refusal is told as `mathlay_open` tells it.
-#[unsafe(no_mangle)]
-pub extern "C" fn mathlay_start(
-    alloc: Global,
-    font: &mut Font,
-    tree: &[u8],
-    handle: &mut Handle,
-    refusal: &mut [u8],
-    refusal_len: &mut usize,
-) -> u32
-    ensures kept { font.new.kept ≡ font.old.kept }
-    ensures starts { Answers (Starts font.old.kept tree.now
-        (seen handle.old.kept refusal.old refusal_len.old)
-        (seen handle.new.kept refusal.new refusal_len.new)) result }
-{
-    started(alloc, font, tree, handle, refusal, refusal_len).number()
-}
-
-/// Drops the metrics, if there are any. Sessions that were started with them stay. The handle is
-/// closed then, and may be used again.
-#[unsafe(no_mangle)]
-pub extern "C" fn mathlay_forget(alloc: Global, font: &mut Font)
-    ensures { font.new.kept ≡ None }
-{
-    std::mem::drop(font.take(alloc));
-}
-
-/// Does what a line of a script asks for. The reply is kept.
-#[unsafe(no_mangle)]
-pub extern "C" fn mathlay_line(alloc: Global, handle: &mut Handle, line: &[u8]) -> u32
-    ensures { Answers (Lines line.now handle.old.kept handle.new.kept) result }
-{
-    answered(alloc, handle, line).number()
-}
-
-/// Undoes the last edit that wasn't undone. The last reply stays.
-#[unsafe(no_mangle)]
-pub extern "C" fn mathlay_undo(alloc: Global, handle: &mut Handle) -> u32
-    ensures { Answers (Goes undone handle.old.kept handle.new.kept) result }
-{
-    undone(alloc, handle).number()
-}
-
-/// Makes the edit again that was undone last. The last reply stays.
-#[unsafe(no_mangle)]
-pub extern "C" fn mathlay_redo(alloc: Global, handle: &mut Handle) -> u32
-    ensures { Answers (Goes redone handle.old.kept handle.new.kept) result }
-{
-    redone(alloc, handle).number()
-}
-
-/// Keeps the lines of the page's boxes and marks as the reply.
-#[unsafe(no_mangle)]
-pub extern "C" fn mathlay_show(alloc: Global, handle: &mut Handle) -> u32
-    ensures { Answers (Shows handle.old.kept handle.new.kept) result }
-{
-    shown(alloc, handle).number()
-}
-
-/// Keeps a picture of the page, as SVG, as the reply.
-#[unsafe(no_mangle)]
-pub extern "C" fn mathlay_paint(alloc: Global, handle: &mut Handle) -> u32
-    ensures { Answers (Asks Paint handle.old.kept handle.new.kept) result }
-{
-    painted(alloc, handle).number()
-}
-
-/// Keeps the lines of the areas to mark from one element to another as the reply. Where one of them
-/// isn't there, its number is told.
-#[unsafe(no_mangle)]
-pub extern "C" fn mathlay_select(
-    alloc: Global,
-    handle: &mut Handle,
-    first: u32,
-    second: u32,
-    missing: &mut u32,
-) -> u32
-    ensures { Answers (λ answer.
-        Asks (Select (record { 0 = first }) (record { 0 = second })) handle.old.kept handle.new.kept
-        answer
-        × Misses missing.old missing.new answer) result }
-{
-    selected(alloc, handle, first, second, missing).number()
-}
-
-/// Copies the last reply to the front of a buffer, and tells how long it is. Where the buffer is
-/// too short nothing is written, and the length is told.
-#[unsafe(no_mangle)]
-pub extern "C" fn mathlay_reply(
-    alloc: Global,
-    handle: &mut Handle,
-    out: &mut [u8],
-    len: &mut usize,
-) -> u32
-    ensures { Answers (Tells (seen handle.old.kept out.old len.old)
-        (seen handle.new.kept out.new len.new)) result }
-{
-    told(alloc, handle, out, len).number()
-}
-
-/// The box of the tree's root.
-#[unsafe(no_mangle)]
-pub extern "C" fn mathlay_root(alloc: Global, handle: &mut Handle, frame: &mut Frame) -> u32
-    ensures kept { handle.new.kept ≡ handle.old.kept }
-    ensures measures { Answers (Measures handle.old.kept frame.old frame.new) result }
-{
-    measured(alloc, handle, frame).number()
-}
-
-/// The element that a point lies in: of those whose boxes hold it, the last of the deepest. Lengths
-/// are in 1/1024 px, to the right and downward from where the root's baseline begins.
-#[unsafe(no_mangle)]
-pub extern "C" fn mathlay_hit(
-    alloc: Global,
-    handle: &mut Handle,
-    x: i64,
-    y: i64,
-    element: &mut u32,
-) -> u32
-    ensures kept { handle.new.kept ≡ handle.old.kept }
-    ensures hits { Answers (Hits x y handle.old.kept element.old element.new) result }
-{
-    hit_at(alloc, handle, x, y, element).number()
-}
-
-/// Ends the session, if there is one. The handle is closed then, and may be used again.
-#[unsafe(no_mangle)]
-pub extern "C" fn mathlay_close(alloc: Global, handle: &mut Handle)
-    ensures { handle.new.kept ≡ None }
-{
-    std::mem::drop(handle.take(alloc));
-}

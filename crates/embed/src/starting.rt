@@ -14,7 +14,7 @@ use commands::{Refusal, metrics_in};
 use font_metrics::Metrics;
 use std::alloc::Global;
 
-/// Reads metrics into a closed handle.
+/// Reads the bytes of a metrics file into a closed handle of metrics.
 pub fn read(
     alloc: Global,
     metrics: &[u8],
@@ -72,7 +72,8 @@ fn boxed_metrics(alloc: Global, bytes: &[u8]) -> Result<Box<Metrics>, Refusal>
     }
 }
 
-/// Opens a session in a closed handle, over a tree and the metrics of another handle.
+/// Opens a session in a closed handle, over the bytes of a tree file and a copy of the metrics that
+/// a handle of metrics keeps.
 pub fn started(
     alloc: Global,
     font: &mut Font,
@@ -96,7 +97,7 @@ pub fn started(
     }
 }
 
-/// Opens a session in a closed handle, over a tree and a copy of these metrics.
+/// Opens a session in a closed handle, over the bytes of a tree file and a copy of these metrics.
 fn started_over(
     alloc: Global,
     metrics: &Metrics,
@@ -138,4 +139,11 @@ fn desk_over(alloc: Global, metrics: &Metrics, tree: &[u8]) -> Result<Box<Desk>,
         Ok(desk) => Ok(desk),
         Err(_) => Err(Refusal::Memory),
     }
+}
+
+/// Drops the metrics, if there are any.
+pub fn forgotten(alloc: Global, font: &mut Font)
+    ensures { font.new.kept ≡ None }
+{
+    std::mem::drop(font.take(alloc));
 }

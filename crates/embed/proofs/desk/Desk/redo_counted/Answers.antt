@@ -1,5 +1,5 @@
 use Rattle.commands.specs.HistorySteps.{ring_of}
-use Rattle.embed.proofs.Stepping.{still_kept, redo_done, redo_kept, redo_metrics, redo_none}
+use Rattle.embed.proofs.Stepping.{still_kept, redo_done, redo_kept, redo_metrics, redo_none, redo_some}
 use Rattle.embed.proofs.desk.Desk.redo_counted.Goals as goal
 
 pub invariant_of-self : goal.invariant_of-self
@@ -14,6 +14,10 @@ returns-clause-redone g c =
 pub returns-clause-nothing : goal.returns-clause-nothing
 returns-clause-nothing g c =
     rw (← c.self.view_is) (redo_none (ring_of c.self.inside.ring) (ring_of c.redo.new.self) _ _ c.self.inside.reply c.redo.result c.redo.ensures)
+
+pub returns-clause-memory : goal.returns-clause-memory
+returns-clause-memory g c =
+    rw (← c.self.view_is) (redo_some (ring_of c.self.inside.ring) (ring_of c.redo.new.self) _ _ c.self.inside.reply c.redo.result c.redo.ensures)
 
 pub returns-clause-unchanged : goal.returns-clause-unchanged
 returns-clause-unchanged g c =

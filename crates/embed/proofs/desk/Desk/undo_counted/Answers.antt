@@ -1,5 +1,5 @@
 use Rattle.commands.specs.HistorySteps.{ring_of}
-use Rattle.embed.proofs.Stepping.{still_kept, undo_done, undo_kept, undo_metrics, undo_none}
+use Rattle.embed.proofs.Stepping.{still_kept, undo_done, undo_kept, undo_metrics, undo_none, undo_some}
 use Rattle.embed.proofs.desk.Desk.undo_counted.Goals as goal
 
 pub invariant_of-self : goal.invariant_of-self
@@ -14,6 +14,10 @@ returns-clause-undone g c =
 pub returns-clause-nothing : goal.returns-clause-nothing
 returns-clause-nothing g c =
     rw (← c.self.view_is) (undo_none (ring_of c.self.inside.ring) (ring_of c.undo.new.self) _ _ c.self.inside.reply c.undo.result c.undo.ensures)
+
+pub returns-clause-memory : goal.returns-clause-memory
+returns-clause-memory g c =
+    rw (← c.self.view_is) (undo_some (ring_of c.self.inside.ring) (ring_of c.undo.new.self) _ _ c.self.inside.reply c.undo.result c.undo.ensures)
 
 pub returns-clause-unchanged : goal.returns-clause-unchanged
 returns-clause-unchanged g c =
