@@ -121,8 +121,8 @@ answer_of_step (Ok done) = Done
 answer_of_step (Err HoldsNone) = Nothing
 answer_of_step (Err LacksMemory) = Memory
 
--- an edit is undone, or made again: `way` says what is kept then; or there is none; or there is one,
--- and why it isn't
+-- an edit is undone, or made again: `way` says what is kept then; or there is none; or there is
+-- one, and why it isn't
 abbrev pub Goes : (DeskValue → Option DeskValue) → Option DeskValue → Option DeskValue → Answer
     → Type 0
 Goes way old new Done = Becomes old new (λ desk next. way desk ≡ Some next)
