@@ -46,12 +46,12 @@ pub record IsAt (depth : ℕ) (before : List Token) (found : Members) (key : Key
 
 -- ---- what is said
 
--- an element begins with its name, and then comes a key
+-- an element begins with its name, which is in its form, and then comes a key
 pub record IsBegun (before : List Token) (name : List ℕ) (key : Key) (now : List Token) : Type 0 where
   pub at : (depth : ℕ) → 0 < depth → IsAt depth before (members_of name None None None) key now
   pub formed : is_name name ≡ true
 
--- an object of attributes
+-- an object of attributes in their form comes next
 pub record SaysAttributes (before : List Token) (attributes : List Attribute) (after : List Token) : Type 0 where
   pub all : Members
   pub read : (depth : ℕ) → 0 < depth → converted of_json (value depth before) ≡ Some (object all, after)
@@ -59,7 +59,7 @@ pub record SaysAttributes (before : List Token) (attributes : List Attribute) (a
   pub are : attributes ≡ attributes_of all
   pub formed : are_attributes all ≡ true
 
--- attributes where the key of attributes came, and else none; then comes a key
+-- attributes in their form where the key of attributes came, and else none; then comes a key
 pub record HasAttributes (key : Key) (here : List Token) (attributes : List Attribute) (next : Key) (now : List Token) : Type 0 where
   pub all : Option Members
   pub goes : (depth : ℕ) (before : List Token) (name : List ℕ) → 1 < depth
@@ -68,7 +68,7 @@ pub record HasAttributes (key : Key) (here : List Token) (attributes : List Attr
   pub are : attributes ≡ option_map_or attributes_of all []
   pub formed : option_map_or are_attributes all true ≡ true
 
--- a text where the key of the text came, and else none; then comes a key
+-- a text that isn't too long where the key of the text came, and else none; then comes a key
 pub record HasText (key : Key) (here : List Token) (text : List ℕ) (next : Key) (now : List Token) : Type 0 where
   pub written : Option (List ℕ)
   pub goes : (depth : ℕ) (before : List Token) (name : List ℕ) (attributes : Option Members) → 1 < depth
