@@ -33,23 +33,27 @@ pub record Fits (level : ℕ) (seen : Seen) (said : Said) (now : Seen) : Type 0 
   pub placed : is_misplaced Whole (seen.elements + 1) said.name ≡ false
 
 -- an element with all below it: its value is read, and it means this node and has no fault
-pub record IsRead (level : ℕ) (before : List Token) (seen : Seen) (after : List Token) (now : Seen) (node : Node) : Type 0 where
+pub record IsRead (level : ℕ) (before : List Token) (seen : Seen) (after : List Token) (now : Seen)
+    (node : Node) : Type 0 where
   pub whole : Data
   pub read : converted of_json (value (depth_at level) before) ≡ Some (whole, after)
   pub shorter : length after < length before
   pub means : ReadsElement Whole level whole
-      (record { elements = seen.elements; bytes = seen.bytes }) (record { elements = now.elements; bytes = now.bytes }) (Ok node)
+      (record { elements = seen.elements; bytes = seen.bytes })
+      (record { elements = now.elements; bytes = now.bytes }) (Ok node)
   pub order : IsOrderedAt level node
 
 -- the elements of an array, and then the end of the object that it stands in
-pub record AreRead (level : ℕ) (before : List Token) (seen : Seen) (after : List Token) (now : Seen) (nodes : List Node) : Type 0 where
+pub record AreRead (level : ℕ) (before : List Token) (seen : Seen) (after : List Token) (now : Seen)
+    (nodes : List Node) : Type 0 where
   pub items : Items
   pub rest : List Token
   pub read : converted of_json (value (depth_at level + 1) before) ≡ Some (array items, rest)
   pub ends : read_key rest ≡ Some (None, after)
   pub shorter : length rest < length before
   pub means : ReadsElements Whole level (listed_items items)
-      (record { elements = seen.elements; bytes = seen.bytes }) (record { elements = now.elements; bytes = now.bytes }) (Ok nodes)
+      (record { elements = seen.elements; bytes = seen.bytes })
+      (record { elements = now.elements; bytes = now.bytes }) (Ok nodes)
   pub order : AreOrderedAt level nodes
 
 -- the tree of a text, and of bytes

@@ -31,7 +31,8 @@ members_of name attributes text children =
 
 -- an object began at some tokens, which may nest so deep; so far it has these members, and the rest
 -- goes on here
-pub record IsOpen (depth : ℕ) (before : List Token) (found : Members) (now : List Token) : Type 0 where
+pub record IsOpen (depth : ℕ) (before : List Token) (found : Members)
+    (now : List Token) : Type 0 where
   pub turns : ℕ
   pub enough : length now ≤ turns
   pub shorter : length now < length before
@@ -39,7 +40,8 @@ pub record IsOpen (depth : ℕ) (before : List Token) (found : Members) (now : L
       ≡ converted (λ ms. option_map object (of_members ms found)) (members (value (depth - 1)) turns now)
 
 -- the same, where the next key is read already
-pub record IsAt (depth : ℕ) (before : List Token) (found : Members) (key : Key) (now : List Token) : Type 0 where
+pub record IsAt (depth : ℕ) (before : List Token) (found : Members) (key : Key)
+    (now : List Token) : Type 0 where
   pub ahead : List Token
   pub begun : IsOpen depth before found ahead
   pub key_is : read_key ahead ≡ Some (text_of key, now)
@@ -47,12 +49,14 @@ pub record IsAt (depth : ℕ) (before : List Token) (found : Members) (key : Key
 -- ---- what is said
 
 -- an element begins with its name, which is in its form, and then comes a key
-pub record IsBegun (before : List Token) (name : List ℕ) (key : Key) (now : List Token) : Type 0 where
+pub record IsBegun (before : List Token) (name : List ℕ) (key : Key)
+    (now : List Token) : Type 0 where
   pub at : (depth : ℕ) → 0 < depth → IsAt depth before (members_of name None None None) key now
   pub formed : is_name name ≡ true
 
 -- an object of attributes in their form comes next
-pub record SaysAttributes (before : List Token) (attributes : List Attribute) (after : List Token) : Type 0 where
+pub record SaysAttributes (before : List Token) (attributes : List Attribute)
+    (after : List Token) : Type 0 where
   pub all : Members
   pub read : (depth : ℕ) → 0 < depth → converted of_json (value depth before) ≡ Some (object all, after)
   pub shorter : length after < length before
@@ -60,7 +64,8 @@ pub record SaysAttributes (before : List Token) (attributes : List Attribute) (a
   pub formed : are_attributes all ≡ true
 
 -- attributes in their form where the key of attributes came, and else none; then comes a key
-pub record HasAttributes (key : Key) (here : List Token) (attributes : List Attribute) (next : Key) (now : List Token) : Type 0 where
+pub record HasAttributes (key : Key) (here : List Token) (attributes : List Attribute)
+    (next : Key) (now : List Token) : Type 0 where
   pub all : Option Members
   pub goes : (depth : ℕ) (before : List Token) (name : List ℕ) → 1 < depth
       → IsAt depth before (members_of name None None None) key here
@@ -69,7 +74,8 @@ pub record HasAttributes (key : Key) (here : List Token) (attributes : List Attr
   pub formed : option_map_or are_attributes all true ≡ true
 
 -- a text that isn't too long where the key of the text came, and else none; then comes a key
-pub record HasText (key : Key) (here : List Token) (text : List ℕ) (next : Key) (now : List Token) : Type 0 where
+pub record HasText (key : Key) (here : List Token) (text : List ℕ) (next : Key)
+    (now : List Token) : Type 0 where
   pub written : Option (List ℕ)
   pub goes : (depth : ℕ) (before : List Token) (name : List ℕ) (attributes : Option Members) → 1 < depth
       → IsAt depth before (members_of name attributes None None) key here

@@ -1,6 +1,5 @@
 //! What an element says of itself, before its children.
-ghost use Rattle.std.specs.Prelude.{◌≡◌, ◌^◌, ◌-◌, ◌+◌, ◌&&◌, min, not, true, length, codes, IfOk, IfSome};
-ghost use Rattle.std.specs.Str.{bytes_eq};
+ghost use Rattle.std.specs.Prelude.{◌≡◌, ◌^◌, ◌-◌, ◌+◌, min, length, IfOk, IfSome};
 ghost use Rattle.math_tree.specs.Attributes.{bytes_of_attributes};
 ghost use Rattle.tree_reader.specs.Said.{IsBegun, HasAttributes, HasText, IsSaid};
 
