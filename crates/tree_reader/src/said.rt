@@ -122,11 +122,7 @@ fn attributes_if(
 }
 
 /// The text, where it is its key that came, and the key behind.
-fn text_if(
-    alloc: Global,
-    reader: &mut Reader<'_>,
-    key: Key,
-) -> Result<Option<(Txt, Key)>, Memory>
+fn text_if(alloc: Global, reader: &mut Reader<'_>, key: Key) -> Result<Option<(Txt, Key)>, Memory>
     ensures { IfOk result (λ found. IfSome found
         (λ read. HasText key reader.old read.0 read.1 reader.new)) }
 {
