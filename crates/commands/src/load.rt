@@ -57,8 +57,9 @@ pub fn load_tree<I: Inputs>(alloc: Global, name: &str, inputs: &mut I) -> Result
     }
 }
 
-/// The tree of a file's bytes. It is read token by token where the keys of its elements stand in
-/// order, and else by its JSON value, which also tells what is at fault.
+/// The tree of a file's bytes. It is read token by token where `ordered_tree` gives it, as where
+/// the keys of all elements stand in order, and else by its JSON value, which also tells what is at
+/// fault.
 pub(crate) fn tree_of(alloc: Global, bytes: &[u8]) -> Result<Tree, Refusal>
     ensures { GivesOr (tree_of_json (json_in bytes.now)) result }
 {

@@ -152,11 +152,11 @@ module _ (level : ℕ) (seen : Seen) (said : Said) (now : Seen) (fits : Fits lev
 
   pub means : (after : Seen) (nodes : List Node)
       → ReadsElements Whole (level + 1) (listed_items (unwrap_or children no_items))
-          (record { elements = now.elements; bytes = now.bytes }) (record { elements = after.elements; bytes = after.bytes }) (Ok nodes)
+      (record { elements = now.elements; bytes = now.bytes }) (record { elements = after.elements; bytes = after.bytes }) (Ok nodes)
       → ReadsElement Whole level whole
-          (record { elements = seen.elements; bytes = seen.bytes }) (record { elements = after.elements; bytes = after.bytes }) (Ok (node head nodes))
+      (record { elements = seen.elements; bytes = seen.bytes }) (record { elements = after.elements; bytes = after.bytes }) (Ok (node head nodes))
   means after nodes read =
       let lower : ReadsElements Whole (level + 1) (below whole) (record { elements = seen.elements + 1; bytes = seen.bytes + bytes_held whole })
-          (record { elements = after.elements; bytes = after.bytes }) (Ok nodes) = rw (below_is, bytes_are, ← fits.elements_are) read in
+      (record { elements = after.elements; bytes = after.bytes }) (Ok nodes) = rw (below_is, bytes_are, ← fits.elements_are) read in
       rw head_is (whole_part Whole (record { elements = seen.elements; bytes = seen.bytes }) level whole
       (record { elements = after.elements; bytes = after.bytes }) nodes no_fault lower)

@@ -21,7 +21,8 @@ use Rattle.tree_reader.specs.declared.said.Said.{Said}
 abbrev pub depth_at : ℕ → ℕ
 depth_at level = 129 - 2 * level
 
--- an element may come next at a level: there is room for it, and the first one is `math`
+-- an element may come next at a level: there is room for it, and the first one is `math`; and what
+-- is seen with it
 pub record Fits (level : ℕ) (seen : Seen) (said : Said) (now : Seen) : Type 0 where
   pub levels : level ≤ most_levels
   pub room : seen.elements + 1 ≤ most_elements

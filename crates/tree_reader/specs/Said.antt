@@ -25,8 +25,7 @@ abbrev pub members_of : List ℕ → Option Members → Option (List ℕ) → Op
 members_of name attributes text children =
     perhaps (codes "attributes") (option_map object attributes)
     (perhaps (codes "children") (option_map array children)
-    (member (codes "name") (string name)
-    (perhaps (codes "text") (option_map string text) no_members)))
+    (member (codes "name") (string name) (perhaps (codes "text") (option_map string text) no_members)))
 
 -- ---- an object that is being read
 
@@ -38,8 +37,7 @@ pub record IsOpen (depth : ℕ) (before : List Token) (found : Members)
   pub enough : length now ≤ turns
   pub shorter : length now < length before
   pub same : converted of_json (value depth before)
-      ≡ converted (λ ms. option_map object (of_members ms found))
-      (members (value (depth - 1)) turns now)
+      ≡ converted (λ ms. option_map object (of_members ms found)) (members (value (depth - 1)) turns now)
 
 -- the same, where the next key is read already
 pub record IsAt (depth : ℕ) (before : List Token) (found : Members) (key : Key)
@@ -50,25 +48,24 @@ pub record IsAt (depth : ℕ) (before : List Token) (found : Members) (key : Key
 
 -- ---- what is said
 
--- an element begins with its name, and then comes a key
+-- an element begins with its name, which is in its form, and then comes a key
 pub record IsBegun (before : List Token) (name : List ℕ) (key : Key)
     (now : List Token) : Type 0 where
   pub at : (depth : ℕ) → 0 < depth → IsAt depth before (members_of name None None None) key now
   pub formed : is_name name ≡ true
 
--- an object of attributes
+-- an object of attributes in their form comes next
 pub record SaysAttributes (before : List Token) (attributes : List Attribute)
     (after : List Token) : Type 0 where
   pub all : Members
-  pub read : (depth : ℕ) → 0 < depth
-      → converted of_json (value depth before) ≡ Some (object all, after)
+  pub read : (depth : ℕ) → 0 < depth → converted of_json (value depth before) ≡ Some (object all, after)
   pub shorter : length after < length before
   pub are : attributes ≡ attributes_of all
   pub formed : are_attributes all ≡ true
 
--- attributes where the key of attributes came, and else none; then comes a key
-pub record HasAttributes (key : Key) (here : List Token) (attributes : List Attribute) (next : Key)
-    (now : List Token) : Type 0 where
+-- attributes in their form where the key of attributes came, and else none; then comes a key
+pub record HasAttributes (key : Key) (here : List Token) (attributes : List Attribute)
+    (next : Key) (now : List Token) : Type 0 where
   pub all : Option Members
   pub goes : (depth : ℕ) (before : List Token) (name : List ℕ) → 1 < depth
       → IsAt depth before (members_of name None None None) key here
@@ -76,12 +73,11 @@ pub record HasAttributes (key : Key) (here : List Token) (attributes : List Attr
   pub are : attributes ≡ option_map_or attributes_of all []
   pub formed : option_map_or are_attributes all true ≡ true
 
--- a text where the key of the text came, and else none; then comes a key
+-- a text that isn't too long where the key of the text came, and else none; then comes a key
 pub record HasText (key : Key) (here : List Token) (text : List ℕ) (next : Key)
     (now : List Token) : Type 0 where
   pub written : Option (List ℕ)
-  pub goes : (depth : ℕ) (before : List Token) (name : List ℕ) (attributes : Option Members)
-      → 1 < depth
+  pub goes : (depth : ℕ) (before : List Token) (name : List ℕ) (attributes : Option Members) → 1 < depth
       → IsAt depth before (members_of name attributes None None) key here
       → IsAt depth before (members_of name attributes written None) next now
   pub are : text ≡ unwrap_or written []
@@ -91,8 +87,7 @@ pub record HasText (key : Key) (here : List Token) (text : List ℕ) (next : Key
 pub record IsSaid (before now : List Token) (said : Said) : Type 0 where
   pub all : Option Members
   pub written : Option (List ℕ)
-  pub at : (depth : ℕ) → 1 < depth
-      → IsAt depth before (members_of said.name all written None) said.next now
+  pub at : (depth : ℕ) → 1 < depth → IsAt depth before (members_of said.name all written None) said.next now
   pub name_formed : is_name said.name ≡ true
   pub kind_is : said.kind ≡ kind_of said.name
   pub attributes_are : said.attributes ≡ option_map_or attributes_of all []

@@ -62,6 +62,7 @@ pub fn element(
     *seen = now;
     let next = said.next;
     let head = said.into_head(NodeId(now.elements));
+    // (this says that the attributes stand in order)
     let _in_order = head.attributes.as_slice();
     if let Key::End = next {
         let children = List::make(alloc);

@@ -50,14 +50,14 @@ fn key_of(name: &str) -> Option<Key>
     }
 }
 
-/// Whether an object begins here.
+/// Whether an object begins here. A token is taken in any case.
 pub fn begins_object(reader: &mut Reader<'_>) -> bool
     ensures { result ≡ true → reader.old ≡ spec.begin_object ∷ reader.new }
 {
     matches!(reader.next(), Some(Token::BeginObject))
 }
 
-/// Whether an array begins here.
+/// Whether an array begins here. A token is taken in any case.
 pub fn begins_array(reader: &mut Reader<'_>) -> bool
     ensures { result ≡ true → reader.old ≡ spec.begin_array ∷ reader.new }
 {

@@ -2,15 +2,16 @@
 //!
 //! `ordered_tree` makes the elements as their tokens come, without a JSON value between. It reads a
 //! tree without a fault in which the keys of each element stand in the order `name`, `attributes`,
-//! `text`, `children`, as most writers put them; whoever calls it reads any other tree from its
+//! `text`, `children`, none twice, where only text elements have a text and none of these has
+//! `children`, be it white space or an empty array. Whoever calls it reads any other tree from its
 //! JSON value, by `math_tree::read_tree`, which also tells the first fault.
 //!
 //! - Models: a reader of events in one pass, in place of one that builds a document first.
-//! - Proved: what is read is the tree that `tree_of` gives for the value of the bytes
-//!   (`math_tree/specs/Reading.antt`).
+//! - Proved: a tree that is given is the one that `tree_of` gives for the value of the bytes
+//!   (`math_tree/specs/Reading.antt`). That one is given isn't: it may be none at any time.
 //! - Knows nothing of: what is at fault, edits, layout.
-//! - Change the keys of an element: `math_tree`, `specs/Elements.antt`, then `src/keys.rt` and
-//!   `specs/Said.antt`.
+//! - Change the keys of an element: `math_tree`, `specs/Elements.antt`, then `specs/Keys.antt`
+//!   with `src/keys.rt`, and `specs/Said.antt` with `src/said.rt`.
 #![tactic(auto)]
 
 mod attributes; // the attributes of an element

@@ -1,6 +1,5 @@
 //! What an element says of itself, before its children.
-ghost use Rattle.std.specs.Prelude.{◌≡◌, ◌^◌, ◌-◌, ◌+◌, ◌&&◌, min, not, true, length, codes, IfOk, IfSome};
-ghost use Rattle.std.specs.Str.{bytes_eq};
+ghost use Rattle.std.specs.Prelude.{◌≡◌, ◌^◌, ◌-◌, ◌+◌, min, length, IfOk, IfSome};
 ghost use Rattle.math_tree.specs.Attributes.{bytes_of_attributes};
 ghost use Rattle.tree_reader.specs.Said.{IsBegun, HasAttributes, HasText, IsSaid};
 
@@ -123,11 +122,7 @@ fn attributes_if(
 }
 
 /// The text, where it is its key that came, and the key behind.
-fn text_if(
-    alloc: Global,
-    reader: &mut Reader<'_>,
-    key: Key,
-) -> Result<Option<(Txt, Key)>, Memory>
+fn text_if(alloc: Global, reader: &mut Reader<'_>, key: Key) -> Result<Option<(Txt, Key)>, Memory>
     ensures { IfOk result (λ found. IfSome found
         (λ read. HasText key reader.old read.0 read.1 reader.new)) }
 {

@@ -8,8 +8,9 @@ use math_tree::Tree;
 use std::alloc::Global;
 
 /// The tree that bytes are, or none: where they are no JSON text, or that of a tree with a fault,
-/// or where the keys of an element stand in another order than `name`, `attributes`, `text`,
-/// `children`.
+/// or where an element has its keys in another order than `name`, `attributes`, `text`,
+/// `children`, one of them twice, a text of white space that is dropped, or `children` on a text
+/// element, even an empty array.
 pub fn ordered_tree(alloc: Global, bytes: &[u8]) -> Result<Option<Tree>, Memory>
     ensures { IfOk result (λ found. IfSome found (IsTreeOf bytes.now)) }
 {

@@ -36,7 +36,7 @@ pub children-element-requires : goal.children-element-requires
 children-element-requires t c =
     let l = c.items in
     let limits = ReadParts.side_limits Whole (record { elements = c.args.seen.now.elements; bytes = c.args.seen.now.bytes }) c.args.level l.invariant.list
-        (record { elements = l.seen.elements; bytes = l.seen.bytes }) l.nodes l.invariant.means c.requires.elements c.requires.bytes in
+    (record { elements = l.seen.elements; bytes = l.seen.bytes }) l.nodes l.invariant.means c.requires.elements c.requires.bytes in
     (omega (arith, c.requires.level), (c.requires.low, (c.requires.level, limits)))
 
 pub children-items-preserved : goal.children-items-preserved
