@@ -14,7 +14,7 @@ use font_metrics::{MOST_FILE_BYTES, Metrics, read_metrics};
 use math_tree::{Tree, read_tree};
 use serde_json::Value;
 use std::alloc::Global;
-use tree_reader::ordered_tree;
+use tree_reader::tree_by_tokens;
 
 /// The most bytes that a tree file may have: 4 MiB.
 pub(crate) const TREE_LIMIT: usize = 4_194_304;
@@ -57,13 +57,12 @@ pub fn load_tree<I: Inputs>(alloc: Global, name: &str, inputs: &mut I) -> Result
     }
 }
 
-/// The tree of a file's bytes. It is read token by token where `ordered_tree` gives it, as where
-/// the keys of all elements stand in order, and else by its JSON value, which also tells what is at
-/// fault.
+/// The tree of a file's bytes. It is read token by token where `tree_by_tokens` gives it, and else
+/// by its JSON value, which also tells what is at fault.
 pub(crate) fn tree_of(alloc: Global, bytes: &[u8]) -> Result<Tree, Refusal>
     ensures { GivesOr (tree_of_json (json_in bytes.now)) result }
 {
-    match ordered_tree(alloc, bytes)? {
+    match tree_by_tokens(alloc, bytes)? {
         Some(tree) => Ok(tree),
         None => tree_by_value(alloc, bytes),
     }

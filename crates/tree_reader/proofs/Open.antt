@@ -1,16 +1,12 @@
 -- An object that is read member by member.
-use Rattle.std.proofs.Common.{◌≡◌, ◌∙◌, refl, sym, ap, ℕ, ◌-◌, ◌<◌, ◌≤◌, List, [], ◌∷◌, length, Option, Some, None, option_map, arith}
-use Rattle.std.specs.Option.{option_and_then}
+use Rattle.std.proofs.Common.{◌≡◌, ◌∙◌, refl, ap, ℕ, ◌-◌, ◌<◌, List, ◌∷◌, length, Option, Some, None, option_map, arith}
 use Rattle.json.specs.Json.{Json, members, parse_map, read_key, value}
 use Rattle.json.specs.Json as json
 use Rattle.json.specs.Token.{Token}
 use Rattle.json.proofs.Grammar.{members_end, members_more, read_key-shorter, value-begin_object, value_is}
 use Rattle.serde_json.specs.Data.{Data, Members, no_members, object, put, string}
 use Rattle.serde_json.specs.Read.{converted, of_json, of_members}
-use Rattle.tree_reader.specs.Keys.{text_of}
-use Rattle.tree_reader.specs.Said.{IsAt, IsOpen}
-use Rattle.tree_reader.specs.declared.keys.Key.{Key}
-use Rattle.tree_reader.specs.declared.keys.Key.TheVariants.{End}
+use Rattle.tree_reader.specs.Said.{IsOpen}
 use Rattle.tree_reader.proofs.Members.{gave}
 
 abbrev whole : Members → json.Members → Option Data
@@ -55,27 +51,6 @@ pub ended : (depth : ℕ) (before now rest : List Token) (found : Members) → I
     → converted of_json (value depth before) ≡ Some (object found, rest)
 ended depth before now rest found begun end =
     begun.same ∙ ap (converted (whole found)) (members_end (value (depth - 1)) begun.turns now rest begun.enough end)
-
--- ---- where a key is read already
-
-pub at_more : (depth : ℕ) (before here rest now : List Token) (found : Members) (key then : Key) (name : List ℕ) (given : Data)
-    → IsAt depth before found key here → text_of key ≡ Some name
-    → converted of_json (value (depth - 1) here) ≡ Some (given, rest) → length rest < length here
-    → read_key rest ≡ Some (text_of then, now)
-    → IsAt depth before (put name given found) then now
-at_more depth before here rest now found key then name given at named read less then_is = record {
-  ahead = rest;
-  begun = more depth before at.ahead here rest found name given at.begun (at.key_is ∙ ap (λ k. Some (k, here)) named) read less;
-  key_is = then_is;
-}
-
-pub at_end : (depth : ℕ) (before now : List Token) (found : Members) → IsAt depth before found End now
-    → converted of_json (value depth before) ≡ Some (object found, now)
-at_end depth before now found at = ended depth before at.ahead now found at.begun at.key_is
-
-pub at_shorter : (depth : ℕ) (before now : List Token) (found : Members) (key : Key) → IsAt depth before found key now → length now < length before
-at_shorter depth before now found key at =
-    omega (arith, read_key-shorter at.ahead (text_of key) now at.key_is, at.begun.shorter)
 
 -- ---- a text
 

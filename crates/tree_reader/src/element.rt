@@ -1,42 +1,17 @@
 //! An element and all below it.
-ghost use Rattle.std.specs.Prelude.{◌≡◌, ◌≤◌, ◌+◌, ◌<◌, length, true, IfOk, IfSome};
+ghost use Rattle.std.specs.Prelude.{◌≡◌, ◌≤◌, ◌+◌, true, IfOk, IfSome};
 ghost use Rattle.math_tree.specs.Forms.{most_bytes, most_elements, most_levels};
-ghost use Rattle.tree_reader.specs.Read.{AreRead, Fits, IsRead};
+ghost use Rattle.tree_reader.specs.Read.{AreRead, HasSaid, IsRead, SaysMore};
+ghost use Rattle.tree_reader.specs.Said.{IsUnsaid};
 
-use crate::keys::{Key, begins_array, next_key};
-use crate::said::{Said, opening};
+use crate::attributes::attributes;
+use crate::keys::{Key, begins_array, begins_object, next_key, text};
+use crate::said::Said;
+use crate::seen::Seen;
 use fixed_units::{List, Memory};
 use json::Reader;
-use math_tree::{MOST_BYTES, MOST_ELEMENTS, MOST_LEVELS, Node, NodeId};
+use math_tree::{MOST_ELEMENTS, MOST_LEVELS, Node, NodeId};
 use std::alloc::Global;
-
-/// The elements that were read so far: how many there are, and how many bytes they hold together.
-#[derive(Clone, Copy, Debug, Drop)]
-pub struct Seen {
-    pub elements: u32,
-    pub bytes: u64,
-}
-
-impl Seen {
-    /// These and one more, where that may stand at this level.
-    fn with(self, level: u32, said: &Said) -> Option<Seen>
-        requires elements { self.elements ≤ most_elements }
-        ensures { IfSome result (Fits level self said.now) }
-    {
-        let bytes = self.bytes.saturating_add(said.bytes());
-        let is_first = self.elements == 0;
-        if level > MOST_LEVELS || self.elements >= MOST_ELEMENTS || bytes > MOST_BYTES {
-            return None;
-        }
-        if is_first && said.name.as_str() != "math" {
-            return None;
-        }
-        Some(Seen {
-            elements: self.elements + 1,
-            bytes,
-        })
-    }
-}
 
 /// An element that begins here, with all below it.
 #[cycle(read)]
@@ -53,34 +28,96 @@ pub fn element(
     ensures { IfOk result (λ found. IfSome found
         (IsRead level reader.old seen.old reader.new seen.new)) }
 {
-    let Some(said) = opening(alloc, reader)? else {
-        return Ok(None);
-    };
-    let Some(now) = seen.with(level, &said) else {
-        return Ok(None);
-    };
-    *seen = now;
-    let next = said.next;
-    let head = said.into_head(NodeId(now.elements));
-    // (this says that the attributes stand in order)
-    let _in_order = head.attributes.as_slice();
-    if let Key::End = next {
-        let children = List::make(alloc);
-        return Ok(Some(Node { head, children }));
-    }
-    let Key::Children = next else {
-        return Ok(None);
-    };
-    if head.kind.is_text() {
+    if level > MOST_LEVELS || seen.elements >= MOST_ELEMENTS {
         return Ok(None);
     }
-    match children(alloc, reader, level + 1, seen)? {
-        Some(children) => Ok(Some(Node { head, children })),
-        None => Ok(None),
+    seen.elements += 1;
+    let id = NodeId(seen.elements);
+    let Some(said) = members(alloc, reader, level, seen)? else {
+        return Ok(None);
+    };
+    let Some(node) = said.into_node(alloc, id)? else {
+        return Ok(None);
+    };
+    if seen.count(&node.head) {
+        Ok(Some(node))
+    } else {
+        Ok(None)
     }
 }
 
-/// The children of an element up to its end, each with all below it.
+/// The members of an element that begins here, each at most once, with all below its children.
+#[cycle(read)]
+fn members(
+    alloc: Global,
+    reader: &mut Reader<'_>,
+    level: u32,
+    seen: &mut Seen,
+) -> Result<Option<Said>, Memory>
+    requires low { 1 ≤ level }
+    requires level { level ≤ most_levels }
+    requires elements { seen.old.elements ≤ most_elements }
+    requires bytes { seen.old.bytes ≤ most_bytes }
+    ensures { IfOk result (λ found. IfSome found
+        (HasSaid level reader.old seen.old reader.new seen.new)) }
+{
+    if !begins_object(reader) {
+        return Ok(None);
+    }
+    let mut said = Said::nothing();
+    'members: loop {
+        let Some(key) = next_key(reader) else {
+            return Ok(None);
+        };
+        if let Key::End = key {
+            return Ok(Some(said));
+        }
+        if said.has(key) || !member(alloc, reader, level, seen, key, &mut said)? {
+            return Ok(None);
+        }
+    }
+}
+
+/// The member of a key that is read, and isn't there yet. Tells whether it is one of an element.
+#[cycle(read)]
+fn member(
+    alloc: Global,
+    reader: &mut Reader<'_>,
+    level: u32,
+    seen: &mut Seen,
+    key: Key,
+    said: &mut Said,
+) -> Result<bool, Memory>
+    requires low { 1 ≤ level }
+    requires level { level ≤ most_levels }
+    requires elements { seen.old.elements ≤ most_elements }
+    requires bytes { seen.old.bytes ≤ most_bytes }
+    requires unsaid { IsUnsaid key said.old }
+    ensures { IfOk result (λ done. done ≡ true →
+        SaysMore level key reader.old seen.old said.old reader.new seen.new said.new) }
+{
+    match key {
+        Key::Name => {
+            said.name = text(alloc, reader)?;
+            Ok(said.name.is_some())
+        }
+        Key::Attributes => {
+            said.attributes = attributes(alloc, reader)?;
+            Ok(said.attributes.is_some())
+        }
+        Key::Text => {
+            said.text = text(alloc, reader)?;
+            Ok(said.text.is_some())
+        }
+        Key::Children => {
+            said.children = children(alloc, reader, level + 1, seen)?;
+            Ok(said.children.is_some())
+        }
+        Key::End => Ok(false),
+    }
+}
+
+/// The children of an element, each with all below it.
 #[cycle(read)]
 fn children(
     alloc: Global,
@@ -105,8 +142,5 @@ fn children(
         };
         nodes.push(node)?;
     }
-    match next_key(reader) {
-        Some(Key::End) => Ok(Some(nodes)),
-        _ => Ok(None),
-    }
+    Ok(Some(nodes))
 }

@@ -1,10 +1,10 @@
 //! The tree of a text, read token by token.
 //!
-//! `ordered_tree` makes the elements as their tokens come, without a JSON value between. It reads a
-//! tree without a fault in which the keys of each element stand in the order `name`, `attributes`,
-//! `text`, `children`, none twice, where only text elements have a text and none of these has
-//! `children`, be it white space or an empty array. Whoever calls it reads any other tree from its
-//! JSON value, by `math_tree::read_tree`, which also tells the first fault.
+//! `tree_by_tokens` makes the elements as their tokens come, without a JSON value between, in
+//! whatever order an element has its keys. It reads a tree without a fault in which no element has
+//! a key twice, only text elements have a text, and none of these has `children`, be it white space
+//! or an empty array. Whoever calls it reads any other tree from its JSON value, by
+//! `math_tree::read_tree`, which also tells the first fault.
 //!
 //! - Models: a reader of events in one pass, in place of one that builds a document first.
 //! - Proved: a tree that is given is the one that `tree_of` gives for the value of the bytes
@@ -18,6 +18,7 @@ mod attributes; // the attributes of an element
 mod element; // an element and those below it
 mod keys; // keys, texts and brackets
 mod said; // what an element says of itself
-mod tree; // ordered_tree
+mod seen; // what was counted so far
+mod tree; // tree_by_tokens
 
-pub use tree::ordered_tree;
+pub use tree::tree_by_tokens;

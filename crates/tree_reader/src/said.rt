@@ -1,139 +1,135 @@
-//! What an element says of itself, before its children.
-ghost use Rattle.std.specs.Prelude.{◌≡◌, ◌^◌, ◌-◌, ◌+◌, min, length, IfOk, IfSome};
-ghost use Rattle.math_tree.specs.Attributes.{bytes_of_attributes};
-ghost use Rattle.tree_reader.specs.Said.{IsBegun, HasAttributes, HasText, IsSaid};
+//! What the members of an element say, in whatever order they come.
+ghost use Rattle.std.specs.Prelude.{◌≡◌, [], None, false, true, unwrap_or, IfOk, IfSome};
+ghost use Rattle.math_tree.specs.Faults.{is_misplaced};
+ghost use Rattle.math_tree.specs.Forms.{is_name};
+ghost use Rattle.math_tree.specs.Kinds.{is_text_kind};
+ghost use Rattle.math_tree.specs.declared.portion.Portion.TheVariants.{Whole};
+ghost use Rattle.tree_reader.specs.Said.{IsMadeOf, IsUnsaid};
 
-use crate::attributes::{attribute_bytes, attributes};
-use crate::keys::{Key, begins_object, next_key, text};
-use fixed_units::{Memory, Txt};
-use json::Reader;
-use math_tree::{Attributes, Head, Kind, NodeId, is_name};
+use crate::keys::Key;
+use fixed_units::{List, Memory, Txt};
+use math_tree::{Attributes, Head, Kind, Node, NodeId, is_name};
 use std::alloc::Global;
 
-/// What an element says of itself.
+/// What the members of an element say, as far as they are read.
 #[derive(Debug, Drop)]
 pub struct Said {
-    pub name: Txt,
-    pub kind: Kind,
-    pub attributes: Attributes,
-    pub text: Txt,
-    /// The key that comes behind: `Children`, or `End`.
-    pub next: Key,
+    pub name: Option<Txt>,
+    pub attributes: Option<Attributes>,
+    pub text: Option<Txt>,
+    pub children: Option<List<Node>>,
 }
 
 impl Said {
-    /// The bytes that an element holds, or the greatest number where they are more.
-    pub fn bytes(&self) -> u64
-        ensures { result ≡ min (length self.now.name + length self.now.text
-            + bytes_of_attributes self.now.attributes) (2 ^ 64 - 1) }
-    {
-        let texts = self.name.as_str().len() as u64 + self.text.as_str().len() as u64;
-        texts.saturating_add(attribute_bytes(&self.attributes))
-    }
-
-    /// What is kept of it, under an id.
-    pub fn into_head(self, id: NodeId) -> Head
+    /// Nothing yet.
+    pub fn nothing() -> Said
         ensures { result ≡ record {
-          id = id;
-          name = self.name;
-          kind = self.kind;
-          attributes = self.attributes;
-          text = self.text;
+          name = None;
+          attributes = None;
+          text = None;
+          children = None;
         } }
     {
-        Head {
-            id,
-            name: self.name,
-            kind: self.kind,
-            attributes: self.attributes,
-            text: self.text,
+        Said {
+            name: None,
+            attributes: None,
+            text: None,
+            children: None,
         }
     }
-}
 
-/// What an element that begins here says of itself, up to its children or its end.
-pub fn opening(alloc: Global, reader: &mut Reader<'_>) -> Result<Option<Said>, Memory>
-    ensures { IfOk result (λ found. IfSome found (IsSaid reader.old reader.new)) }
-{
-    let Some((name, first)) = begun(alloc, reader)? else {
-        return Ok(None);
-    };
-    let Some((attributes, second)) = attributes_if(alloc, reader, first)? else {
-        return Ok(None);
-    };
-    let Some((text, next)) = text_if(alloc, reader, second)? else {
-        return Ok(None);
-    };
-    let kind = Kind::of_name(name.as_str());
-    if !kind.is_text() && !text.as_str().is_empty() {
-        return Ok(None);
+    /// Whether the member of a key is read already.
+    pub fn has(&self, key: Key) -> bool
+        ensures { result ≡ false → IsUnsaid key self.now }
+    {
+        match key {
+            Key::Name => self.name.is_some(),
+            Key::Attributes => self.attributes.is_some(),
+            Key::Text => self.text.is_some(),
+            Key::Children => self.children.is_some(),
+            Key::End => false,
+        }
     }
-    Ok(Some(Said {
-        name,
-        kind,
-        attributes,
-        text,
-        next,
-    }))
-}
 
-/// The name of an element that begins here with it, and the key behind.
-fn begun(alloc: Global, reader: &mut Reader<'_>) -> Result<Option<(Txt, Key)>, Memory>
-    ensures { IfOk result (λ found. IfSome found
-        (λ read. IsBegun reader.old read.0 read.1 reader.new)) }
-{
-    if !begins_object(reader) {
-        return Ok(None);
-    }
-    let Some(Key::Name) = next_key(reader) else {
-        return Ok(None);
-    };
-    let Some(name) = text(alloc, reader)? else {
-        return Ok(None);
-    };
-    if !is_name(name.as_str()) {
-        return Ok(None);
-    }
-    match next_key(reader) {
-        Some(key) => Ok(Some((name, key))),
-        None => Ok(None),
+    /// The element of which this is said, under an id, where it may stand there.
+    pub fn into_node(self, alloc: Global, id: NodeId) -> Result<Option<Node>, Memory>
+        ensures { IfOk result (λ found. IfSome found (IsMadeOf self id.0)) }
+    {
+        let Said {
+            name,
+            attributes,
+            text,
+            children,
+        } = self;
+        let Some(name) = name else {
+            return Ok(None);
+        };
+        let kind = Kind::of_name(name.as_str());
+        let text = text_or_empty(alloc, text)?;
+        if !is_in_place(name.as_str(), id) || !may_have(kind, &text, &children) {
+            return Ok(None);
+        }
+        let head = Head {
+            id,
+            name,
+            kind,
+            attributes: attributes_or_none(alloc, attributes),
+            text,
+        };
+        // (this says that the attributes stand in order)
+        let _in_order = head.attributes.as_slice();
+        let children = children_or_none(alloc, children);
+        Ok(Some(Node { head, children }))
     }
 }
 
-/// The attributes, where it is their key that came, and the key behind.
-fn attributes_if(
-    alloc: Global,
-    reader: &mut Reader<'_>,
-    key: Key,
-) -> Result<Option<(Attributes, Key)>, Memory>
-    ensures { IfOk result (λ found. IfSome found
-        (λ read. HasAttributes key reader.old read.0 read.1 reader.new)) }
+/// Whether an element may have this name under this id: a name in its form, and `math` for the
+/// first one.
+fn is_in_place(name: &str, id: NodeId) -> bool
+    ensures formed { result ≡ true → is_name name.now ≡ true }
+    ensures placed { result ≡ true → is_misplaced Whole id.0 name.now ≡ false }
 {
-    let Key::Attributes = key else {
-        return Ok(Some((Attributes::make(alloc), key)));
-    };
-    let Some(found) = attributes(alloc, reader)? else {
-        return Ok(None);
-    };
-    match next_key(reader) {
-        Some(next) => Ok(Some((found, next))),
-        None => Ok(None),
+    is_name(name) && (id.0 != 1 || name == "math")
+}
+
+/// Whether an element of this kind has a text, or may have children.
+fn may_have(kind: Kind, text: &Txt, children: &Option<List<Node>>) -> bool
+    ensures text { result ≡ true → is_text_kind kind ≡ false → text.now ≡ [] }
+    ensures children { result ≡ true → is_text_kind kind ≡ true → children.now ≡ None }
+{
+    if kind.is_text() {
+        children.is_none()
+    } else {
+        text.as_str().is_empty()
     }
 }
 
-/// The text, where it is its key that came, and the key behind.
-fn text_if(alloc: Global, reader: &mut Reader<'_>, key: Key) -> Result<Option<(Txt, Key)>, Memory>
-    ensures { IfOk result (λ found. IfSome found
-        (λ read. HasText key reader.old read.0 read.1 reader.new)) }
+/// These attributes, or none.
+fn attributes_or_none(alloc: Global, found: Option<Attributes>) -> Attributes
+    ensures { result ≡ unwrap_or found [] }
 {
-    let Key::Text = key else {
-        return Ok(Some((Txt::make(alloc, "")?, key)));
-    };
-    let Some(found) = text(alloc, reader)? else {
-        return Ok(None);
-    };
-    match next_key(reader) {
-        Some(next) => Ok(Some((found, next))),
-        None => Ok(None),
+    match found {
+        Some(attributes) => attributes,
+        None => Attributes::make(alloc),
+    }
+}
+
+/// This text, or the empty one.
+fn text_or_empty(alloc: Global, found: Option<Txt>) -> Result<Txt, Memory>
+    ensures { IfOk result (λ text. text ≡ unwrap_or found []) }
+{
+    match found {
+        Some(text) => Ok(text),
+        None => Ok(Txt::make(alloc, "")?),
+    }
+}
+
+/// These children, or none.
+fn children_or_none(alloc: Global, found: Option<List<Node>>) -> List<Node>
+    ensures { result ≡ unwrap_or found [] }
+{
+    match found {
+        Some(children) => children,
+        None => List::make(alloc),
     }
 }

@@ -1,17 +1,17 @@
 ghost use Rattle.std.specs.Prelude.{◌≡◌, IfOk, IfSome};
 ghost use Rattle.tree_reader.specs.Read.{IsTreeOf, IsTreeOfText};
 
-use crate::element::{Seen, element};
+use crate::element::element;
+use crate::seen::Seen;
 use fixed_units::Memory;
 use json::{Reader, Scratch};
 use math_tree::Tree;
 use std::alloc::Global;
 
 /// The tree that bytes are, or none: where they are no JSON text, or that of a tree with a fault,
-/// or where an element has its keys in another order than `name`, `attributes`, `text`,
-/// `children`, one of them twice, a text of white space that is dropped, or `children` on a text
-/// element, even an empty array.
-pub fn ordered_tree(alloc: Global, bytes: &[u8]) -> Result<Option<Tree>, Memory>
+/// or where an element has a key twice, a text of white space that is dropped, or `children` on a
+/// text element, even an empty array.
+pub fn tree_by_tokens(alloc: Global, bytes: &[u8]) -> Result<Option<Tree>, Memory>
     ensures { IfOk result (λ found. IfSome found (IsTreeOf bytes.now)) }
 {
     match std::str::from_utf8(bytes) {

@@ -1,4 +1,4 @@
-use Rattle.std.proofs.Common.{◌≡◌, ◌∙◌, ◌∷◌, ◌+◌, ◌<◌, ◌≤◌, List, drop, get_or, length, min, refl, sym, ap, arith, rules}
+use Rattle.std.proofs.Common.{◌≡◌, ◌∙◌, ◌∷◌, ◌+◌, ◌<◌, ◌≤◌, List, drop, get_or, length, min, sym, ap, arith, rules}
 use Rattle.std.proofs.lemmas.List.{drop_all, drop_more}
 use Rattle.math_tree.specs.Attributes.{bytes_of_attribute, bytes_of_attributes}
 use Rattle.math_tree.specs.declared.attributes.Attribute.{Attribute}

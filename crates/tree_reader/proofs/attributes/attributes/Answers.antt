@@ -1,11 +1,10 @@
-use Rattle.std.proofs.Common.{◌≡◌, ◌<◌, ◌-◌, ◌∷◌, ◌&&◌, length, None, Some, true, refl, sym, ap, subst, ◌∙◌, arith, rules}
+use Rattle.std.proofs.Common.{◌≡◌, ◌<◌, ◌-◌, ◌∷◌, length, None, Some, true, refl, sym, ap, subst, ◌∙◌, arith, rules}
 use Rattle.std.specs.Prelude.{IfSome}
 use Rattle.json.specs.Json.{read_key}
 use Rattle.json.proofs.Grammar.{read_key-shorter}
 use Rattle.json.specs.Token.{Token}
 use Rattle.serde_json.specs.Data.{no_members, put, string}
 use Rattle.math_tree.specs.Attributes as math
-use Rattle.math_tree.specs.Elements.{is_attribute}
 use Rattle.math_tree.specs.Forms.{is_name, is_short_enough}
 use Rattle.math_tree.specs.declared.attributes.Attribute.{Attribute}
 use Rattle.tree_reader.proofs.Open.{ended, more, opened, text_read}

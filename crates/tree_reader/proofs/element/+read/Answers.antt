@@ -1,24 +1,26 @@
-use Rattle.std.proofs.Common.{◌≡◌, ◌∙◌, ◌+◌, ◌-◌, ◌*◌, ◌<◌, ◌≤◌, ℕ, [], ◌∷◌, ◌++◌, length, None, Some, Ok, true, false, refl, sym, ap, subst, codes, arith, rules}
+use Rattle.std.proofs.Common.{◌≡◌, ◌∙◌, ◌+◌, ◌<◌, ◌≤◌, [], ◌∷◌, ◌++◌, length, None, Some, true, refl, sym, ap, subst, codes, option_map, arith, rules}
 use Rattle.std.specs.Prelude.{IfSome, unwrap_or}
 use Rattle.json.specs.Json.{after_end_array, read_key}
-use Rattle.json.proofs.Grammar.{after_end_array-shorter}
-use Rattle.json.specs.Json as json
-use Rattle.serde_json.specs.Data.{array, no_items}
+use Rattle.json.proofs.Grammar.{after_end_array-shorter, read_key-shorter}
+use Rattle.json.specs.Json.{value}
+use Rattle.serde_json.specs.Data.{no_items, object}
 use Rattle.serde_json.specs.Read.{converted, of_json}
-use Rattle.math_tree.specs.Kinds.{is_text_kind}
-use Rattle.math_tree.specs.Parts.{ReadsElement}
+use Rattle.math_tree.specs.Attributes.{IsInOrder, bytes_of_attributes}
+use Rattle.math_tree.specs.Elements.{attributes_of, bytes_held}
+use Rattle.math_tree.specs.Forms.{most_elements, most_levels}
 use Rattle.math_tree.specs.Trees.{node}
+use Rattle.math_tree.specs.declared.node.Node.TheViews.{out-Node, out-roll-Node}
 use Rattle.math_tree.specs.declared.portion.Portion.TheVariants.{Whole}
 use Rattle.math_tree.proofs.Ordered
 use Rattle.math_tree.proofs.ReadParts
 use Rattle.tree_reader.specs.Keys.{text_of}
-use Rattle.tree_reader.specs.Read.{AreRead, Fits, IsRead, depth_at}
-use Rattle.tree_reader.specs.Said.{IsAt, IsSaid, members_of}
-use Rattle.tree_reader.specs.declared.keys.Key.TheVariants.{Children, End}
+use Rattle.tree_reader.specs.Read.{HasCounted, HasSaid, IsRead, SaysMore, depth_at}
+use Rattle.tree_reader.specs.Said.{IsMadeOf, members_of}
+use Rattle.tree_reader.specs.declared.seen.Seen.{Seen}
 use Rattle.tree_reader.proofs.Items.{array_ended, array_more, array_opened, joined, listed_joined}
 use Rattle.tree_reader.proofs.Means
-use Rattle.tree_reader.proofs.Open.{at_end, at_more, at_shorter}
-use Rattle.tree_reader.proofs.Shapes.{put_children}
+use Rattle.tree_reader.proofs.More.{attributes_more, children_more, name_more, text_more}
+use Rattle.tree_reader.proofs.Open.{ended, opened}
 use Rattle.tree_reader.proofs.element.+read.Goals as goal
 
 pub children-items-init : goal.children-items-init
@@ -57,84 +59,123 @@ children-items-preserved t c =
       order = Ordered.one_more c.args.level l.nodes c.in-Some.node l.invariant.order read.order;
     })
 
-pub children-returns-in-Some-End : goal.children-returns-in-Some-End
-children-returns-in-Some-End t c =
+pub children-returns : goal.children-returns
+children-returns t c =
     let l = c.items in
     let list = l.invariant.list in
     let rest = c.take_end_array.new.self in
-    let ended : after_end_array l.reader ≡ Some rest = search rules in
-    let last : read_key rest ≡ Some (None, c.next_key.new.reader) = search rules in
-    let less = after_end_array-shorter l.reader rest ended in
+    let end : after_end_array l.reader ≡ Some rest = search rules in
     record {
       items = joined list no_items;
-      rest = rest;
-      read = array_ended (depth_at c.args.level) c.args.reader.now l.reader rest list l.invariant.begun ended;
-      ends = last;
-      shorter = omega (arith, less, l.invariant.begun.shorter);
+      read = array_ended (depth_at c.args.level) c.args.reader.now l.reader rest list l.invariant.begun end;
+      shorter = omega (arith, after_end_array-shorter l.reader rest end, l.invariant.begun.shorter);
       means = rw (listed_joined list) l.invariant.means;
       order = l.invariant.order;
     }
 
-pub element-returns-in-End : goal.element-returns-in-End
-element-returns-in-End t c =
-    let level = c.args.level in
-    let before = c.args.reader.now in
-    let here = c.opening.new.reader in
-    let seen = c.args.seen.now in
-    let said = c.in-Some.said in
-    let now = c.in-Some-with.now in
-    let says : IsSaid before here said = subst (λ o. IfSome o (IsSaid before here)) c.in-Some.is c.in_ok-said.ensures in
-    let fits : Fits level seen said now = c.in-Some-with.ensures in
-    let deep : 1 < depth_at level = omega (arith, fits.levels) in
-    let found = members_of said.name says.all says.written None in
-    let at : IsAt (depth_at level) before found End here =
-    subst (λ k. IsAt (depth_at level) before found k here) c.in-End.is (says.at (depth_at level) deep) in
-    let none : c.make-children.result ≡ [] = search rules in
-    rw none (record {
-      whole = Means.whole level seen said now fits before here says None tt;
-      read = at_end (depth_at level) before here found at;
-      shorter = at_shorter (depth_at level) before here found End at;
-      means = subst (λ head. ReadsElement Whole level (Means.whole level seen said now fits before here says None tt)
-          (record { elements = seen.elements; bytes = seen.bytes }) (record { elements = now.elements; bytes = now.bytes }) (Ok (node head [])))
-          (sym c.into_head-head.ensures)
-          (Means.means level seen said now fits before here says None tt now [] (Means.none_read (level + 1) now));
-      order = Ordered.with_head level c.into_head-head.result [] c.as_slice-in_order.ensures.order tt;
+pub member-returns-in_ok-said-in-Name : goal.member-returns-in_ok-said-in-Name
+member-returns-in_ok-said-in-Name t c = λ yes.
+    let named : text_of c.args.key ≡ Some (codes "name") = ap text_of c.in-Name.is in
+    let none : c.args.said.now.name ≡ None = search rules in
+    name_more c.args.level c.args.reader.now c.text.new.reader c.args.seen.now c.args.said.now c.args.key c.in_ok-said-in-Name.field-0
+    named none c.in_ok-said-in-Name.ensures.read (sym c.is_some.ensures ∙ yes)
+
+pub member-returns-in_ok-said-in-Attributes : goal.member-returns-in_ok-said-in-Attributes
+member-returns-in_ok-said-in-Attributes t c = λ yes.
+    let named : text_of c.args.key ≡ Some (codes "attributes") = ap text_of c.in-Attributes.is in
+    let none : c.args.said.now.attributes ≡ None = search rules in
+    attributes_more c.args.level c.args.reader.now c.attributes.new.reader c.args.seen.now c.args.said.now c.args.key c.in_ok-said-in-Attributes.field-0
+    named none c.in_ok-said-in-Attributes.ensures (sym c.is_some-in-Attributes.ensures ∙ yes)
+
+pub member-returns-in_ok-said-in-Text : goal.member-returns-in_ok-said-in-Text
+member-returns-in_ok-said-in-Text t c = λ yes.
+    let named : text_of c.args.key ≡ Some (codes "text") = ap text_of c.in-Text.is in
+    let none : c.args.said.now.text ≡ None = search rules in
+    text_more c.args.level c.args.reader.now c.text-in-Text.new.reader c.args.seen.now c.args.said.now c.args.key c.in_ok-said-in-Text.field-0
+    named none c.in_ok-said-in-Text.ensures.read c.in_ok-said-in-Text.ensures.short (sym c.is_some-in-Text.ensures ∙ yes)
+
+pub member-returns-in_ok-said-in-Children : goal.member-returns-in_ok-said-in-Children
+member-returns-in_ok-said-in-Children t c = λ yes.
+    let named : text_of c.args.key ≡ Some (codes "children") = ap text_of c.in-Children.is in
+    let none : c.args.said.now.children ≡ None = search rules in
+    children_more c.args.level c.args.reader.now c.children.new.reader c.args.seen.now c.children.new.seen c.args.said.now c.args.key c.in_ok-said-in-Children.field-0
+    named none c.in_ok-said-in-Children.ensures (sym c.is_some-in-Children.ensures ∙ yes)
+
+pub members-members-init : goal.members-members-init
+members-members-init t c =
+    let yes : c.begins_object.result ≡ true = search rules in
+    let deep : 0 < depth_at c.args.level = omega (arith, c.requires.level) in
+    rw c.nothing-said.ensures (record {
+      all = None;
+      items = None;
+      begun = opened (depth_at c.args.level) c.args.reader.now c.begins_object.new.reader deep (c.begins_object.ensures yes);
+      fits = record {
+        attributes_are = refl;
+        attributes_formed = refl;
+        text_short = refl;
+        below = refl;
+        elements = c.requires.elements;
+        bytes = c.requires.bytes;
+      };
     })
 
-pub element-returns-in-Some-2 : goal.element-returns-in-Some-2
-element-returns-in-Some-2 t c =
+pub members-returns-in-End : goal.members-returns-in-End
+members-returns-in-End t c =
+    let l = c.members in
+    let rest = c.next_key.new.reader in
+    let last : read_key l.reader ≡ Some (None, rest) = search rules in
+    record {
+      all = l.invariant.all;
+      items = l.invariant.items;
+      read = ended (depth_at c.args.level) c.args.reader.now l.reader rest
+          (members_of l.said.name l.invariant.all l.said.text l.invariant.items) l.invariant.begun last;
+      shorter = omega (arith, read_key-shorter l.reader None rest last, l.invariant.begun.shorter);
+      fits = l.invariant.fits;
+    }
+
+pub members-members-preserved : goal.members-members-preserved
+members-members-preserved t c =
+    let l = c.members in
+    let given : c.in_ok-member.field-0 ≡ true = search rules in
+    let more : SaysMore c.args.level c.in-Some.key c.next_key.new.reader l.seen l.said c.member.new.reader c.member.new.seen c.member.new.said =
+    c.in_ok-member.ensures given in
+    more.goes c.args.reader.now l.reader l.invariant.all l.invariant.items c.args.seen.now c.requires.level l.invariant.begun c.in-Some.ensures l.invariant.fits
+
+pub element-returns-then-count : goal.element-returns-then-count
+element-returns-then-count t c =
     let level = c.args.level in
     let before = c.args.reader.now in
-    let here = c.opening.new.reader in
+    let rest = c.members.new.reader in
     let seen = c.args.seen.now in
+    let first : Seen = record { elements = seen.elements + 1; bytes = seen.bytes } in
+    let then = c.members.new.seen in
+    let after = c.count.new.self in
     let said = c.in-Some.said in
-    let now = c.in-Some-with.now in
-    let after = c.children.new.seen in
-    let end = c.children.new.reader in
-    let nodes = c.in-Some-2.children in
-    let says : IsSaid before here said = subst (λ o. IfSome o (IsSaid before here)) c.in-Some.is c.in_ok-said.ensures in
-    let fits : Fits level seen said now = c.in-Some-with.ensures in
-    let below : AreRead (level + 1) here now end after nodes =
-    subst (λ o. IfSome o (AreRead (level + 1) here now end after)) c.in-Some-2.is c.in_ok-children.ensures in
-    let plain : is_text_kind said.kind ≡ false = search rules in
-    let deep : 1 < depth_at level = omega (arith, fits.levels) in
-    let less : depth_at (level + 1) + 1 ≡ depth_at level - 1 = omega (arith, fits.levels) in
-    let read : converted of_json (json.value (depth_at level - 1) here) ≡ Some (array below.items, below.rest) =
-    subst (λ n. converted of_json (json.value n here) ≡ Some (array below.items, below.rest)) less below.read in
-    let found = members_of said.name says.all says.written (Some below.items) in
-    let first : IsAt (depth_at level) before (members_of said.name says.all says.written None) Children here =
-    subst (λ k. IsAt (depth_at level) before (members_of said.name says.all says.written None) k here) c.in-Children.is (says.at (depth_at level) deep) in
-    let at : IsAt (depth_at level) before found End end =
-    subst (λ all. IsAt (depth_at level) before all End end) (put_children said.name says.all says.written below.items)
-    (at_more (depth_at level) before here below.rest end (members_of said.name says.all says.written None) Children End (codes "children") (array below.items)
-    first refl read below.shorter below.ends) in
-    record {
-      whole = Means.whole level seen said now fits before here says (Some below.items) plain;
-      read = at_end (depth_at level) before end found at;
-      shorter = at_shorter (depth_at level) before end found End at;
-      means = subst (λ head. ReadsElement Whole level (Means.whole level seen said now fits before here says (Some below.items) plain)
-          (record { elements = seen.elements; bytes = seen.bytes }) (record { elements = after.elements; bytes = after.bytes }) (Ok (node head nodes)))
-          (sym c.into_head-head.ensures)
-          (Means.means level seen said now fits before here says (Some below.items) plain after nodes below.means);
-      order = Ordered.with_head level c.into_head-head.result nodes c.as_slice-in_order.ensures.order below.order;
-    }
+    let made_node = c.in-Some-2.node in
+    let says : HasSaid level before first rest then said = subst (λ o. IfSome o (HasSaid level before first rest then)) c.in-Some.is c.in_ok-said.ensures in
+    let made : IsMadeOf said (seen.elements + 1) made_node = subst (λ o. IfSome o (IsMadeOf said (seen.elements + 1))) c.in-Some-2.is c.in_ok-node.ensures in
+    let counted : HasCounted (out-Node made_node).head then after = c.count.ensures c.if-count.true in
+    let levels : level ≤ most_levels = omega (arith, c.if-level-gt-MOST_LEVELS.false) in
+    let room : seen.elements + 1 ≤ most_elements = omega (arith, c.if-seen-ge-MOST_ELEMENTS.false) in
+    let kids = unwrap_or said.children [] in
+    let head = Means.head_at (seen.elements + 1) made.name (option_map attributes_of says.all) said.text in
+    let is_made : made_node ≡ node head kids =
+    made.made_is ∙ ap (λ a. node (Means.head_at (seen.elements + 1) made.name a said.text) kids) says.fits.attributes_are in
+    let head_is : (out-Node made_node).head ≡ head =
+    ap (λ n. (out-Node n).head) is_made ∙ ap (λ l. l.head) (out-roll-Node (record { head = head; children = kids })) in
+    let whole = Means.whole level seen made.name says.all said.text says.items said.children levels room made.formed made.placed
+    says.fits.attributes_formed says.fits.text_short made.text_fits made.plain in
+    let held = Means.bytes_are level seen made.name says.all said.text says.items said.children levels room made.formed made.placed
+    says.fits.attributes_formed says.fits.text_short made.text_fits made.plain in
+    let bytes : after.bytes ≡ then.bytes + bytes_held whole =
+    counted.bytes_are ∙ ap (λ h. then.bytes + (length h.name + length h.text + bytes_of_attributes h.attributes)) head_is ∙ ap (λ n. then.bytes + n) (sym held) in
+    rw is_made (record {
+      whole = whole;
+      read = subst (λ n. converted of_json (value (depth_at level) before) ≡ Some (object (members_of n says.all said.text says.items), rest)) made.name_is says.read;
+      shorter = says.shorter;
+      means = Means.means level seen made.name says.all said.text says.items said.children levels room made.formed made.placed
+          says.fits.attributes_formed says.fits.text_short made.text_fits made.plain first then after says.fits.below refl refl counted.elements bytes counted.few;
+      order = Ordered.with_head level head kids
+          (subst (λ a. IsInOrder (unwrap_or a [])) says.fits.attributes_are made.order)
+          (Means.in_order (level + 1) says.items first then said.children says.fits.below);
+    })

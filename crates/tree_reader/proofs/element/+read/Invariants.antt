@@ -4,8 +4,8 @@ use Rattle.serde_json.specs.Data.{Data}
 use Rattle.math_tree.specs.Parts.{AreOrderedAt, ReadsElements}
 use Rattle.math_tree.specs.declared.node.Node.{Node}
 use Rattle.math_tree.specs.declared.portion.Portion.TheVariants.{Whole}
-use Rattle.tree_reader.specs.Read.{depth_at}
-use Rattle.tree_reader.specs.declared.element.Seen.{Seen}
+use Rattle.tree_reader.specs.Read.{IsOpenWith, depth_at}
+use Rattle.tree_reader.specs.declared.seen.Seen.{Seen}
 use Rattle.tree_reader.proofs.Items.{IsOpenArray}
 use Rattle.tree_reader.proofs.element.+read.Given as goal
 
@@ -19,10 +19,22 @@ pub record ReadSoFar (level : ℕ) (before : List Token) (first : Seen) (now : L
 
 -- the levels that are left end the recursion
 abbrev pub decreases-element : goal.decreases-element
-decreases-element l = 2 * (62 - l.level)
+decreases-element l = 4 * (62 - l.level)
 
 abbrev pub decreases-children : goal.decreases-children
-decreases-children l = 2 * (62 - l.level) + 1
+decreases-children l = 4 * (62 - l.level) + 1
+
+abbrev pub decreases-member : goal.decreases-member
+decreases-member l = 4 * (62 - l.level) - 2
+
+abbrev pub decreases-members : goal.decreases-members
+decreases-members l = 4 * (62 - l.level) - 1
+
+abbrev pub invariant-members-members : goal.invariant-members-members
+invariant-members-members l = IsOpenWith l.level l.fn.reader l.fn.seen l.reader l.seen l.said
+
+abbrev pub decreases-members-members : goal.decreases-members-members
+decreases-members-members l = length l.reader
 
 abbrev pub invariant-children-items : goal.invariant-children-items
 invariant-children-items l = ReadSoFar l.level l.fn.reader l.fn.seen l.reader l.seen l.nodes

@@ -8,7 +8,7 @@ use Rattle.math_tree.specs.Trees.{TreeValue}
 use Rattle.math_tree.specs.declared.node.Node.{Node}
 use Rattle.math_tree.proofs.Whole.{totalled, tree_is}
 use Rattle.tree_reader.specs.Read.{IsRead}
-use Rattle.tree_reader.specs.declared.element.Seen.{Seen}
+use Rattle.tree_reader.specs.declared.seen.Seen.{Seen}
 use Rattle.tree_reader.proofs.Members.{whole_text}
 use Rattle.tree_reader.proofs.tree.tree_of_text.Goals as goal
 

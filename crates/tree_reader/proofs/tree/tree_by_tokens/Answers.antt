@@ -1,8 +1,8 @@
-use Rattle.std.proofs.Common.{ap, subst}
+use Rattle.std.proofs.Common.{subst}
 use Rattle.std.specs.Prelude.{IfSome}
 use Rattle.tree_reader.specs.Read.{IsTreeOf, IsTreeOfText}
 use Rattle.tree_reader.proofs.Found.{found_too, given_too, json_of_text}
-use Rattle.tree_reader.proofs.tree.ordered_tree.Goals as goal
+use Rattle.tree_reader.proofs.tree.tree_by_tokens.Goals as goal
 
 pub returns-in-Ok : goal.returns-in-Ok
 returns-in-Ok c =
