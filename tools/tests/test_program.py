@@ -178,9 +178,9 @@ class Program(InFolder):
         self.assertEqual(self.reply(program, len(TALK[1][1]) + 1), TALK[1][1])
         self.assertEqual(program.wait(SILENCE), 0)
 
-    def peak(self, name):
-        """The most memory in KiB that the program has while it answers a script."""
-        words = [sys.executable, "-c", PEAK, PROGRAM, "edit", "m", "t", name]
+    def peak(self, *given):
+        """The most memory in KiB that the program has, which gets these words."""
+        words = [sys.executable, "-c", PEAK, PROGRAM, *given]
         told = subprocess.run(words, cwd=self.folder, stdout=subprocess.PIPE, check=True, env={**os.environ, **FREED}).stdout
         status, most = map(int, told.split())
         self.assertEqual(status, 0)
@@ -192,7 +192,16 @@ class Program(InFolder):
         self.file("one", line)
         with open(self.folder / "many", "w", encoding="utf-8") as many:
             many.writelines([line] * 65_536)
-        self.assertLess(self.peak("many"), self.peak("one") + SLACK)
+        many, one = (self.peak("edit", "m", "t", name) for name in ("many", "one"))
+        self.assertLess(many, one + SLACK)
+
+    def test_a_tree_is_read_without_its_json_value(self):
+        # A value has some 850 bytes for each element. It is made where a key comes twice, and no annotation is laid out.
+        rest = ',{"text":"x","name":"annotation"}' * 40_000
+        for name, first in (("tokens", '{"text":"x","name":"mi"}'), ("value", '{"text":"x","text":"x","name":"mi"}')):
+            self.file(name, f'{{"children":[{{"children":[{first}{rest}],"name":"semantics"}}],"name":"math"}}')
+        self.assertEqual(*(self.ended(["layout", "m", name]) for name in ("tokens", "value")))
+        self.assertLess(self.peak("layout", "m", "tokens") + 16 * SLACK, self.peak("layout", "m", "value"))
 
 
 @unittest.skipUnless(PROGRAM.is_file(), f"{PROGRAM.relative_to(TOP)} isn't there: `rt ci` builds it")
