@@ -65,7 +65,8 @@ HaveRead level (Some items) seen now (Some nodes) =
     (record { elements = now.elements; bytes = now.bytes }) (Ok nodes)
     × AreOrderedAt level nodes
 
--- what is said so far is what these attributes and children say, and each part is in its form
+-- what is said so far is what these attributes and children say, each in its form, and as many
+-- elements and bytes as a tree may have were seen at most
 pub record Fits (level : ℕ) (all : Option Members) (items : Option Items) (seen now : Seen)
     (said : Said) : Type 0 where
   pub attributes_are : said.attributes ≡ option_map attributes_of all
@@ -93,7 +94,7 @@ pub record IsOpenWith (level : ℕ) (before : List Token) (seen : Seen) (rest : 
   pub begun : IsOpen (depth_at level) before (members_of said.name all said.text items) rest
   pub fits : Fits level all items seen now said
 
--- one member more, whose key is read
+-- one member more, whose key is read: of an element of which so much was said, more is said now
 pub record SaysMore (level : ℕ) (key : Key) (here : List Token) (old_seen : Seen) (old : Said)
     (rest : List Token) (new_seen : Seen) (new : Said) : Type 0 where
   pub shorter : length rest < length here

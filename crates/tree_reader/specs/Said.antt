@@ -42,7 +42,8 @@ pub record IsOpen (depth : ℕ) (before : List Token) (found : Members)
   pub enough : length now ≤ turns
   pub shorter : length now < length before
   pub same : converted of_json (value depth before)
-      ≡ converted (λ ms. option_map object (of_members ms found)) (members (value (depth - 1)) turns now)
+      ≡ converted (λ ms. option_map object (of_members ms found))
+      (members (value (depth - 1)) turns now)
 
 -- ---- what is said
 
@@ -50,12 +51,11 @@ pub record IsOpen (depth : ℕ) (before : List Token) (found : Members)
 pub record SaysAttributes (before : List Token) (attributes : List Attribute)
     (after : List Token) : Type 0 where
   pub all : Members
-  pub read : (depth : ℕ) → 0 < depth → converted of_json (value depth before) ≡ Some (object all, after)
+  pub read : (depth : ℕ) → 0 < depth
+      → converted of_json (value depth before) ≡ Some (object all, after)
   pub shorter : length after < length before
   pub are : attributes ≡ attributes_of all
   pub formed : are_attributes all ≡ true
-
--- attributes in their form where the key of attributes came, and else none; then comes a key
 
 -- the member of a key isn't there yet
 abbrev pub IsUnsaid : Key → Said → Type 0
