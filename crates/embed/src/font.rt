@@ -25,9 +25,6 @@ impl Model for Font {
     ghost also_owns = { λ font. font_owns font.at font.kept };
 }
 
-// What it owns says the same to every thread.
-unsafe impl Send for Font {}
-
 impl Font {
     /// A handle that keeps nothing.
     pub(crate) fn closed() -> Font
