@@ -5,8 +5,8 @@ elements in 60 levels, of which each element is asked in two contexts.
 
     python3 bench/layout.py [PROGRAM]
 
-PROGRAM is the file that `rt run` leaves in crates/mathlay/out/mathlay. The parts are differences of whole runs: a tree
-whose last element has a fault is read and not laid out; an empty script has a tree laid out and nothing written. Each
+PROGRAM is the file that `rt run` leaves in crates/mathlay/out/mathlay. The parts are differences of whole runs: as the
+annotation of a letter a tree is read and not laid out; an empty script has a tree laid out and nothing written. Each
 run is made five times, of which the least time counts, and once more for the peak memory.
 """
 import json
@@ -51,10 +51,11 @@ def measure(program, folder, name, rows, group, count):
     value = tree(rows, group)
     ids, elements = rows_of(value)
     whole, empty = file_in(folder, "tree", json.dumps(value)), file_in(folder, "empty", "")
-    value["children"].append({"name": "no name"})
-    faulty = file_in(folder, "faulty", json.dumps(value))
+    letter, annotation = {"name": "mi", "text": "x"}, {"name": "annotation-xml", "children": [value]}
+    annotated = {"name": "math", "children": [{"name": "semantics", "children": [letter, annotation]}]}
+    unlaid = file_in(folder, "unlaid", json.dumps(annotated))
     script = file_in(folder, "script", "".join(json.dumps(edit) + "\n" for edit in edits(ids, count)))
-    reading = least([program, "layout", METRICS, faulty], status=4)
+    reading = least([program, "layout", METRICS, unlaid])
     laid_out = least([program, "edit", METRICS, whole, empty])
     edited = least([program, "edit", METRICS, whole, script])
     written = least([program, "layout", METRICS, whole])
