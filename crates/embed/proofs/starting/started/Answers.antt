@@ -8,5 +8,5 @@ returns-in-Some-clause-starts c =
     let same : c.as_ref.result.now ≡ c.in-Some.metrics.value = search rules in
     let kept : Some c.as_ref.result.now ≡ c.args.font.now.kept = ap Some same ∙ sym c.in-Some.ensures.taken in
     subst (λ font. Starts font c.args.tree.now (seen c.args.handle.now.kept c.args.refusal.now c.args.refusal_len.now)
-        (seen c.started_over-answer.new.handle.kept c.started_over-answer.new.refusal c.started_over-answer.new.refusal_len) c.started_over-answer.result)
-        kept c.started_over-answer.ensures
+    (seen c.started_over-answer.new.handle.kept c.started_over-answer.new.refusal c.started_over-answer.new.refusal_len) c.started_over-answer.result)
+    kept c.started_over-answer.ensures
