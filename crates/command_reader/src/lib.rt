@@ -1,20 +1,25 @@
 //! Reading the lines of a script one after another.
 //!
 //! `CommandReader` says what each line asks for, just as `tree_edits::read_command` does, and keeps
-//! its memory from line to line. A line whose members are texts, whole numbers and nulls, as most
-//! are, is read token by token; any other is left to `read_command`.
+//! its memory from line to line. A line of `show`, `text`, `attr` or `remove` is read member by
+//! member as its tokens come, and only the texts that its edit keeps take memory. Any other is left
+//! to `read_command`: one that brings an element, has a key twice or one that isn't its command's,
+//! or is refused.
 //!
 //! - Models: a reader that is made once and lent each line. The kit's `json` wants 16 KiB of
 //!   cleared memory for a text, which `serde_json` takes anew each time.
 //! - Proved: a line gives the command of `command_in` and is refused exactly where it has none
-//!   (`tree_edits/specs/Commands.antt`); what is read token by token is the value that `serde_json`
-//!   reads.
+//!   (`tree_edits/specs/Commands.antt`); what the members of a line say is the value that
+//!   `serde_json` reads (`line_of`), and the command that is made of them is that value's.
 //! - Knows nothing of: what a command does.
-//! - Change a line's form: `tree_edits`, `specs/Commands.antt`, then `src/read.rt`. Nothing here
-//!   knows the keys.
+//! - Change a line's form: `tree_edits`, `specs/Commands.antt`, then `src/read.rt`; then here, for
+//!   these four commands: `specs/Said.antt`, `src/keys.rt` and `src/said.rt`.
 #![tactic(auto)]
 
-mod flat; // lines without objects and lists inside
+mod keys; // keys, and what stands under them
+mod line; // a line token by token
+mod number; // whole numbers
 mod reader; // CommandReader
+mod said; // what a line says
 
 pub use reader::CommandReader;

@@ -1,10 +1,10 @@
 ghost use Rattle.std.specs.Prelude.{IfOk};
 ghost use Rattle.tree_edits.specs.Commands.{Gives, IsProperCommand, command_in};
 
-use crate::flat::flat_value;
+use crate::line::said_in;
 use json::Scratch;
 use std::alloc::Global;
-use tree_edits::{Command, CommandRefusal, command_of, read_command};
+use tree_edits::{Command, CommandRefusal, read_command};
 
 /// Reads lines of a script, with memory that it keeps from one to the next.
 #[derive(Drop)]
@@ -26,8 +26,11 @@ impl CommandReader {
         ensures reads { Gives (command_in line.now) result }
         ensures proper { IfOk result IsProperCommand }
     {
-        match flat_value(alloc, &mut self.scratch, line)? {
-            Some(value) => command_of(alloc, &value),
+        let Some(said) = said_in(alloc, &mut self.scratch, line)? else {
+            return read_command(alloc, line);
+        };
+        match said.into_command() {
+            Some(command) => Ok(command),
             None => read_command(alloc, line),
         }
     }

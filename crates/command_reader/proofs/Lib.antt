@@ -1,0 +1,5 @@
+-- what a line says, member by member
+mod Puts
+mod More
+-- and the command that it means
+mod Meant
