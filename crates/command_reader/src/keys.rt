@@ -43,16 +43,16 @@ pub fn next_key(reader: &mut Reader<'_>) -> Option<Key>
     }
 }
 
-/// The key that has this name.
+/// The key that has this name. Its bytes are compared in place, where texts would be by calls.
 fn key_of(name: &str) -> Option<Key>
     ensures { IfSome result (λ key. text_of key ≡ Some name.now) }
 {
-    match name {
-        "op" => Some(Key::Op),
-        "node" => Some(Key::Node),
-        "name" => Some(Key::Name),
-        "text" => Some(Key::Text),
-        "value" => Some(Key::Value),
+    match name.as_bytes() {
+        b"op" => Some(Key::Op),
+        b"node" => Some(Key::Node),
+        b"name" => Some(Key::Name),
+        b"text" => Some(Key::Text),
+        b"value" => Some(Key::Value),
         _ => None,
     }
 }
@@ -67,15 +67,15 @@ pub fn next_op(reader: &mut Reader<'_>) -> Option<Op>
     }
 }
 
-/// The command that has this word.
+/// The command that has this word, whose bytes are compared in the same way.
 fn op_of(word: &str) -> Option<Op>
     ensures { IfSome result (λ op. word_of op ≡ word.now) }
 {
-    match word {
-        "show" => Some(Op::Show),
-        "text" => Some(Op::Text),
-        "attr" => Some(Op::Attr),
-        "remove" => Some(Op::Remove),
+    match word.as_bytes() {
+        b"show" => Some(Op::Show),
+        b"text" => Some(Op::Text),
+        b"attr" => Some(Op::Attr),
+        b"remove" => Some(Op::Remove),
         _ => None,
     }
 }
