@@ -136,12 +136,12 @@ fn asked_all<V: View>(
         questions_in asked ≡ asked_all metrics.now (seen_of (V.element view.now)) context.now
         asks.now) }
 {
-    let mut all = List::with_room(alloc, asks.len())?;
+    let mut all = Vec::with_capacity(alloc, asks.len())?;
     for ask in asks.as_slice() {
         let question = asked(view, survey, context, metrics, ask);
-        all.push(Reply::to_come(alloc, question))?;
+        all.push_reserved(Reply::to_come(alloc, question));
     }
-    Ok(all)
+    Ok(List::from(all))
 }
 
 /// The question to a child with its pull.

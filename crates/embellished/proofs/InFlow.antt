@@ -1,15 +1,17 @@
 -- What is in flow: through a map, and what holds of it where it holds of all children.
-use Rattle.std.proofs.Common.{◌≡◌, ◌∙◌, refl, sym, ap, subst, ℕ, ◌+◌, ◌≤◌, Bool, true, false, cond, List, [], ◌∷◌, ◌++◌, length, map, take, length-take, All, Some, slice_get, arith}
+use Rattle.std.proofs.Common.{◌≡◌, ◌∙◌, refl, sym, ap, subst, ℕ, ◌+◌, ◌≤◌, Bool, true, false, not, ◌&&◌, cond, List, [], ◌∷◌, ◌++◌, length, map, take, length-take, All, Some, slice_get, arith}
 use Rattle.std.proofs.lemmas.List.{append_assoc, length-append, take-map}
 use Rattle.std.proofs.lemmas.List.Elements.{All-nil, All-cons, All-filter}
 use Rattle.std.proofs.lemmas.Option.{get_or_from_slice_get, slice_get-map, slice_get_within, same_Some}
+use Rattle.std.proofs.lemmas.Bool.{and_parts}
+use Rattle.std.specs.List.{list_all}
 use Rattle.std.specs.Option.{option_map}
 use Rattle.math_tree.specs.declared.kind.Kind.{Kind}
 use Rattle.math_tree.specs.declared.node.Node.{Node}
 use Rattle.math_tree.specs.declared.node.Node.TheViews.{out-Node}
 use Rattle.embellished.specs.Facts.{facts}
-use Rattle.embellished.specs.Flow.{may_show, shown_by, flow_by}
-use Rattle.embellished.specs.Kinds.{shows_none, shows_its_first}
+use Rattle.embellished.specs.Flow.{may_show, shown_by, shows_each, flow_by}
+use Rattle.embellished.specs.Kinds.{is_multiscripts, shows_none, shows_its_first}
 use Rattle.embellished.specs.Seen.{Child, KnownChild, children_from, flow_children, flow_nodes, kid_of, known_child, laid_child, laid_kid, seen_of}
 
 -- ---- through a map
@@ -75,6 +77,28 @@ module _ {A : Type 0} (kind_of : A → Kind) (laid : Kind) (P : A → Type 0)
   flow_pass xs =
       chosen_all kind_of laid P (shows_none laid) (shows_its_first laid) (shown_by kind_of laid (take 1 xs)) (shown_by kind_of laid xs)
       (shown_pass (take 1 xs)) (shown_pass xs)
+
+-- ---- where each child is in flow
+
+module _ {A : Type 0} (kind_of : A → Kind) (laid : Kind) where
+  all_shown : (xs : List A) → list_all (λ x. may_show laid (kind_of x)) xs ≡ true → shown_by kind_of laid xs ≡ xs
+  all_shown [] h = refl
+  all_shown (x ∷ xs) h =
+      let both = and_parts (may_show laid (kind_of x)) (list_all (λ y. may_show laid (kind_of y)) xs) h in
+      rw both.0 (ap (λ ys. x ∷ ys) (all_shown xs both.1))
+
+  chosen_each : (none first marks all : Bool) (xs ys zs : List A) → (not none && not first && not marks && all) ≡ true
+      → (all ≡ true → zs ≡ xs) → cond none [] (cond first ys zs) ≡ xs
+  chosen_each true first marks all xs ys zs h k = cc
+  chosen_each false true marks all xs ys zs h k = cc
+  chosen_each false false true all xs ys zs h k = cc
+  chosen_each false false false all xs ys zs h k = k h
+
+  pub each_in_flow : (xs : List A) → shows_each kind_of laid xs ≡ true → flow_by kind_of laid xs ≡ xs
+  unfolding flow_by
+  each_in_flow xs h =
+      chosen_each (shows_none laid) (shows_its_first laid) (is_multiscripts laid) (list_all (λ x. may_show laid (kind_of x)) xs)
+      xs (shown_by kind_of laid (take 1 xs)) (shown_by kind_of laid xs) h (all_shown xs)
 
 -- ---- how many they are
 

@@ -1,5 +1,6 @@
 mod Keeping
 pub mod Nodes
+mod OnlyCore
 pub mod InFlow
 pub mod KnownFacts
 pub mod FencePlaces

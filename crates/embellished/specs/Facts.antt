@@ -90,10 +90,16 @@ core_of head laid flow = if is_operator laid then Some (core_of_operator head) e
 abbrev pub laid_kind : Facts → Kind
 laid_kind facts = facts.laid
 
+-- an element that is laid out as a kind, from the facts of its children in flow
+abbrev pub facts_as : Head → Kind → List Facts → Facts
+facts_as head laid flow = record {
+  space_like = is_space_like laid flow;
+  core = core_of head laid flow;
+  laid = laid;
+}
+
 abbrev pub facts_laid_as : Head → Kind → List Facts → Facts
-facts_laid_as head laid kids =
-    let flow = flow_by laid_kind laid kids in
-    record { space_like = is_space_like laid flow; core = core_of head laid flow; laid = laid }
+facts_laid_as head laid kids = facts_as head laid (flow_by laid_kind laid kids)
 
 -- an element, from the facts of all its children
 unfoldable pub facts_over : Head → List Facts → Facts

@@ -9,6 +9,8 @@ use Rattle.embellished.specs.Facts.{facts}
 use Rattle.embellished.specs.Flow.{flow_by}
 use Rattle.embellished.specs.Kinds.{is_annotation, is_prescripts_mark, is_multiscripts}
 use Rattle.embellished.specs.declared.facts.Facts.{Facts}
+use Rattle.embellished.specs.declared.node_view.Shown.{Shown}
+use Rattle.embellished.specs.declared.node_view.Shown.TheVariants.{Each, Listed}
 use Rattle.embellished.specs.declared.node_view.ShownKid.{ShownKid}
 
 -- a child in flow
@@ -105,6 +107,20 @@ shown_child kid = record {
   child = record { place = kid.place; node = kid.node.now };
   facts = kid.facts;
 }
+
+-- the facts of all children, as they are kept where each of them is in flow
+abbrev pub facts_kept : Node → Shown → List Facts
+facts_kept node (Each known) = known.now
+facts_kept node (Listed kids) = map facts (out-Node node).children
+
+-- they are right
+abbrev pub AreFactsKept : Node → Shown → Type 0
+AreFactsKept node shown = facts_kept node shown ≡ map facts (out-Node node).children
+
+-- the children in flow, as they are kept
+abbrev pub children_shown : Node → Shown → List KnownChild
+children_shown node (Each known) = map known_child (children_from 0 (out-Node node).children)
+children_shown node (Listed kids) = map shown_child kids.items
 
 pub record IsShown (node : Node) (facts : Facts) (children : List KnownChild) (prescripts : ℕ) :
     Type 0 where

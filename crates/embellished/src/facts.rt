@@ -1,8 +1,8 @@
 ghost use Rattle.std.specs.Prelude.{◌≡◌, IfOk};
 ghost use Rattle.std.specs.List.{list_all};
-ghost use Rattle.embellished.specs.Facts.{is_space_like, core_below, core_of, but_space_like, first_core, only_core, facts_over};
+ghost use Rattle.embellished.specs.Facts.{is_space_like, core_below, core_of, but_space_like, facts_as, first_core, only_core, facts_over};
 
-use crate::flow::{LaidOut, flow, push_if};
+use crate::flow::{LaidOut, flow, shows_each};
 use crate::kinds::{is_blank, is_judged_by_all, is_led_by_its_base};
 use crate::operator::core_of_operator;
 use crate::validity::laid_as;
@@ -49,9 +49,19 @@ pub fn facts_of(alloc: Global, head: &Head, kids: &List<Facts>) -> Result<Facts,
 {
     let kids = kids.as_slice();
     let laid = laid_as(alloc, head.kind, kids)?;
+    if shows_each(laid, kids) {
+        return facts_as(alloc, head, laid, kids);
+    }
     let flow = flow(alloc, laid, kids)?;
-    let core = core_of(alloc, head, laid, flow.as_slice())?;
-    let space_like = is_space_like(laid, flow.as_slice());
+    facts_as(alloc, head, laid, flow.as_slice())
+}
+
+/// The same of an element that is laid out as this kind, from what its children in flow are.
+fn facts_as(alloc: Global, head: &Head, laid: Kind, flow: &[Facts]) -> Result<Facts, Memory>
+    ensures { IfOk result (λ facts. facts ≡ facts_as head.now laid flow.now) }
+{
+    let core = core_of(alloc, head, laid, flow)?;
+    let space_like = is_space_like(laid, flow);
     Ok(Facts {
         space_like,
         core,
@@ -79,23 +89,22 @@ fn core_of(alloc: Global, head: &Head, laid: Kind, flow: &[Facts]) -> Result<Opt
     if matches!(laid, Kind::Mo) {
         return Ok(Some(core_of_operator(alloc, head)?));
     }
-    core_below(alloc, laid, flow)
+    Ok(core_below(laid, flow))
 }
 
 /// The core that the children lead to: that of the base, or that of the only child that isn't
 /// space-like.
 #[tactic(auto, unfolding(crate::specs::Facts::core_below))]
-fn core_below(alloc: Global, laid: Kind, flow: &[Facts]) -> Result<Option<Core>, Memory>
-    ensures { IfOk result (λ core. core ≡ core_below laid flow.now) }
+fn core_below(laid: Kind, flow: &[Facts]) -> Option<Core>
+    ensures { result ≡ core_below laid flow.now }
 {
     if is_led_by_its_base(laid) {
-        return Ok(first_core(flow));
+        return first_core(flow);
     }
     if !is_judged_by_all(laid) {
-        return Ok(None);
+        return None;
     }
-    let others = but_space_like(alloc, flow)?;
-    Ok(only_core(others.as_slice()))
+    only_core(flow)
 }
 
 fn first_core(flow: &[Facts]) -> Option<Core>
@@ -107,21 +116,17 @@ fn first_core(flow: &[Facts]) -> Option<Core>
     }
 }
 
+/// The core of the only child that isn't space-like.
 fn only_core(flow: &[Facts]) -> Option<Core>
-    ensures { result ≡ only_core flow.now }
+    ensures { result ≡ only_core (but_space_like flow.now) }
 {
-    match flow {
-        [only] => only.core,
-        _ => None,
-    }
-}
-
-fn but_space_like(alloc: Global, flow: &[Facts]) -> Result<Vec<Facts>, Memory>
-    ensures { IfOk result (λ others. others.items ≡ but_space_like flow.now) }
-{
-    let mut others = Vec::with_capacity(alloc, flow.len())?;
+    let mut others = 0usize;
+    let mut core = None;
     for kid in flow {
-        push_if(&mut others, !kid.space_like, *kid)?;
+        if !kid.space_like {
+            others += 1;
+            core = kid.core;
+        }
     }
-    Ok(others)
+    if others == 1 { core } else { None }
 }

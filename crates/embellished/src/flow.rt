@@ -1,6 +1,7 @@
 ghost use Rattle.std.specs.Prelude.{◌≡◌, if◌then◌else◌, [], ◌∷◌, ◌++◌, IfOk, OnOk};
+ghost use Rattle.std.specs.List.{list_all};
 ghost use Rattle.math_tree.specs.declared.kind.Kind.{Kind};
-ghost use Rattle.embellished.specs.Flow.{may_show, shown_by, flow_by};
+ghost use Rattle.embellished.specs.Flow.{may_show, shown_by, shows_each, flow_by};
 
 use crate::kinds::{is_annotation, is_prescripts_mark, shows_its_first, shows_none};
 use fixed_units::Memory;
@@ -14,6 +15,22 @@ pub trait LaidOut: Copy {
 
     fn laid(&self) -> Kind
         ensures { result ≡ kind self.now };
+}
+
+/// Whether all these children of an element that is laid out as this kind are in flow. Those of an
+/// element with prescripts are looked through by `flow` alone.
+pub fn shows_each<T: LaidOut>(laid: Kind, kids: &[T]) -> bool
+    ensures { result ≡ shows_each T.kind laid kids.now }
+{
+    let is_plain = !shows_none(laid) && !shows_its_first(laid);
+    is_plain && !matches!(laid, Kind::Mmultiscripts) && all_may_show(laid, kids)
+}
+
+/// Whether each of these children may be in flow.
+fn all_may_show<T: LaidOut>(laid: Kind, kids: &[T]) -> bool
+    ensures { result ≡ list_all (λ kid. may_show laid (T.kind kid)) kids.now }
+{
+    kids.iter().all(|kid| may_show(laid, kid.laid()))
 }
 
 /// The children in flow of an element that is laid out as this kind.

@@ -3,10 +3,10 @@ ghost use Rattle.std.specs.List.{position_or_len};
 ghost use Rattle.math_tree.specs.declared.node.Node.TheViews.{out-Node};
 ghost use Rattle.embellished.specs.Facts.{facts};
 ghost use Rattle.embellished.specs.Kinds as kinds;
-ghost use Rattle.embellished.specs.Seen.{HasChild, IsShown, children_from, known_child, prescripts_in, seen_of, shown_child};
+ghost use Rattle.embellished.specs.Seen.{AreFactsKept, HasChild, IsShown, children_from, children_shown, flow_children, known_child, prescripts_in, seen_of, shown_child};
 
 use crate::facts::Facts;
-use crate::flow::{LaidOut, flow};
+use crate::flow::{LaidOut, flow, shows_each};
 use crate::kinds::is_prescripts_mark;
 use crate::validity::but_annotations;
 use crate::view::View;
@@ -16,13 +16,23 @@ use std::alloc::Global;
 
 /// A view of an element of a tree, which lends the nodes of its children too.
 #[derive(Debug, Drop)]
-pub struct NodeView<'a> {
+pub struct NodeView<'a, 'f> {
     node: &'a Node,
     facts: Facts,
-    kids: Vec<ShownKid<'a>>,
+    kids: Shown<'a, 'f>,
     prescripts: usize,
-    ghost shows: { IsShown node.now facts (map shown_child kids.items) prescripts },
-    ghost few: { length kids.items ≤ 65535 },
+    ghost known: { AreFactsKept node.now kids },
+    ghost shows: { IsShown node.now facts (children_shown node.now kids) prescripts },
+    ghost few: { length (flow_children node.now) ≤ 65535 },
+}
+
+/// The children in flow. Mostly all are, and then no list is made of them.
+#[derive(Debug, Drop)]
+enum Shown<'a, 'f> {
+    /// All children; this is what they are.
+    Each(&'f List<Facts>),
+    /// Those that are listed.
+    Listed(Vec<ShownKid<'a>>),
 }
 
 /// A child, its place among all children, and what it is.
@@ -41,27 +51,49 @@ impl<'a> LaidOut for ShownKid<'a> {
     }
 }
 
-impl<'a> NodeView<'a> {
+impl<'a, 'f> NodeView<'a, 'f> {
     /// A view of a node, where it is known what the element is and what its children are.
     pub fn make(
         alloc: Global,
         node: &'a Node,
         own: Facts,
-        kids: &List<Facts>,
-    ) -> Result<NodeView<'a>, Memory>
+        kids: &'f List<Facts>,
+    ) -> Result<NodeView<'a, 'f>, Memory>
         requires own { own ≡ facts node.now }
         requires known { kids.now ≡ map facts (out-Node node.now).children }
         requires few { length (out-Node node.now).children ≤ 65535 }
         ensures { IfOk result (λ view. view.node.now ≡ node.now) }
     {
-        let kids = kids.as_slice();
+        if shows_each(own.laid, kids.as_slice()) {
+            return Ok(NodeView {
+                node,
+                facts: own,
+                kids: Shown::Each(kids),
+                prescripts: kids.len(),
+            });
+        }
+        NodeView::listed(alloc, node, own, kids.as_slice())
+    }
+
+    /// The same, where those in flow are listed.
+    fn listed(
+        alloc: Global,
+        node: &'a Node,
+        own: Facts,
+        kids: &[Facts],
+    ) -> Result<NodeView<'a, 'f>, Memory>
+        requires own { own ≡ facts node.now }
+        requires known { kids.now ≡ map facts (out-Node node.now).children }
+        requires few { length (out-Node node.now).children ≤ 65535 }
+        ensures { IfOk result (λ view. view.node.now ≡ node.now) }
+    {
         let all = children_of(alloc, node, kids)?;
         let shown = flow(alloc, own.laid, all.as_slice())?;
         let prescripts = prescripts_of(alloc, own.laid, kids, shown.as_slice().len())?;
         Ok(NodeView {
             node,
             facts: own,
-            kids: shown,
+            kids: Shown::Listed(shown),
             prescripts,
         })
     }
@@ -78,7 +110,10 @@ impl<'a> NodeView<'a> {
         requires { index < length (seen_of self.now.node.now).kids }
         ensures { HasChild self.now.node.now index (λ child. child.place ≡ result) }
     {
-        self.kids[index].place
+        match &self.kids {
+            Shown::Each(_) => index,
+            Shown::Listed(kids) => kids[index].place,
+        }
     }
 
     /// The node of a child in flow.
@@ -86,7 +121,10 @@ impl<'a> NodeView<'a> {
         requires { index < length (seen_of self.now.node.now).kids }
         ensures { HasChild self.now.node.now index (λ child. child.node ≡ result.now) }
     {
-        self.kids[index].node
+        match &self.kids {
+            Shown::Each(_) => &self.node.children.as_slice()[index],
+            Shown::Listed(kids) => kids[index].node,
+        }
     }
 }
 
@@ -134,7 +172,7 @@ fn mark_place(kids: &[Kind]) -> usize
         .count()
 }
 
-impl<'a> View for NodeView<'a> {
+impl<'a, 'f> View for NodeView<'a, 'f> {
     ghost element = { λ view. view.node.now };
 
     fn head(&self) -> &Head {
@@ -146,16 +184,21 @@ impl<'a> View for NodeView<'a> {
     }
 
     fn kids(&self) -> usize {
-        self.kids.len()
+        match &self.kids {
+            Shown::Each(kids) => kids.len(),
+            Shown::Listed(kids) => kids.len(),
+        }
     }
 
     fn kid(&self, index: usize) -> &Head {
-        let node = self.kids[index].node;
-        &node.head
+        &self.node_at(index).head
     }
 
     fn kid_facts(&self, index: usize) -> Facts {
-        self.kids[index].facts
+        match &self.kids {
+            Shown::Each(kids) => kids.as_slice()[index],
+            Shown::Listed(kids) => kids[index].facts,
+        }
     }
 
     fn prescripts(&self) -> usize {

@@ -21,7 +21,7 @@ pub struct Renewal {
 /// taken out is given back.
 pub fn change_memo(
     memo: &mut Memo,
-    path: &[usize],
+    path: &[u16],
     known: &[Renewal],
     splice: Splice<Memo>,
 ) -> Option<Memo>
@@ -34,13 +34,18 @@ pub fn change_memo(
     if path.len() == 0 {
         splice.apply_to(&mut memo.below)
     } else {
-        change_memo(memo.below.at_mut(path[0]), &path[1..], known, splice)
+        change_memo(
+            memo.below.at_mut(path[0] as usize),
+            &path[1..],
+            known,
+            splice,
+        )
     }
 }
 
 /// Takes such a change back by the splice that undoes it: what was known of the elements on the way
 /// is known again, without marks.
-pub fn undo_memo(memo: &mut Memo, path: &[usize], splice: Splice<Memo>) -> Option<Memo>
+pub fn undo_memo(memo: &mut Memo, path: &[u16], splice: Splice<Memo>) -> Option<Memo>
     requires { FitsMemo splice path.now memo.old }
     ensures memo { memo.new ≡ undone_memo splice path.now memo.old }
     ensures taken { result ≡ taken_from splice path.now memo.old }
@@ -49,7 +54,11 @@ pub fn undo_memo(memo: &mut Memo, path: &[usize], splice: Splice<Memo>) -> Optio
     if path.len() == 0 {
         splice.apply_to(&mut memo.below)
     } else {
-        undo_memo(memo.below.at_mut(path[0]), &path[1..], splice)
+        undo_memo(
+            memo.below.at_mut(path[0] as usize),
+            &path[1..],
+            splice,
+        )
     }
 }
 

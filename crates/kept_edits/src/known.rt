@@ -23,7 +23,7 @@ pub fn known_on(
     alloc: Global,
     node: &Node,
     memo: &Memo,
-    path: &[usize],
+    path: &[u16],
     splice: &Splice<Memo>,
 ) -> Result<List<Renewal>, Memory>
     requires fits { FitsMemo splice.now path.now memo.now }
@@ -34,7 +34,7 @@ pub fn known_on(
         let kids = kids_after(alloc, &memo.below, splice)?;
         add_own(alloc, node, &kids, List::make(alloc))
     } else {
-        let place = path[0];
+        let place = path[0] as usize;
         let child = child_at(node, place);
         let below = memo_at(memo, place);
         let mut known = known_on(alloc, child, below, &path[1..], splice)?;

@@ -30,7 +30,7 @@ impl Notes {
         }
         match &self.made {
             Some(parents) => Ok(parents.find(tree, id)),
-            None => Ok(path_to(tree.root(), id, 1)),
+            None => Ok(path_to(tree, id)),
         }
     }
 

@@ -1,6 +1,7 @@
 -- What holds of the answers of an element's children.
-use Rattle.std.proofs.Common.{◌≡◌, ◌∙◌, refl, sym, ap, inl, subst, ℕ, ◌^◌, ◌<◌, ◌≤◌, arith, Bool, true, false, cond, List, ◌++◌, length, map, get_or, All, Option, Some, None, unwrap_or, ℤ, pos}
-use Rattle.std.specs.Prelude.{int_le}
+use Rattle.std.proofs.Common.{◌≡◌, ◌∙◌, refl, sym, ap, inl, subst, ℕ, ◌^◌, ◌<◌, ◌≤◌, ◌≤ℤ◌, arith, Bool, true, false, cond, List, ◌++◌, length, map, get_or, All, Option, Some, None, unwrap_or, ℤ, pos}
+use Rattle.std.specs.Prelude.{int_le, is_some}
+use borrow.Author.Differences.{le-false}
 use Rattle.std.specs.Borrow.{Bor}
 use Rattle.std.specs.List.{AllPass}
 use Rattle.std.proofs.lemmas.List.{get_or-map, length-map}
@@ -8,6 +9,7 @@ use Rattle.std.proofs.lemmas.List.Elements.{All-append, All-get_or, All-nil}
 use Rattle.std.proofs.lemmas.Option.{get_or_from_slice_get}
 use Rattle.fixed_units.specs.Boxes.{is_stored}
 use Rattle.fixed_units.specs.Sums.{list_to}
+use Rattle.fixed_units.proofs.Signed.{signed}
 use Rattle.fixed_units.proofs.Sums.{length-list_to, slice_get-list_to}
 use Rattle.font_metrics.specs.Metrics.{MetricsValue}
 use Rattle.embellished.specs.Seen.{Seen}
@@ -110,3 +112,13 @@ size_found m style size e = by (int_le (size_of m style) (pos (2 ^ 20))) e
     by : (v : Bool) → Some size ≡ cond v (Some (size_of m style)) None → size ≡ size_of m style
     by true h = ap (λ (found : Option ℤ). unwrap_or found (size_of m style)) h
     by false h = ap (λ (found : Option ℤ). unwrap_or found (size_of m style)) h
+
+-- a font size that isn't too large is found
+pub small_is_found : (m : MetricsValue) (style : Style) (found : Option ℤ) → found ≡ font_size_of m style → size_of m style ≤ℤ pos (2 ^ 20)
+    → is_some found ≡ true
+unfolding font_size_of in_range_of
+small_is_found m style found e h = ap (λ (f : Option ℤ). is_some f) e ∙ by (int_le (size_of m style) (pos (2 ^ 20))) refl
+  where
+    by : (low : Bool) → int_le (size_of m style) (pos (2 ^ 20)) ≡ low → is_some (cond low (Some (size_of m style)) None) ≡ true
+    by true e = refl
+    by false e = absurd (omega (arith, signed, h, le-false (size_of m style) (pos (2 ^ 20)) e))

@@ -16,7 +16,7 @@ ghost use Rattle.outcomes.specs.Elements.{IsWhole, answered};
 use crate::answers::last_answers;
 use child_questions::style_of_kid;
 use embellished::{View, fences_of};
-use fixed_units::{LayRefusal, List, MathBox, Memory};
+use fixed_units::{List, MathBox, Memory};
 use font_metrics::{Mark, Metrics};
 use layout_model::{Answer, Context, Offset, Outcome, Reply};
 use math_tree::{Attributes, Kind};
@@ -64,8 +64,8 @@ impl<'a, V: View> Model for Element<'a, V> {
 }
 
 impl<'a, V: View> Element<'a, V> {
-    /// An element over the replies of both waves; `nothing` is the answer of a child that wasn't asked.
-    /// It is refused with `Range` only where its font size is out of range.
+    /// An element over the replies of both waves; `nothing` is the answer of a child that wasn't
+    /// asked.
     pub fn make(
         alloc: Global,
         view: &'a V,
@@ -74,19 +74,18 @@ impl<'a, V: View> Element<'a, V> {
         one: &'a List<Reply>,
         two: &'a List<Reply>,
         nothing: &'a Answer,
-    ) -> Result<Element<'a, V>, LayRefusal>
+    ) -> Result<Element<'a, V>, Memory>
         requires nothing { nothing.now ≡ no_answer }
         requires fits { IsContext context.now }
         requires size { size_of metrics.now context.now.style ≤ℤ pos (2 ^ 20) }
         requires replies { RepliesAll metrics.now (seen_of (V.element view.now)) context.now one.now two.now }
         ensures ok { IfOk result (λ e.
             e ≡ answered metrics.now (seen_of (V.element view.now)) context.now (answers_in one.now) (answers_in two.now)) }
-        ensures range { result ≡ Err Range → is_font_size (size_of metrics.now context.now.style) ≡ false }
     {
         let count = view.kids();
         let kids = last_answers(alloc, count, one, two, nothing)?;
         let Some(size) = font_size(&context.style, metrics) else {
-            return Err(LayRefusal::Range);
+            unreachable!();
         };
         Ok(Element {
             view,

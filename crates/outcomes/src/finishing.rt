@@ -114,7 +114,6 @@ pub fn finish_replies<V: View, L: Ledger>(
     ensures step { steps.new ≡ steps.old + 1 }
 {
     steps.tick();
-    no_size_is_negative(&context.style, metrics);
     let nothing = Answer::none(alloc);
     let element = Element::make(alloc, view, context, metrics, one, two, &nothing)?;
     storable(outcome_by(alloc, view.facts().laid, &element)?)

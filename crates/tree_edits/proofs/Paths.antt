@@ -4,10 +4,11 @@ use Rattle.std.proofs.lemmas.List.{take_all}
 use Rattle.std.proofs.lemmas.Option.{slice_get_within, none-some, same_Some}
 use Rattle.std.specs.List.{AllByRecursion, flat_map, list_any}
 use Rattle.std.specs.Option.{option_and_then}
-use Rattle.math_tree.specs.Forms.{most_levels}
-use Rattle.math_tree.specs.Trees.{Listed, listed}
+use Rattle.math_tree.specs.Forms.{most_elements, most_levels}
+use Rattle.math_tree.specs.Trees.{Listed, element_count, listed}
 use Rattle.math_tree.specs.declared.node.Node.{Node}
 use Rattle.math_tree.specs.declared.node.Node.TheViews.{size-Node, size_is-Node}
+use Rattle.math_tree.proofs.Counts.{counted}
 use Rattle.math_tree.proofs.Nodes.{all_parts, listed_element}
 use Rattle.tree_edits.specs.Edits.{has_id, head_of}
 use Rattle.tree_edits.specs.Paths.{children_of, node_at, Fits, FitsAt, LeadsTo}
@@ -100,6 +101,16 @@ smaller element i child h =
     let whole : size-Node element ≡ max 0 (max (most size-Node (children_of element)) 0) + 1 = size_is-Node element in
     let same : size-Node (get_or (children_of element) i child) ≡ size-Node child = ap size-Node (get_or_from_slice_get (children_of element) i child child h) in
     omega arith
+
+-- in a tree with few enough elements each child has few enough, and its place fits in 16 bits
+pub few_below : (element : Node) (i : ℕ) (child : Node) → slice_get (children_of element) i ≡ Some child
+    → element_count element ≤ most_elements → element_count child ≤ most_elements
+few_below element i child at few = omega (arith, (counted element).below i child at, few)
+
+pub place_fits : (element : Node) (i : ℕ) (child : Node) → slice_get (children_of element) i ≡ Some child
+    → element_count element ≤ most_elements → i < 65536
+place_fits element i child at few =
+    omega (arith, slice_get_within (children_of element) i child at, (counted element).few, few)
 
 -- a way that isn't empty is its first place and the rest
 pub split : (path : List ℕ) → (length path ≡ 0 → ⊥) → path ≡ get_or path 0 0 ∷ take (length path - 1) (drop 1 path)

@@ -85,7 +85,7 @@ pub fn apply(alloc: Global, tree: &mut Tree, edit: Edit) -> Result<Taken, EditRe
     ensures refused { IfErr result (IsReason tree.old edit) }
     ensures unchanged { OnErr result (tree.new ≡ tree.old) }
 {
-    let found = path_to(tree.root(), edit.named(), 1);
+    let found = path_to(tree, edit.named());
     apply_at(alloc, tree, found, edit)
 }
 

@@ -64,7 +64,7 @@ fn set_value(
 }
 
 /// Changes the element at the end of a way.
-pub fn carry_out_at(node: &mut Node, path: &[usize], change: Change) -> Replaced
+pub fn carry_out_at(node: &mut Node, path: &[u16], change: Change) -> Replaced
     requires { FitsAt change path.now node.old }
     ensures element { node.new ≡ changed_at (changed change) path.now node.old }
     ensures replaced { option_map (replaced_by change) (node_at path.now node.old) ≡ Some result }
@@ -72,6 +72,10 @@ pub fn carry_out_at(node: &mut Node, path: &[usize], change: Change) -> Replaced
     if path.len() == 0 {
         carry_out(node, change)
     } else {
-        carry_out_at(node.children.at_mut(path[0]), &path[1..], change)
+        carry_out_at(
+            node.children.at_mut(path[0] as usize),
+            &path[1..],
+            change,
+        )
     }
 }

@@ -1,6 +1,6 @@
 //! Which element stands right over which, as it was last noted.
 ghost use Rattle.std.specs.Prelude.{◌≡◌, ◌≤◌, ◌+◌, ◌<◌, [], length, true, IfOk, IfSome};
-ghost use Rattle.math_tree.specs.Forms.{most_levels};
+ghost use Rattle.math_tree.specs.Forms.{most_elements, most_levels};
 ghost use Rattle.math_tree.specs.Trees.{element_count};
 ghost use Rattle.tree_edits.specs.Notes.{AreBegun, AreMore};
 ghost use Rattle.tree_edits.specs.Paths.{Finds, LeadsTo};
@@ -67,9 +67,9 @@ impl Parents {
     pub fn find(&self, tree: &Tree, id: NodeId) -> Option<Path>
         ensures { Finds id.0 1 tree.now.root result }
     {
-        match self.way(tree.root(), id) {
+        match self.way(tree, id) {
             Some(path) => Some(path),
-            None => path_to(tree.root(), id, 1),
+            None => path_to(tree, id),
         }
     }
 
@@ -101,9 +101,10 @@ impl Parents {
     }
 
     /// The way to the element of an id, where what was noted leads to such an element.
-    fn way(&self, root: &Node, id: NodeId) -> Option<Path>
-        ensures { IfSome result (LeadsTo id.0 1 root.now) }
+    fn way(&self, tree: &Tree, id: NodeId) -> Option<Path>
+        ensures { IfSome result (LeadsTo id.0 1 tree.now.root) }
     {
+        let root = tree.root();
         let ids = self.ids_up(id, root.head.id)?;
         let mut path = Path::here();
         if leads(root, ids.as_slice(), id, 1, &mut path) {
@@ -134,6 +135,7 @@ impl Parents {
 #[tactic(auto, using(crate::proofs::Paths::leads_here, crate::proofs::Paths::leads_further))]
 fn leads(node: &Node, ids: &[u32], id: NodeId, level: usize, path: &mut Path) -> bool
     requires short { level + length ids.now ≤ most_levels }
+    requires few { element_count node.now ≤ most_elements }
     requires level { 1 ≤ level }
     requires empty { path.old ≡ [] }
     ensures { result ≡ true → LeadsTo id.0 level node.now path.new }

@@ -1,9 +1,7 @@
-use Rattle.std.proofs.Common.{◌∙◌, ap, length}
-use Rattle.std.specs.Prelude.{map}
+use Rattle.std.proofs.Common.{◌∙◌, ap, sym}
 use Rattle.embellished.specs.Facts.{laid_kind}
-use Rattle.embellished.specs.Flow.{flow_by}
-use Rattle.embellished.specs.Seen.{prescripts_in}
-use Rattle.embellished.proofs.Nodes.{shows, few, laid_shown}
+use Rattle.embellished.specs.Flow.{shows_each}
+use Rattle.embellished.proofs.Nodes.{few_in_flow, shows_all}
 use Rattle.embellished.proofs.node_view.NodeView.make.Goals as goal
 
 pub invariant_of-result : goal.invariant_of-result
@@ -11,13 +9,9 @@ invariant_of-result c =
     let node = c.args.node.now in
     let own = c.args.own in
     let known = c.args.kids.now in
-    let all = c.in_ok-all.ensures {u = tt} in
-    let kids = c.in_ok-shown.ensures {u = tt} ∙ ap (flow_by laid_shown own.laid) c.as_slice.ensures.value in
-    let place =
-    c.in_ok-prescripts.ensures {u = tt}
-    ∙ ap (λ list. prescripts_in own.laid (map laid_kind list) (length c.as_slice-2.result.now)) c.as_slice-kids.ensures
-    ∙ ap (λ list. prescripts_in own.laid (map laid_kind known) (length list)) c.as_slice-2.ensures.value in
+    let each = ap (shows_each laid_kind own.laid) (sym c.as_slice.ensures) ∙ sym c.shows_each.ensures ∙ c.if-shows_each.true in
     record {
-      shows = shows node own known c.in_ok-all.all.items c.in_ok-shown.shown.items c.in_ok-prescripts.prescripts c.requires.own c.requires.known all kids place;
-      few = few node own.laid c.in_ok-all.all.items c.in_ok-shown.shown.items all kids c.requires.few;
+      known = c.requires.known;
+      shows = rw c.len.ensures (shows_all node own known c.requires.own c.requires.known each);
+      few = few_in_flow node c.requires.few;
     }

@@ -1,4 +1,4 @@
-use Rattle.std.proofs.Common.{◌≡◌, ◌∙◌, sym, ap, subst, ℕ, arith, lit<, List, ◌++◌, length, All, Option, ℤ, is_some, to_z, of_z, w64}
+use Rattle.std.proofs.Common.{◌≡◌, ◌∙◌, sym, ap, subst, ℕ, arith, lit<, List, ◌++◌, length, All, Option, ℤ, is_some, true≢false, to_z, of_z, w64}
 use Rattle.embellished.specs.Seen.{seen_of}
 use Rattle.font_metrics.proofs.Scaling.{back64, size_in}
 use Rattle.style_scope.specs.Sizes.{IsSize}
@@ -7,12 +7,11 @@ use Rattle.layout_model.specs.Elements.{Element}
 use Rattle.layout_model.specs.Fits.{HasFont}
 use Rattle.layout_model.specs.Questions.{IsBelow}
 use Rattle.layout_model.specs.declared.outcome.Answer.{Answer}
-use Rattle.layout_model.proofs.FontSizes.{font_size_found}
 use Rattle.layout_model.proofs.KidFonts.{kid_font}
 use Rattle.layout_model.proofs.Places.{first_below, second_below}
 use Rattle.layout_model.proofs.Replies.{as_many}
 use Rattle.outcomes.specs.Elements.{IsWhole}
-use Rattle.outcomes.proofs.Kids.{last_are, size_found, whole}
+use Rattle.outcomes.proofs.Kids.{last_are, size_found, small_is_found, whole}
 use Rattle.outcomes.proofs.element.Element.make.Goals as goal
 
 pub last_answers-requires-clause-one_within : goal.last_answers-requires-clause-one_within
@@ -36,10 +35,11 @@ returns-clause-ok g c =
     ap over (last_are m seen context (questions_in c.args.one.now) (questions_in c.args.two.now) (answers_in c.args.one.now) (answers_in c.args.two.now) _ c.kids-count.result c.requires.replies.one_asked c.requires.replies.two_asked
     c.kids-count.ensures.count (c.in_ok-kids.ensures {u = tt}))
 
-pub returns-in_default-clause-range : goal.returns-in_default-clause-range
-returns-in_default-clause-range g c =
-    λ _. sym (font_size_found c.args.metrics.now c.args.context.now.style c.font_size.result c.font_size.ensures.value c.font_size.ensures.within)
-    ∙ ap (λ (found : Option ℤ). is_some found) c.in_default.is
+pub unreachable-requires : goal.unreachable-requires
+unreachable-requires g c =
+    true≢false
+    (sym (small_is_found c.args.metrics.now c.args.context.now.style c.font_size.result c.font_size.ensures.value c.requires.size)
+    ∙ ap (λ (found : Option ℤ). is_some found) c.in_default.is)
 
 pub invariant_of-result : goal.invariant_of-result
 invariant_of-result g c =
