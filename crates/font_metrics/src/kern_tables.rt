@@ -54,7 +54,13 @@ impl KernTables {
 
     /// Adds a kern to what the glyph at a place has at a corner. Where memory is refused, nothing
     /// is known of the tables.
-    pub fn add(&mut self, alloc: Global, corner: Corner, place: u16, kern: Kern) -> Result<(), Memory>
+    pub fn add(
+        &mut self,
+        alloc: Global,
+        corner: Corner,
+        place: u16,
+        kern: Kern,
+    ) -> Result<(), Memory>
         ensures { OnOk result (self.new
             ≡ with_kerns_at corner self.old (with_item (kerns_at corner self.old) place kern)) }
     {
