@@ -11,6 +11,7 @@ use Rattle.font_metrics.specs.declared.growth.Part.{Part}
 use Rattle.font_metrics.specs.Constants.{place_of_text, lowest_of, highest_of}
 use Rattle.font_metrics.specs.Faults.{Step, ◌>>=◌, or_fault, fault_if}
 use Rattle.font_metrics.specs.Metrics.{NamedGlyph, place_of_name}
+use Rattle.font_metrics.specs.Slot.{Words}
 use Rattle.metrics_file.specs.Words.{number_in, natural_in, letter_in, name_in, operator_text_in, extender_in, corner_in, form_in, category_in, axis_in}
 
 -- words that are lent out of a line

@@ -12,10 +12,10 @@ use Rattle.font_metrics.specs.declared.table.Table.{Table}
 use Rattle.font_metrics.specs.Slot.{Words}
 use Rattle.font_metrics.specs.Metrics.{NamedGlyph, MetricsValue, name_in_list, items_of}
 use Rattle.metrics_file.specs.Reading.{metrics_of}
-use Rattle.font_metrics.specs.Tables.{EntryOf, slot, entries, all_tables, step_words}
+use Rattle.font_metrics.specs.Tables.{EntryOf, slot, entries, all_tables}
 use Rattle.font_metrics.specs.Taken.{IsTaken}
 use Rattle.metrics_file.specs.Words.{plus}
-use Rattle.font_metrics.specs.Texts.{constant_text, extender_text, corner_text, form_text, category_text, axis_text, variant_keyword, part_keyword}
+use Rattle.font_metrics.specs.Texts.{constant_text, form_text, category_text, axis_text}
 
 -- ---- the texts of characters
 

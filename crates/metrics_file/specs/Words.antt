@@ -1,8 +1,8 @@
 -- The forms of the words of a metrics file.
-use Rattle.std.specs.Prelude.{ℕ, ℤ, pos, neg_ℤ, int_le, unsigned_abs, Bool, true, false, not, ◌&&◌, ◌||◌, nat_eq, nat_lt, nat_le, if◌then◌else◌, List, [], ◌∷◌, length, codes, Option, Some, None, option_map, Ok, Err}
+use Rattle.std.specs.Prelude.{ℕ, ℤ, pos, neg_ℤ, int_le, unsigned_abs, Bool, true, false, not, ◌&&◌, nat_eq, nat_le, if◌then◌else◌, List, [], ◌∷◌, length, codes, Option, Some, None, option_map, Ok, Err}
 use Rattle.std.specs.List.{list_all, slice_split}
 use Rattle.std.specs.Borrow.{Bor}
-use Rattle.std.specs.Char.{is_digit, is_ascii_alphanumeric}
+use Rattle.std.specs.Char.{is_digit}
 use Rattle.std.specs.Str.{bytes_eq}
 use Rattle.std.specs.Str.Parse.{digits_value}
 use Rattle.op_dictionary.specs.declared.operator.Axis.{Axis}
@@ -17,6 +17,7 @@ use Rattle.font_metrics.specs.declared.corner.Corner.{Corner}
 use Rattle.font_metrics.specs.declared.corner.Corner.TheVariants.{TopRight, TopLeft, BottomRight, BottomLeft}
 use Rattle.font_metrics.specs.declared.fault.LineFault.TheVariants.{NotANumber, OutOfRange, WrongWord}
 use Rattle.font_metrics.specs.Faults.{Step, ◌>>=◌, or_fault, fault_if}
+use Rattle.font_metrics.specs.Names.{is_scalar, is_in_pair, is_name}
 
 -- ---- numbers
 

@@ -16,7 +16,6 @@
 
 mod choices; // words of a small choice: FIX, prefix, block, A
 mod constant_texts; // the names of the constants
-mod entries; // entries that are taken into the tables by glyph
 mod kern_lines; // lines of kerns
 mod keyword; // the first word of a line
 pub mod laws; // of all files: what their lines say, their first fault, their print
@@ -30,6 +29,7 @@ mod reader; // line after line
 mod refusal; // MetricsFault, MetricsRefusal
 mod said; // Said: what a line says
 mod steps; // a step behind a step, or the first fault
+mod table_entries; // entries that are taken into the tables by glyph
 mod table_words; // the first words of the tables by glyph
 mod taking; // what may be said, and is kept
 mod texts; // the texts of a choice

@@ -8,12 +8,12 @@ ghost use Rattle.metrics_file.specs.Reads.{Takes};
 ghost use Rattle.metrics_file.specs.Said.{item_of, HasLineText};
 ghost use Rattle.metrics_file.specs.declared.keyword.Keyword.TheVariants.{Variants as VariantsOf, Parts as PartsOf, Kern as KernOf};
 
-use crate::entries::{take_along, take_at};
 use crate::kern_lines::kern_line;
 use crate::named_lines::{part_line, variant_line};
 use crate::refusal::LineRefusal;
 use crate::said::Said;
 use crate::steps::fault_if;
+use crate::table_entries::{take_along, take_at};
 use fixed_units::Memory;
 use font_metrics::{CharacterMap, ConstantTable, Given, GlyphTable, LineFault, Tables};
 use op_dictionary::{Axis, Extra, OperatorLine};

@@ -18,7 +18,7 @@ use Rattle.metrics_file.proofs.ReadBack.Fields.{AreNamed}
 use Rattle.metrics_file.proofs.ReadBack.Joined.{is_word}
 use Rattle.metrics_file.proofs.ReadBack.Names.{at-middle, distinct-before, place_of_name-new}
 use Rattle.op_dictionary.proofs.Same.{same_pairs}
-use Rattle.font_metrics.proofs.Filled.{AreBelow, sorted-before, insert-above, lookup-above, with_items, items_of-with_items, with_item-more}
+use Rattle.font_metrics.proofs.Filled.{AreBelow, sorted-middle, insert-above, lookup-above, with_items, items_of-with_items, with_item-more}
 use Rattle.metrics_file.proofs.ReadBack.Taking.{Takes, takes-to, constant-taken, glyph-taken, character-taken, operator-taken}
 
 -- these lines in turn take what was given to this

@@ -1,6 +1,6 @@
 use Rattle.std.proofs.Common.{◌≡◌, ◌∷◌, map, drop}
 use Rattle.font_metrics.specs.Heights.{do_rise}
-use Rattle.metrics_file.proofs.entries.do_rise_above.Given as goal
+use Rattle.metrics_file.proofs.table_entries.do_rise_above.Given as goal
 
 -- what is left of the heights rises where all do
 abbrev pub invariant-loop-step : goal.invariant-loop-step

@@ -4,7 +4,7 @@ use Rattle.std.proofs.lemmas.List.{at_drop_more}
 use borrow.Author.Differences.{le-false, lt-false}
 use Rattle.font_metrics.specs.declared.kern.KernStep.{KernStep}
 use Rattle.font_metrics.specs.Heights.{do_rise}
-use Rattle.metrics_file.proofs.entries.do_rise_above.Goals as goal
+use Rattle.metrics_file.proofs.table_entries.do_rise_above.Goals as goal
 
 not_at_most : (low high : ℤ) → int_le high low ≡ false → int_lt low high ≡ true
 not_at_most low high h = by (int_lt low high) refl
