@@ -1,5 +1,5 @@
 -- The tables by glyph of a metrics file, each in its slot: what holds of one is said of each.
-use Rattle.std.specs.Prelude.{◌≡◌, ℕ, not, List, [], ◌∷◌, map, flat_map, codes, Ok}
+use Rattle.std.specs.Prelude.{◌≡◌, ℕ, not, List, [], ◌∷◌, flat_map, codes, Ok}
 use Rattle.std.specs.Fmt.{signed_decimal}
 use Rattle.op_dictionary.specs.declared.operator.Axis.{Axis}
 use Rattle.op_dictionary.specs.declared.operator.Axis.TheVariants.{Block, Inline}

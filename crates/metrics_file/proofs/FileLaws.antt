@@ -10,10 +10,10 @@ use Rattle.font_metrics.specs.declared.given.Needed.{Needed}
 use Rattle.font_metrics.specs.declared.table.Table.{Table}
 use Rattle.font_metrics.specs.Constants.{place_of_constant}
 use Rattle.font_metrics.specs.Faults.{Step, ◌>>=◌, step_map, fault_if}
-use Rattle.metrics_file.specs.Laws.{upem_said, line_said, x_height_said, glyph_said, said, listed, allowed_behind, words_say, line_says, Say, SayAll, AreSaid, MetricsLaw, IsFaultBehind, IsFirstFault, lacking, EndsWithout, FaultLaw, TakenLaw, ConstantLaw}
+use Rattle.metrics_file.specs.Laws.{upem_said, line_said, x_height_said, glyph_said, said, listed, allowed_behind, words_say, line_says, Say, SayAll, AreSaid, MetricsLaw, IsFirstFault, lacking, EndsWithout, FaultLaw, TakenLaw, ConstantLaw}
 use Rattle.font_metrics.specs.Slot.{Words}
 use Rattle.metrics_file.specs.Lines.{Item, keyword_of, known_in, item_in}
-use Rattle.font_metrics.specs.Metrics.{NamedGlyph, MetricsValue, place_of_name, items_of}
+use Rattle.font_metrics.specs.Metrics.{MetricsValue, place_of_name, items_of}
 use Rattle.metrics_file.specs.Reading.{Fault, fault_at, nothing, allowed, put, is_foreign, is_comment, first_in, words_of, after_words, after, after_first, finished, numbered, lines_of, metrics_of}
 use Rattle.font_metrics.specs.Whole.{needed_of, needed, metrics_with, IsGiven}
 use Rattle.font_metrics.specs.Tables.{entries}

@@ -10,7 +10,7 @@ use Rattle.op_dictionary.specs.Dictionary.{is_named}
 use Rattle.font_metrics.specs.declared.given.Given.{Given}
 use Rattle.metrics_file.specs.declared.keyword.Keyword.{Keyword}
 use Rattle.font_metrics.specs.declared.table.Table.{Table}
-use Rattle.font_metrics.specs.Faults.{◌>>=◌, step_map, fault_if}
+use Rattle.font_metrics.specs.Faults.{◌>>=◌, fault_if}
 use Rattle.font_metrics.specs.Slot.{Words}
 use Rattle.metrics_file.specs.Lines.{Item, SaysUpem, SaysLine, SaysXHeight, SaysOverlap, SaysConstant, SaysGlyph, SaysCharacter, SaysEntry, SaysOperator, keyword_of, known_in, item_in}
 use Rattle.font_metrics.specs.Metrics.{NamedGlyph, name_in_list, items_of, place_of_name}

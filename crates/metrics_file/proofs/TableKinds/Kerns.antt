@@ -1,5 +1,5 @@
 -- The kerns at a corner.
-use Rattle.std.proofs.Common.{◌≡◌, ◌∙◌, refl, ap, subst, ℕ, ◌<◌, ◌≤◌, ◌+◌, ◌*◌, ◌%◌, List, [], ◌∷◌, length, flat_map, nat_eq, nat_le, Bool, true, false, not, ◌&&◌, if◌then◌else◌, All, Ok, arith}
+use Rattle.std.proofs.Common.{◌≡◌, ◌∙◌, refl, ap, subst, ℕ, ◌<◌, ◌≤◌, ◌*◌, ◌%◌, List, [], ◌∷◌, length, flat_map, nat_eq, nat_le, Bool, true, false, not, if◌then◌else◌, All, Ok, arith}
 use Rattle.std.specs.Fmt.{signed_decimal}
 use Rattle.std.specs.List.{list_all}
 use Rattle.std.proofs.lemmas.Bool.{and_from, and_parts}
@@ -12,20 +12,20 @@ use Rattle.font_metrics.specs.declared.kern.Kern.{Kern}
 use Rattle.font_metrics.specs.declared.kern.KernStep.{KernStep}
 use Rattle.metrics_file.specs.declared.keyword.Keyword.TheVariants.{Kern as KernOf, Unknown}
 use Rattle.font_metrics.specs.declared.table.Table.TheVariants.{Kerns}
-use Rattle.font_metrics.specs.Faults.{◌>>=◌, step_map, fault_if}
+use Rattle.font_metrics.specs.Faults.{step_map, fault_if}
 use Rattle.font_metrics.specs.Slot.{Words}
-use Rattle.metrics_file.specs.Lines.{SaysEntry, says_kern, item_in, keyword_of, known_in, named_in, reach_in, steps_in, are_pairs, kern_with, kern_in}
+use Rattle.metrics_file.specs.Lines.{says_kern, keyword_of, known_in, named_in, reach_in, steps_in, are_pairs, kern_in}
 use Rattle.font_metrics.specs.Metrics.{NamedGlyph, name_in_list}
 use Rattle.font_metrics.specs.Texts.{corner_text}
 use Rattle.font_metrics.specs.Ranges.{IsKern, IsKernStep, most_steps}
-use Rattle.font_metrics.specs.Tables.{slot, step_words}
+use Rattle.font_metrics.specs.Tables.{step_words}
 use Rattle.metrics_file.specs.Words.{corner_in}
 use Rattle.metrics_file.proofs.EachKind.{named_range, reach_range}
 use Rattle.metrics_file.proofs.TableKinds.Kind.{Stands, IsKeyword, IsKind}
 use Rattle.metrics_file.proofs.ReadBack.Choices.{corner_in-text}
 use Rattle.metrics_file.proofs.ReadBack.Fields.{AreNamed, named, reach_in-signed}
 use Rattle.metrics_file.proofs.ReadBack.FieldWords.{reach-word}
-use Rattle.metrics_file.proofs.ReadBack.Joined.{is_word, list_all-append}
+use Rattle.metrics_file.proofs.ReadBack.Joined.{is_word}
 use Rattle.metrics_file.proofs.ReadBack.Printed.{corner-word}
 use Rattle.font_metrics.proofs.Steps.{same_Ok, no_value, had, holds}
 

@@ -9,7 +9,7 @@ use Rattle.metrics_file.specs.Lines.{SaysEntry, keyword_of, known_in, item_in}
 use Rattle.metrics_file.specs.Laws.{of_table}
 use Rattle.font_metrics.specs.Metrics.{NamedGlyph, ByGlyph, with_item, name_in_list}
 use Rattle.metrics_file.specs.Reading.{is_comment}
-use Rattle.font_metrics.specs.Tables.{EntryOf, slot, entries, with_entry, no_tables, IsSound}
+use Rattle.font_metrics.specs.Tables.{EntryOf, slot, entries, with_entry, no_tables}
 use Rattle.metrics_file.proofs.ReadBack.Fields.{AreNamed}
 use Rattle.metrics_file.proofs.ReadBack.Joined.{is_word}
 

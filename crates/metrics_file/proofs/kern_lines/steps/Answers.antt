@@ -1,4 +1,4 @@
-use Rattle.std.proofs.Common.{◌≡◌, ◌∙◌, sym, refl, ℕ, ◌<◌, ◌==◌, Bool, true, false, true≢false, List, [], ◌∷◌, ◌++◌, length, Bor, Err, arith}
+use Rattle.std.proofs.Common.{◌≡◌, ◌∙◌, sym, refl, ℕ, ◌<◌, ◌==◌, false, true≢false, List, [], ◌∷◌, ◌++◌, length, Bor, Err, arith}
 use Rattle.font_metrics.specs.declared.fault.LineFault.TheVariants.{FieldCount}
 use Rattle.font_metrics.specs.declared.kern.KernStep.{KernStep}
 use Rattle.font_metrics.specs.Faults.{step_map}

@@ -1,15 +1,15 @@
-use Rattle.std.proofs.Common.{◌∙◌, ap, sym, subst, ℕ, not, Ok}
+use Rattle.std.proofs.Common.{sym, subst, ℕ, not, Ok}
 use Rattle.font_metrics.specs.declared.corner.Corner.{Corner}
 use Rattle.font_metrics.specs.declared.fault.LineFault.TheVariants.{Repeated, NotRising}
 use Rattle.font_metrics.specs.declared.given.Given.{Given}
 use Rattle.font_metrics.specs.declared.kern.Kern.{Kern}
 use Rattle.font_metrics.specs.Faults.{Step, ◌>>=◌, step_map}
 use Rattle.font_metrics.specs.Heights.{do_rise, heights_of}
-use Rattle.metrics_file.specs.Lines.{lent, says_kern, kern_in}
+use Rattle.metrics_file.specs.Lines.{says_kern}
 use Rattle.font_metrics.specs.Metrics.{is_full, kerns_at, with_item, with_kerns_at}
 use Rattle.metrics_file.specs.Reading.{allowed, put}
 use Rattle.metrics_file.specs.Reads.{Takes}
-use Rattle.metrics_file.proofs.Refusing.{refused_by, kern_taken}
+use Rattle.metrics_file.proofs.Refusing.{kern_taken}
 use Rattle.metrics_file.proofs.taking.take_kern.Goals as goal
 
 -- what is given behind the fields
