@@ -12,7 +12,7 @@ import subprocess
 import tempfile
 
 HERE = os.path.dirname(os.path.abspath(__file__))
-NEEDED = ("fixed_units", "op_dictionary", "font_metrics", "glyph_assembly")
+NEEDED = ("fixed_units", "op_dictionary", "font_metrics", "metrics_file", "glyph_assembly")
 
 
 def main():
@@ -20,7 +20,7 @@ def main():
         lines = [line for line in file if line.split(":")[0] in NEEDED]
     with tempfile.TemporaryDirectory() as folder:
         with open(os.path.join(folder, "crates.txt"), "w") as file:
-            file.writelines(lines + ["shapes: op_dictionary font_metrics glyph_assembly anyhow\n"])
+            file.writelines(lines + ["shapes: op_dictionary font_metrics metrics_file glyph_assembly anyhow\n"])
         for crate in NEEDED:
             source = os.path.join(HERE, "..", "crates", crate)
             shutil.copytree(source, os.path.join(folder, "crates", crate))

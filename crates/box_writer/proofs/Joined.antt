@@ -3,7 +3,7 @@ use Rattle.std.proofs.Common.{◌≡◌, ◌∙◌, ap, ℕ, ℤ, List, [], ◌�
 use Rattle.std.specs.Fmt.{decimal, signed_decimal}
 use Rattle.doc_io.specs.Lines.{spaced, spaced_numbers}
 use Rattle.op_dictionary.specs.declared.operator.Axis.{Axis}
-use Rattle.font_metrics.specs.Print.{axis_text}
+use Rattle.font_metrics.specs.Texts.{axis_text}
 use Rattle.box_writer.specs.declared.placed.PlacedBox.{PlacedBox}
 use Rattle.box_writer.specs.Lines.{box_line, box_numbers, glyph_line, built_line}
 

@@ -5,7 +5,7 @@ use Rattle.std.specs.List.{flat_map}
 use Rattle.doc_io.specs.Lines.{line}
 use Rattle.op_dictionary.specs.declared.operator.Axis.{Axis}
 use Rattle.font_metrics.specs.Metrics.{MetricsValue, name_at}
-use Rattle.font_metrics.specs.Print.{axis_text}
+use Rattle.font_metrics.specs.Texts.{axis_text}
 use Rattle.font_metrics.specs.declared.glyph.GlyphId.{GlyphId}
 use Rattle.font_metrics.specs.declared.mark.Mark.{Mark}
 use Rattle.font_metrics.specs.declared.mark.Mark.TheVariants.{Glyph, Rule, Built}

@@ -3,7 +3,7 @@ ghost use Rattle.std.specs.Prelude.{◌≡◌, ◌∷◌, ◌++◌, [], codes};
 ghost use Rattle.std.specs.Fmt.{decimal};
 ghost use Rattle.doc_io.specs.Lines.{spaced, spaced_numbers};
 ghost use Rattle.doc_io.specs.Pieces.{Puts};
-ghost use Rattle.font_metrics.specs.Print.{axis_text};
+ghost use Rattle.font_metrics.specs.Texts.{axis_text};
 ghost use Rattle.box_writer.specs.Items.{IsOfFont};
 ghost use Rattle.box_writer.specs.Lines.{box_line, box_numbers, item_line, mark_line, rule_line};
 ghost use Rattle.box_writer.specs.declared.placed.PlacedItem.TheVariants.{Drawn};

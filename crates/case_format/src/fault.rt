@@ -1,5 +1,5 @@
 use doc_io::ReadRefusal;
-use font_metrics::MetricsRefusal;
+use metrics_file::MetricsRefusal;
 use std::alloc::{AllocError, AllocFailed};
 use std::fmt::{self, Display, Formatter};
 

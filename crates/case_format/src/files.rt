@@ -3,7 +3,8 @@ use crate::lines::is_same;
 use crate::numbered::Span;
 use doc_io::{Inputs, read_all};
 use fixed_units::List;
-use font_metrics::{MOST_FILE_BYTES, Metrics, read_metrics};
+use font_metrics::Metrics;
+use metrics_file::{MOST_FILE_BYTES, read_metrics};
 use std::alloc::Global;
 
 /// The most bytes that a file may have: more than any limit of the program that is tried, so that

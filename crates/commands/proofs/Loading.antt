@@ -8,7 +8,7 @@ use Rattle.doc_io.specs.Whole.{ReadsAll}
 use Rattle.doc_io.specs.declared.whole.ReadRefusal.{ReadRefusal}
 use Rattle.doc_io.specs.declared.whole.ReadRefusal.TheVariants as reading
 use Rattle.font_metrics.specs.Metrics.{MetricsValue}
-use Rattle.font_metrics.specs.Reading.{Fault, metrics_of, most_file_bytes}
+use Rattle.metrics_file.specs.Reading.{Fault, metrics_of, most_file_bytes}
 use Rattle.math_tree.specs.Trees.{TreeValue}
 use Rattle.math_tree.specs.Reading.{tree_of}
 use Rattle.math_tree.specs.declared.fault.TreeFault.{TreeFault}

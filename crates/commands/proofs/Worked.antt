@@ -6,9 +6,10 @@ use Rattle.std.specs.Str.{bytes_eq}
 use Rattle.std.proofs.lemmas.Str.{is_utf8-from_IsUtf8}
 use Rattle.serde_json.specs.Read.{read}
 use Rattle.doc_io.specs.Causes.{Files}
-use Rattle.font_metrics.specs.Words.{value_of_digits, numeral_of, number_of, number_in, natural_in, code_of, letter_in, is_name as is_glyph_name, name_in as glyph_name_in}
-use Rattle.font_metrics.specs.Lines.{keyword_of}
-use Rattle.font_metrics.specs.Reading.{words_of, is_foreign, after, after_first, finished, metrics_of}
+use Rattle.metrics_file.specs.Words.{value_of_digits, numeral_of, number_of, number_in, natural_in, code_of, letter_in, name_in as glyph_name_in}
+use Rattle.font_metrics.specs.Names.{is_name as is_glyph_name}
+use Rattle.metrics_file.specs.Lines.{keyword_of}
+use Rattle.metrics_file.specs.Reading.{words_of, is_foreign, after, after_first, finished, metrics_of}
 use Rattle.font_metrics.specs.Metrics.{MetricsValue, NamedGlyph}
 use Rattle.font_metrics.specs.Tables.{no_tables}
 use Rattle.math_tree.proofs.OnLiterals.{math_tree_on_literals}

@@ -4,9 +4,9 @@ use Rattle.serde_json.specs.Data.{Data}
 use Rattle.doc_io.specs.Causes.{Files}
 use Rattle.doc_io.specs.LineReader.{most_lines, lines_of}
 use Rattle.font_metrics.specs.Metrics.{MetricsValue}
-use Rattle.font_metrics.specs.Print.{print_of as metrics_print}
-use Rattle.font_metrics.specs.Reading.{Fault, metrics_of, most_file_bytes}
-use Rattle.font_metrics.specs.Reads.{told}
+use Rattle.metrics_file.specs.Print.{print_of as metrics_print}
+use Rattle.metrics_file.specs.Reading.{Fault, metrics_of, most_file_bytes}
+use Rattle.metrics_file.specs.Reads.{told}
 use Rattle.math_tree.specs.Print.{print_of as tree_print}
 use Rattle.math_tree.specs.Reading.{tree_of}
 use Rattle.math_tree.specs.Trees.{TreeValue}

@@ -6,8 +6,8 @@ use Rattle.doc_io.specs.declared.whole.ReadRefusal.{ReadRefusal}
 use Rattle.doc_io.specs.declared.whole.ReadRefusal.TheVariants as reading
 use Rattle.fixed_units.specs.declared.refusal.LayRefusal.{LayRefusal}
 use Rattle.fixed_units.specs.declared.refusal.LayRefusal.TheVariants as layout
-use Rattle.font_metrics.specs.declared.refusal.MetricsRefusal.{MetricsRefusal}
-use Rattle.font_metrics.specs.declared.refusal.MetricsRefusal.TheVariants as metrics
+use Rattle.metrics_file.specs.declared.refusal.MetricsRefusal.{MetricsRefusal}
+use Rattle.metrics_file.specs.declared.refusal.MetricsRefusal.TheVariants as metrics
 use Rattle.math_tree.specs.declared.refusal.TreeRefusal.{TreeRefusal}
 use Rattle.math_tree.specs.declared.refusal.TreeRefusal.TheVariants as tree
 use Rattle.queries.specs.declared.query.QueryRefusal.{QueryRefusal}

@@ -4,14 +4,15 @@ ghost use Rattle.tree_edits.specs.Commands.{json_in};
 ghost use Rattle.commands.specs.Answer.{content, metrics_in, tree_in, tree_of_json, of_metrics_file, of_tree_file};
 ghost use Rattle.commands.specs.Ends.{Answers, GivesOr};
 ghost use Rattle.commands.specs.Parts.{OpensScript, SelectsScript};
-ghost use Rattle.font_metrics.specs.Reading.{metrics_of, most_file_bytes};
+ghost use Rattle.metrics_file.specs.Reading.{metrics_of, most_file_bytes};
 ghost use Rattle.math_tree.specs.Reading.{tree_of};
 ghost use Rattle.serde_json.specs.View.{view};
 
 use crate::refusal::Refusal;
 use doc_io::{Inputs, LineReader, read_all};
-use font_metrics::{MOST_FILE_BYTES, Metrics, read_metrics};
+use font_metrics::Metrics;
 use math_tree::{Tree, read_tree};
+use metrics_file::{MOST_FILE_BYTES, read_metrics};
 use serde_json::Value;
 use std::alloc::Global;
 use tree_reader::tree_by_tokens;

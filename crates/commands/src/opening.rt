@@ -7,8 +7,9 @@ use crate::program::start;
 use crate::refusal::Refusal;
 use edit_session::Session;
 use fixed_units::Steps;
-use font_metrics::{MOST_FILE_BYTES, Metrics};
+use font_metrics::Metrics;
 use math_tree::Tree;
+use metrics_file::MOST_FILE_BYTES;
 use std::alloc::Global;
 use std::sync::ledger::Ledger;
 

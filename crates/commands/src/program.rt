@@ -29,6 +29,7 @@ use fixed_units::{List, Memory, Steps};
 use font_metrics::Metrics;
 use generator::{Summary, generate};
 use math_tree::Tree;
+use metrics_file::print_metrics;
 use queries::{Answer, Query, answer_query};
 use session_ring::Undoable;
 use std::alloc::Global;
@@ -406,7 +407,7 @@ fn check<O: Sink>(alloc: Global, metrics: &Metrics, tree: &Tree, out: &mut O) ->
 fn print_both(alloc: Global, metrics: &Metrics, tree: &Tree) -> Result<List<u8>, Memory>
     ensures { IfOk result (λ text. text ≡ checked metrics.now tree.now) }
 {
-    let mut text = metrics.print(alloc)?;
+    let mut text = print_metrics(alloc, metrics)?;
     text.push_all(tree.print(alloc)?.as_slice())?;
     text.push(b'\n')?;
     Ok(text)

@@ -6,8 +6,8 @@ ghost use Rattle.commands.specs.Refusals.{fault_line, line_of, status_of, of_lay
 use crate::status::Status;
 use doc_io::{ReadRefusal, ShortText};
 use fixed_units::{LayRefusal, Memory};
-use font_metrics::{MetricsFault, MetricsRefusal};
 use math_tree::{NodeId, TreeFault, TreeRefusal};
+use metrics_file::{MetricsFault, MetricsRefusal};
 use queries::QueryRefusal;
 use thiserror::Error;
 

@@ -12,8 +12,7 @@ use Rattle.font_metrics.specs.Kept.{named_glyph, named_glyphs}
 use Rattle.font_metrics.specs.Listed.{lists_of_entries}
 use Rattle.font_metrics.specs.Metrics.{ByGlyph}
 use Rattle.font_metrics.proofs.Listed.{lists-insert}
-use Rattle.font_metrics.proofs.ReadBack.Following.{sorted-middle}
-use Rattle.font_metrics.proofs.ReadBack.Tables.{insert-above}
+use Rattle.font_metrics.proofs.Filled.{sorted-middle, insert-above}
 
 -- names of the same bytes, with the same measures
 pub named-same : (es fs : List (String Global × Measures))

@@ -1,16 +1,14 @@
 -- What a file gives at its end.
-use Rattle.std.proofs.Common.{◌≡◌, ◌∙◌, ap, sym, subst, ◌≤◌, codes, Some, Ok, Err, refl}
+use Rattle.std.proofs.Common.{◌≡◌, ◌∙◌, ap, sym, subst, ◌≤◌, codes, Some, Ok, refl}
 use Rattle.std.specs.Option.{IfSome, IsSome}
-use Rattle.font_metrics.specs.declared.fault.LineFault.{LineFault}
 use Rattle.font_metrics.specs.declared.fault.LineFault.TheVariants.{NoUpem, NoLine, NoXHeight, NoMissing}
 use Rattle.font_metrics.specs.declared.given.Given.{Given}
 use Rattle.font_metrics.specs.declared.given.Needed.{Needed}
 use Rattle.font_metrics.specs.declared.metrics.Metrics.TheInside.{Inside}
-use Rattle.font_metrics.specs.Faults.{Step, step_map, or_fault}
-use Rattle.font_metrics.specs.Metrics.{MetricsValue, place_of_name}
-use Rattle.font_metrics.specs.Reading.{needed, metrics_with, finished}
+use Rattle.font_metrics.specs.Faults.{or_fault}
+use Rattle.font_metrics.specs.Metrics.{place_of_name}
+use Rattle.font_metrics.specs.Whole.{needed, metrics_with, IsUpem, IsLine, IsGiven, IsWhole, value_of}
 use Rattle.font_metrics.specs.Taken.{IsTaken}
-use Rattle.font_metrics.specs.Whole.{IsUpem, IsLine, IsGiven, IsWhole, value_of}
 use Rattle.font_metrics.proofs.Steps.{same_Ok, had, found}
 
 -- what metrics need was given
@@ -67,12 +65,3 @@ taken_of g n h e =
 
 pub whole_taken : (m : Inside) → IsWhole m → IsTaken (value_of m)
 whole_taken m h = taken_of m.given m.needs h.given h.needs
-
--- the end of a file, by what it needs
-pub ends_with : (g : Given) (n : Needed) → Ok n ≡ needed g → Ok (metrics_with n g) ≡ finished g
-unfolding finished
-ends_with g n h = ap (step_map (λ n. metrics_with n g)) h
-
-pub ends_without : (g : Given) (fault : LineFault) → Err fault ≡ needed g → ◌≡◌ {A = Step MetricsValue} (Err fault) (finished g)
-unfolding finished
-ends_without g fault h = ap (step_map (λ n. metrics_with n g)) h

@@ -1,9 +1,11 @@
 -- What is read off metrics stays within bounds.
-use Rattle.std.proofs.Common.{zero, suc, ◌≡◌, ◌∙◌, sym, ap, refl, subst, ℕ, ◌≤◌, ◌<◌, ◌^◌, ℤ, pos, negsuc, ◌≤ℤ◌, length, Option, Some, None, arith, nat_eq, Contains, if◌then◌else◌, Bool, true, false}
+use Rattle.std.proofs.Common.{zero, suc, ◌≡◌, ◌∙◌, sym, ap, refl, subst, ℕ, ◌≤◌, ◌<◌, ◌^◌, ℤ, pos, negsuc, ◌≤ℤ◌, List, [], length, Option, Some, None, arith, nat_eq, Contains, if◌then◌else◌, Bool, true, false}
 use Rattle.std.proofs.lemmas.Bool.Decides.{nat_tests}
-use Rattle.std.proofs.lemmas.List.Elements.{All-contains, All-weaker}
+use Rattle.std.proofs.lemmas.List.Elements.{All-nil, All-contains, All-weaker}
+use Rattle.std.proofs.lemmas.Map.Entries.{All-lookup}
 use Rattle.std.proofs.lemmas.Map.Views.{IfSome-lookup}
 use Rattle.std.specs.List.{All}
+use Rattle.std.specs.Map.{lookup}
 use Rattle.std.specs.Option.{unwrap_or, IfSome}
 use Rattle.op_dictionary.specs.declared.operator.Axis.{Axis}
 use Rattle.fixed_units.specs.Numbers.{IsWithin}
@@ -16,10 +18,32 @@ use Rattle.font_metrics.specs.declared.corner.Corner.{Corner}
 use Rattle.font_metrics.specs.declared.table.Table.{Table}
 use Rattle.font_metrics.specs.declared.table.Table.TheVariants.{Variants, Parts, Kerns}
 use Rattle.font_metrics.specs.Constants.{place_of_constant, is_scale_down}
-use Rattle.font_metrics.specs.Metrics.{MetricsValue, given_constant, or_default, percent_of, IsPercent, IsScaleDown, items_of, variants_of, parts_of, kerns_of}
+use Rattle.font_metrics.specs.Metrics.{MetricsValue, ByGlyph, given_constant, or_default, percent_of, IsPercent, IsScaleDown, items_of, variants_of, parts_of, kerns_of}
 use Rattle.font_metrics.specs.Tables.{slot, entries, IsSound}
-use Rattle.font_metrics.specs.Taken.{IsTaken, IsReach, IsVariant, IsPart, IsKern, IsConstant}
-use Rattle.font_metrics.proofs.Ordered.{all_items, few_items}
+use Rattle.font_metrics.specs.Taken.{IsTaken, IsReach, IsVariant, IsPart, IsKern, IsConstant, IsEntry}
+
+-- ---- the items of a glyph in a table
+
+module _ {X : Type 0} (Is : X → Type 0) where
+  pub all_items : (count most : ℕ) (table : ByGlyph X) (place : ℕ) → All (IsEntry count most Is) table
+      → All Is (items_of table place)
+  all_items count most table place h =
+      by (lookup (nat_eq place) table)
+      (All-lookup (All Is) (nat_eq place) table (All-weaker (IsEntry count most Is) (λ e. All Is e.1) (λ e k. k.items) table h))
+    where
+      by : (o : Option (List X)) → IfSome o (All Is) → All Is (unwrap_or o [])
+      by None k = All-nil Is
+      by (Some xs) k = k
+
+  pub few_items : (count most : ℕ) (table : ByGlyph X) (place : ℕ) → All (IsEntry count most Is) table
+      → length (items_of table place) ≤ most
+  few_items count most table place h =
+      by (lookup (nat_eq place) table)
+      (All-lookup (λ xs. length xs ≤ most) (nat_eq place) table (All-weaker (IsEntry count most Is) (λ e. length e.1 ≤ most) (λ e k. k.few) table h))
+    where
+      by : (o : Option (List X)) → IfSome o (λ xs. length xs ≤ most) → length (unwrap_or o []) ≤ most
+      by None k = omega arith
+      by (Some xs) k = k
 
 -- what a glyph has in a table
 module _ (m : MetricsValue) (place : ℕ) (h : IsTaken m) where

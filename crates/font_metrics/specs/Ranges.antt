@@ -14,7 +14,7 @@ use Rattle.font_metrics.specs.declared.growth.Variant.{Variant}
 use Rattle.font_metrics.specs.declared.growth.Part.{Part}
 use Rattle.font_metrics.specs.Constants.{lowest_of, highest_of}
 use Rattle.font_metrics.specs.Metrics.{NamedGlyph, ByGlyph}
-use Rattle.font_metrics.specs.Words.{is_scalar, is_in_pair, is_name}
+use Rattle.font_metrics.specs.Names.{is_scalar, is_in_pair, is_name}
 
 -- a glyph's number has 16 bits, and the last of them isn't given
 abbrev pub most_glyphs : ℕ

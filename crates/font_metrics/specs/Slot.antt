@@ -3,8 +3,11 @@ use Rattle.std.specs.Prelude.{ℕ, List}
 use Rattle.font_metrics.specs.declared.fault.LineFault.{LineFault}
 use Rattle.font_metrics.specs.declared.table.Tables.{Tables}
 use Rattle.font_metrics.specs.Faults.{Step}
-use Rattle.font_metrics.specs.Fields.{Words}
 use Rattle.font_metrics.specs.Metrics.{NamedGlyph, ByGlyph}
+
+-- the words of a line
+abbrev pub Words : Type 0
+Words = List (List ℕ)
 
 -- a table: the first version of a file that has it, how many entries a glyph may have and the fault
 -- of one more, which they are where there are so many glyphs, what else is looked for in one, their

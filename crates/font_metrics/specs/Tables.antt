@@ -1,5 +1,5 @@
 -- The tables by glyph of a metrics file, each in its slot: what holds of one is said of each.
-use Rattle.std.specs.Prelude.{◌≡◌, ℕ, not, List, [], ◌∷◌, map, flat_map, codes, Ok}
+use Rattle.std.specs.Prelude.{◌≡◌, ℕ, not, List, [], ◌∷◌, flat_map, codes, Ok}
 use Rattle.std.specs.Fmt.{signed_decimal}
 use Rattle.op_dictionary.specs.declared.operator.Axis.{Axis}
 use Rattle.op_dictionary.specs.declared.operator.Axis.TheVariants.{Block, Inline}
@@ -15,11 +15,10 @@ use Rattle.font_metrics.specs.declared.table.Table.{Table}
 use Rattle.font_metrics.specs.declared.table.Table.TheVariants.{Variants, Parts, Kerns}
 use Rattle.font_metrics.specs.declared.table.Tables.{Tables}
 use Rattle.font_metrics.specs.Faults.{fault_if}
-use Rattle.font_metrics.specs.Fields.{Words}
+use Rattle.font_metrics.specs.Slot.{Words, Slot}
 use Rattle.font_metrics.specs.Heights.{do_rise, heights_of}
 use Rattle.font_metrics.specs.Metrics.{ByGlyph, along, with_along, kerns_at, with_kerns_at, with_item, name_in_list}
 use Rattle.font_metrics.specs.Ranges.{IsTable, IsVariant, IsPart, IsKern, most_variants, most_parts}
-use Rattle.font_metrics.specs.Slot.{Slot}
 use Rattle.font_metrics.specs.Texts.{corner_text, extender_text, variant_keyword, part_keyword}
 
 -- the variants along an axis

@@ -1,29 +1,14 @@
--- What is printed for a field of a metrics file.
-use Rattle.std.specs.Prelude.{ℕ, ◌-◌, Bool, true, false, List, [], ◌∷◌, ◌++◌, length, replicate, codes, slice_index_or}
-use Rattle.std.specs.Fmt.{digits}
+-- The texts of a choice, of a constant and of a table in a metrics file.
+use Rattle.std.specs.Prelude.{ℕ, Bool, true, false, List, [], codes, slice_index_or}
 use Rattle.op_dictionary.specs.declared.operator.Axis.{Axis}
 use Rattle.op_dictionary.specs.declared.operator.Axis.TheVariants.{Block, Inline}
 use Rattle.op_dictionary.specs.declared.operator.Category.{Category}
 use Rattle.op_dictionary.specs.declared.operator.Category.TheVariants.{Default, A, B, C, D, E, F, G, H, I, J, K, L, M}
 use Rattle.op_dictionary.specs.declared.operator.Form.{Form}
 use Rattle.op_dictionary.specs.declared.operator.Form.TheVariants.{Prefix, Infix, Postfix}
-use Rattle.op_dictionary.specs.declared.text.OpText.{OpText}
-use Rattle.op_dictionary.specs.declared.text.OpText.TheVariants.{Empty, One, Two, Other}
 use Rattle.font_metrics.specs.declared.corner.Corner.{Corner}
 use Rattle.font_metrics.specs.declared.corner.Corner.TheVariants.{TopRight, TopLeft, BottomRight, BottomLeft}
 use Rattle.font_metrics.specs.Constants.{constant_texts}
-use Rattle.font_metrics.specs.Words.{plus}
-
--- upper case hexadecimal digits, and zeros before them where they are fewer than 4
-abbrev pub code_text : ℕ → List ℕ
-code_text code = let numeral = digits 16 true code in replicate (4 - length numeral) 48 ++ numeral
-
--- the code of an operator's character, or its two codes, which a plus joins
-abbrev pub operator_text : OpText → List ℕ
-operator_text Empty = []
-operator_text (One letter) = code_text letter
-operator_text (Two first second) = code_text first ++ plus ∷ code_text second
-operator_text Other = []
 
 abbrev pub constant_text : ℕ → List ℕ
 constant_text place = slice_index_or constant_texts place []

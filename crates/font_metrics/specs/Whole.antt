@@ -1,5 +1,5 @@
 -- What holds of all that lines give, and of the metrics that are kept.
-use Rattle.std.specs.Prelude.{◌≡◌, ℕ, ℤ, ◌<◌, ◌≤◌, List, [], length, IfSome, Ok}
+use Rattle.std.specs.Prelude.{◌≡◌, ℕ, ℤ, ◌<◌, ◌≤◌, List, [], length, codes, Option, IfSome, Ok}
 use Rattle.std.specs.List.{All, IsDistinct}
 use Rattle.std.specs.List.Sorted.{IsStrictlySortedBy}
 use Rattle.std.specs.Map.{keys_of}
@@ -7,10 +7,12 @@ use Rattle.std.specs.Ordering.{nat_cmp}
 use Rattle.std.specs.Str.{bytes_eq}
 use Rattle.op_dictionary.specs.declared.extra.OperatorLine.{OperatorLine}
 use Rattle.op_dictionary.specs.Dictionary.{AreDistinct}
+use Rattle.font_metrics.specs.declared.fault.LineFault.TheVariants.{NoUpem, NoLine, NoXHeight, NoMissing}
 use Rattle.font_metrics.specs.declared.given.Given.{Given}
+use Rattle.font_metrics.specs.declared.given.Needed.{Needed}
 use Rattle.font_metrics.specs.declared.metrics.Metrics.TheInside.{Inside}
-use Rattle.font_metrics.specs.Metrics.{NamedGlyph, MetricsValue}
-use Rattle.font_metrics.specs.Reading.{needed, metrics_with}
+use Rattle.font_metrics.specs.Faults.{Step, ◌>>=◌, or_fault}
+use Rattle.font_metrics.specs.Metrics.{NamedGlyph, MetricsValue, place_of_name}
 use Rattle.font_metrics.specs.declared.table.Table.{Table}
 use Rattle.font_metrics.specs.Tables.{AreFilled, slot, entries}
 use Rattle.font_metrics.specs.Taken.{IsVersion, IsGlyph, IsConstant, IsCharacter, IsOperatorText, names_of, most_glyphs}
@@ -54,6 +56,35 @@ pub record IsGiven (given : Given) : Type 0 where
   pub operators : AreOperators given.operators
 
 -- ---- the metrics that are kept: what lines have given, and what of it had to be there
+
+-- what a file has to give, or what it ended without
+abbrev pub needed_of : Option ℕ → Option (ℕ × ℕ) → Option ℕ → Option ℕ → Step Needed
+needed_of upem line x_height missing = do
+  units ← or_fault NoUpem upem
+  extent ← or_fault NoLine line
+  height ← or_fault NoXHeight x_height
+  place ← or_fault NoMissing missing
+  Ok (record { upem = units; line = extent; x_height = height; missing = place })
+
+abbrev pub needed : Given → Step Needed
+needed given =
+    needed_of given.upem given.line given.x_height (place_of_name given.glyphs (codes "missing"))
+
+-- the metrics of what is given
+abbrev pub metrics_with : Needed → Given → MetricsValue
+metrics_with needs given = record {
+  version = given.version;
+  upem = needs.upem;
+  line_ascent = needs.line.0;
+  line_descent = needs.line.1;
+  x_height = needs.x_height;
+  overlap = given.overlap;
+  constants = given.constants;
+  glyphs = given.glyphs;
+  characters = given.characters;
+  tables = given.tables;
+  operators = given.operators;
+}
 
 abbrev pub value_of : Inside → MetricsValue
 value_of m = metrics_with m.needs m.given

@@ -1,11 +1,8 @@
-ghost use Rattle.std.specs.Prelude.{◌≡◌, [], IfOk};
-ghost use Rattle.font_metrics.specs.Metrics.{along, items_of};
-ghost use Rattle.font_metrics.specs.Reading.{taken_along};
-ghost use Rattle.font_metrics.specs.Reads.{Takes};
+ghost use Rattle.std.specs.Prelude.{◌≡◌, [], IfOk, OnOk};
+ghost use Rattle.font_metrics.specs.Metrics.{along, items_of, with_item_along};
 
 use crate::by_glyph::ByGlyph;
 use crate::copy::Copied;
-use crate::refusal::LineRefusal;
 use fixed_units::Memory;
 use op_dictionary::Axis;
 use std::alloc::Global;
@@ -51,21 +48,14 @@ impl<T: Copy> ByAxis<T> {
         }
     }
 
-    /// Adds an item to those of the glyph at a place, of which there may be `most`. Where memory is
-    /// refused, nothing is known of the tables.
-    pub fn take(
-        &mut self,
-        alloc: Global,
-        axis: Axis,
-        most: usize,
-        place: u16,
-        item: T,
-    ) -> Result<(), LineRefusal>
-        ensures { Takes (taken_along axis most self.old place item) self.new result }
+    /// Adds an item to those of the glyph at a place. Where memory is refused, nothing is known of
+    /// the tables.
+    pub fn add(&mut self, alloc: Global, axis: Axis, place: u16, item: T) -> Result<(), Memory>
+        ensures { OnOk result (self.new ≡ with_item_along axis self.old place item) }
     {
         match axis {
-            Axis::Block => self.block.take(alloc, most, place, item),
-            Axis::Inline => self.inline.take(alloc, most, place, item),
+            Axis::Block => self.block.add(alloc, place, item),
+            Axis::Inline => self.inline.add(alloc, place, item),
         }
     }
 }

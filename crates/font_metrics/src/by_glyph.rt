@@ -1,11 +1,7 @@
-ghost use Rattle.std.specs.Prelude.{◌≡◌, true, [], ◌∷◌, ◌++◌, IfOk, OnOk};
+ghost use Rattle.std.specs.Prelude.{◌≡◌, true, [], IfOk, OnOk};
 ghost use Rattle.font_metrics.specs.Metrics.{items_of, with_item};
-ghost use Rattle.font_metrics.specs.Reading.{taken_into};
-ghost use Rattle.font_metrics.specs.Reads.{Takes};
 
 use crate::copy::{Copied, copied_items};
-use crate::fault::LineFault;
-use crate::refusal::LineRefusal;
 use fixed_units::Memory;
 use std::alloc::Global;
 use std::collections::BTreeMap;
@@ -55,24 +51,6 @@ impl<T: Drop> ByGlyph<T> {
             None => &[],
             Some(items) => items.as_slice(),
         }
-    }
-
-    /// Adds an item to those of the glyph at a place, of which there may be `most`. Where memory is
-    /// refused, nothing is known of the table.
-    pub fn take(
-        &mut self,
-        alloc: Global,
-        most: usize,
-        place: u16,
-        item: T,
-    ) -> Result<(), LineRefusal>
-        ensures { Takes (taken_into most self.old place item) self.new result }
-    {
-        if self.items(place).len() >= most {
-            return Err(LineRefusal::Fault(LineFault::TooMany));
-        }
-        self.add(alloc, place, item)?;
-        Ok(())
     }
 
     /// Adds an item to those of the glyph at a place. Where memory is refused, nothing is known of

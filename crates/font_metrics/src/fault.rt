@@ -1,5 +1,5 @@
 ghost use Rattle.std.specs.Prelude.{◌≡◌};
-ghost use Rattle.font_metrics.specs.Faults.{number_of_fault, fault_if, both};
+ghost use Rattle.font_metrics.specs.Faults.{number_of_fault};
 
 /// What is wrong with a line of a metrics file, in the order in which a line's faults are looked
 /// for; its fields come from left to right.
@@ -59,26 +59,5 @@ impl LineFault {
             LineFault::NoXHeight => 13,
             LineFault::NoMissing => 14,
         }
-    }
-}
-
-/// The fault, where a test says so.
-pub fn fault_if(test: bool, fault: LineFault) -> Result<(), LineFault>
-    ensures { result ≡ fault_if test fault }
-{
-    if test { Err(fault) } else { Ok(()) }
-}
-
-/// Both values, or the first fault.
-pub fn both<A: Copy, B: Copy>(
-    first: Result<A, LineFault>,
-    second: Result<B, LineFault>,
-) -> Result<(A, B), LineFault>
-    ensures { result ≡ both first second }
-{
-    match (first, second) {
-        (Ok(first), Ok(second)) => Ok((first, second)),
-        (Err(fault), _) => Err(fault),
-        (_, Err(fault)) => Err(fault),
     }
 }

@@ -1,15 +1,10 @@
-ghost use Rattle.std.specs.Prelude.{◌≡◌, true, ◌∷◌, map, OnOk};
-ghost use Rattle.font_metrics.specs.Heights.{do_rise};
+ghost use Rattle.std.specs.Prelude.{◌≡◌, true, OnOk};
 ghost use Rattle.font_metrics.specs.Metrics.{items_of, kerns_at, with_item, with_kerns_at};
-ghost use Rattle.font_metrics.specs.Reading.{taken_kern};
-ghost use Rattle.font_metrics.specs.Reads.{Takes};
 ghost use Rattle.font_metrics.specs.Tables.{no_kerns};
 
 use crate::by_glyph::ByGlyph;
 use crate::corner::Corner;
-use crate::fault::{LineFault, fault_if};
-use crate::kern::{Kern, KernStep};
-use crate::refusal::LineRefusal;
+use crate::kern::Kern;
 use fixed_units::Memory;
 use std::alloc::Global;
 
@@ -57,24 +52,15 @@ impl KernTables {
         }
     }
 
-    /// Gives the glyph at a place its kern at a corner. Where memory is refused, nothing is known
-    /// of the tables.
-    pub fn take(
+    /// Adds a kern to what the glyph at a place has at a corner. Where memory is refused, nothing
+    /// is known of the tables.
+    pub fn add(
         &mut self,
         alloc: Global,
         corner: Corner,
         place: u16,
         kern: Kern,
-    ) -> Result<(), LineRefusal>
-        ensures { Takes (taken_kern corner self.old place kern) self.new result }
-    {
-        fault_if(!self.items(corner, place).is_empty(), LineFault::Repeated)?;
-        fault_if(!do_rise(kern.steps.as_slice()), LineFault::NotRising)?;
-        self.add(alloc, corner, place, kern)?;
-        Ok(())
-    }
-
-    fn add(&mut self, alloc: Global, corner: Corner, place: u16, kern: Kern) -> Result<(), Memory>
+    ) -> Result<(), Memory>
         ensures { OnOk result (self.new
             ≡ with_kerns_at corner self.old (with_item (kerns_at corner self.old) place kern)) }
     {
@@ -85,28 +71,4 @@ impl KernTables {
             Corner::BottomLeft => self.bottom_left.add(alloc, place, kern),
         }
     }
-}
-
-/// Whether each height is above the one before it.
-fn do_rise(steps: &[KernStep]) -> bool
-    ensures { result ≡ do_rise (map (λ step. step.height) steps.now) }
-{
-    match steps {
-        &[lowest, ref more @ ..] => do_rise_above(lowest.height, more),
-        _ => true,
-    }
-}
-
-/// Whether each height is above the one before it, and the first above this one.
-fn do_rise_above(height: i32, steps: &[KernStep]) -> bool
-    ensures { result ≡ do_rise (height ∷ map (λ step. step.height) steps.now) }
-{
-    let mut lower = height;
-    for step in steps {
-        if step.height <= lower {
-            return false;
-        }
-        lower = step.height;
-    }
-    true
 }

@@ -1,22 +1,26 @@
-ghost use Rattle.std.specs.Prelude.{◌≡◌, ◌<◌, ◌≤◌, ◌^◌, true, length, pos, int_le, ◌≤ℤ◌, ◌*ℤ◌, IfSome, unwrap_or, slice_index_or};
+ghost use Rattle.std.specs.Prelude.{◌≡◌, ◌<◌, ◌≤◌, ◌^◌, Ok, true, length, pos, int_le, ◌≤ℤ◌, ◌*ℤ◌, IfSome, unwrap_or, slice_index_or};
 ghost use Rattle.std.specs.List.{All};
 ghost use Rattle.fixed_units.specs.Numbers.{IsWithin, rounded};
 ghost use Rattle.font_metrics.specs.Metrics.{scale_of, constant_of, percent_of, or_default, IsPercent, IsScaleDown, given_constant, line_ascent_of, line_descent_of, ex_of, overlap_of, place_of_letter, glyph_at, name_at, variants_of, parts_of, kerns_of, reached_of, values_of, kern_value, kern_of};
 ghost use Rattle.font_metrics.specs.Constants.{place_of_constant};
 ghost use Rattle.font_metrics.specs.Taken.{IsInDesign, IsMeasured, IsConstant, IsVariant, IsPart, IsKern, IsKernStep, IsTaken};
 ghost use Rattle.font_metrics.specs.Tables.{no_kerns};
+ghost use Rattle.font_metrics.specs.Whole.{IsGiven, needed, metrics_with};
 
+use crate::characters::CharacterMap;
+use crate::constant_table::ConstantTable;
 use crate::constants::ConstName;
 use crate::corner::Corner;
 use crate::given::{Given, Needed};
 use crate::glyph::{Glyph, GlyphId};
+use crate::glyphs::GlyphTable;
 use crate::growth::{Part, Variant};
 use crate::kern::{Kern, KernStep};
 use fixed_units::{Ratio, round};
 use op_dictionary::{Axis, Extra};
 use std::marker::Model;
 
-/// The metrics of a font, as `read_metrics` takes them from a file. Contracts see them as the
+/// The metrics of a font, as they are read from a file (`metrics_file`). Contracts see them as the
 /// record of what the file says.
 #[derive(Drop)]
 pub struct Metrics {
@@ -37,6 +41,15 @@ impl Model for Metrics {
 }
 
 impl Metrics {
+    /// The metrics of what a file gave, and of what of it had to be there. It takes no memory.
+    pub fn of(needs: Needed, given: Given) -> Metrics
+        requires given { IsGiven given }
+        requires needs { needed given ≡ Ok needs }
+        ensures { result ≡ metrics_with needs given }
+    {
+        Metrics { needs, given }
+    }
+
     /// What these metrics say may stand in a file: each number is in its range, each glyph is
     /// there. It does nothing; a caller gets the fact by a call.
     pub fn is_taken(&self)
@@ -50,6 +63,56 @@ impl Metrics {
         ensures { result ≡ self.now.version }
     {
         self.given.version
+    }
+
+    /// The design units of an em.
+    pub fn upem(&self) -> u16
+        ensures { result ≡ self.now.upem }
+    {
+        self.needs.upem
+    }
+
+    /// The ascent and the descent of a line of text, in design units.
+    pub fn line(&self) -> (u16, u16)
+        ensures ascent { result.0 ≡ self.now.line_ascent }
+        ensures descent { result.1 ≡ self.now.line_descent }
+    {
+        self.needs.line
+    }
+
+    /// The height of an x, in design units.
+    pub fn x_height(&self) -> u16
+        ensures { result ≡ self.now.x_height }
+    {
+        self.needs.x_height
+    }
+
+    /// The least overlap of an assembly's connectors, where the file gives it.
+    pub fn given_overlap(&self) -> Option<u16>
+        ensures { result ≡ self.now.overlap }
+    {
+        self.given.overlap
+    }
+
+    /// The constants that the file gives.
+    pub fn constants(&self) -> &ConstantTable
+        ensures { result.now ≡ self.now.constants }
+    {
+        &self.given.constants
+    }
+
+    /// The glyphs of the file, in file order.
+    pub fn glyphs(&self) -> &GlyphTable
+        ensures { result.now ≡ self.now.glyphs }
+    {
+        &self.given.glyphs
+    }
+
+    /// The characters of the file, with their glyphs.
+    pub fn characters(&self) -> &CharacterMap
+        ensures { result.now ≡ self.now.characters }
+    {
+        &self.given.characters
     }
 
     /// A value of at most 2^20 design units at a font size, in units (1/1024 px): the value times
@@ -191,7 +254,7 @@ impl Metrics {
     }
 
     /// A constant as the file gives it.
-    pub(crate) fn given_value(&self, name: ConstName) -> Option<i64>
+    fn given_value(&self, name: ConstName) -> Option<i64>
         ensures value { result ≡ given_constant self.now name }
         ensures within { IfSome result (IsWithin (2 ^ 16)) }
         ensures range { IfSome result (λ value. IsConstant (place_of_constant name, value)) }
@@ -241,7 +304,7 @@ impl Metrics {
     }
 
     /// What a glyph has at a corner: its kern, where it has one.
-    pub(crate) fn kerns(&self, glyph: GlyphId, corner: Corner) -> &[Kern]
+    pub fn kerns(&self, glyph: GlyphId, corner: Corner) -> &[Kern]
         ensures value { result.now ≡ kerns_of self.now glyph.0 corner }
         ensures items { All IsKern result.now }
     {

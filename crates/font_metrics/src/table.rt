@@ -1,6 +1,5 @@
 ghost use Rattle.std.specs.Prelude.{◌≡◌};
-ghost use Rattle.font_metrics.specs.Tables.{slot, no_tables};
-ghost use Rattle.font_metrics.specs.Texts.{variant_keyword, part_keyword};
+ghost use Rattle.font_metrics.specs.Tables.{no_tables};
 
 use crate::by_axis::ByAxis;
 use crate::corner::Corner;
@@ -18,49 +17,6 @@ pub enum Table {
     Parts(Axis),
     /// The kerns at a corner.
     Kerns(Corner),
-}
-
-/// Each table, in the order in which a glyph's lines are printed.
-pub const TABLES: [Table; 8] = [
-    Table::Variants(Axis::Block),
-    Table::Variants(Axis::Inline),
-    Table::Parts(Axis::Block),
-    Table::Parts(Axis::Inline),
-    Table::Kerns(Corner::TopRight),
-    Table::Kerns(Corner::TopLeft),
-    Table::Kerns(Corner::BottomRight),
-    Table::Kerns(Corner::BottomLeft),
-];
-
-impl Table {
-    /// The first word of its lines.
-    pub fn keyword(self) -> &'static str
-        ensures { result.now ≡ (slot self).keyword }
-    {
-        match self {
-            Table::Variants(axis) => variant_keyword(axis),
-            Table::Parts(axis) => part_keyword(axis),
-            Table::Kerns(_) => "kern",
-        }
-    }
-}
-
-fn variant_keyword(axis: Axis) -> &'static str
-    ensures { result.now ≡ variant_keyword axis }
-{
-    match axis {
-        Axis::Block => "vvariant",
-        Axis::Inline => "hvariant",
-    }
-}
-
-fn part_keyword(axis: Axis) -> &'static str
-    ensures { result.now ≡ part_keyword axis }
-{
-    match axis {
-        Axis::Block => "vassembly",
-        Axis::Inline => "hassembly",
-    }
 }
 
 /// What all tables by glyph have.

@@ -8,7 +8,7 @@ use Rattle.std.proofs.lemmas.Grind.{common_steps}
 use Rattle.font_metrics.specs.Metrics.{MetricsValue, NamedGlyph, name_at, nameless}
 use Rattle.font_metrics.specs.Ranges.{IsGlyph}
 use Rattle.font_metrics.specs.Taken.{IsTaken}
-use Rattle.font_metrics.specs.Words.{is_name, is_name_byte}
+use Rattle.font_metrics.specs.Names.{is_name, is_name_byte}
 use Rattle.font_metrics.specs.declared.glyph.GlyphId.{GlyphId}
 use Rattle.box_writer.specs.Items.{IsKnown}
 use Rattle.paint_list.specs.Laws.{NameLaw, is_plain}

@@ -2,7 +2,7 @@
 
 use case_format::{Case, Fault, Fields, is_line_feed, text_in};
 use fixed_units::List;
-use font_metrics::{MOST_FILE_BYTES, MetricsRefusal, read_metrics};
+use metrics_file::{MOST_FILE_BYTES, MetricsRefusal, read_metrics};
 use serde_json::Value;
 use std::alloc::Global;
 use std::fmt::Write;

@@ -1,7 +1,7 @@
 use Rattle.std.proofs.Common.{◌∙◌, ◌≡◌, ap, ◌++◌, ◌∷◌, [], string_bytes, None}
 use Rattle.font_metrics.specs.Kept.{glyph_of_measures, named_glyphs}
 use Rattle.font_metrics.specs.Metrics.{place_of_name}
-use Rattle.font_metrics.proofs.Tables.{named_insert}
+use Rattle.font_metrics.proofs.FileOrder.{named_insert}
 use Rattle.font_metrics.proofs.glyphs.GlyphTable.add.Goals as goal
 
 pub returns-clause-ok : goal.returns-clause-ok

@@ -2,7 +2,7 @@ use Rattle.std.proofs.Common.{◌∙◌, ap, sym, string_bytes}
 use Rattle.std.specs.Option.{option_map}
 use Rattle.font_metrics.specs.Kept.{named_glyph}
 use Rattle.font_metrics.specs.Metrics.{NamedGlyph, nameless, name_in_list}
-use Rattle.font_metrics.proofs.Tables.{shown_at}
+use Rattle.font_metrics.proofs.FileOrder.{shown_at}
 use Rattle.font_metrics.proofs.glyphs.GlyphTable.name.Goals as goal
 
 pub returns : goal.returns

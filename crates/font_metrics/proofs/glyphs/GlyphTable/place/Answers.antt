@@ -1,6 +1,6 @@
 use Rattle.std.proofs.Common.{◌∙◌, ap}
 use Rattle.font_metrics.specs.Metrics.{place_of_name}
-use Rattle.font_metrics.proofs.Tables.{key_place}
+use Rattle.font_metrics.proofs.FileOrder.{key_place}
 use Rattle.font_metrics.proofs.glyphs.GlyphTable.place.Goals as goal
 
 pub returns : goal.returns

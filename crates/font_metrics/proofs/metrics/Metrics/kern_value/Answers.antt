@@ -1,5 +1,4 @@
-use Rattle.std.proofs.Common.{◌≡◌, ◌∙◌, ap, lit<, to_z, of_z, w64, to_z-of_z, ℤ, ℕ, List, pos, slice_index_or}
-use Rattle.font_metrics.specs.declared.kern.KernStep.{KernStep}
+use Rattle.std.proofs.Common.{◌≡◌, ◌∙◌, ap, lit<, to_z, of_z, w64, to_z-of_z, ℤ, ℕ, pos, slice_index_or}
 use Rattle.font_metrics.specs.Metrics.{kern_value, reached_of, scale_of, values_of}
 use Rattle.font_metrics.proofs.Scaling.{back32, back64}
 use Rattle.font_metrics.proofs.metrics.Metrics.kern_value.Goals as goal

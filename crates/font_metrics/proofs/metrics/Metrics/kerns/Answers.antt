@@ -1,4 +1,4 @@
-use Rattle.std.proofs.Common.{◌∙◌, ap, subst, sym, length}
+use Rattle.std.proofs.Common.{◌∙◌, ap, subst, sym}
 use Rattle.std.specs.List.{All}
 use Rattle.font_metrics.specs.Metrics.{MetricsValue, items_of, kerns_of, kerns_at}
 use Rattle.font_metrics.specs.Taken.{IsTaken, IsKern}

@@ -1,5 +1,0 @@
-use Rattle.font_metrics.proofs.FileLaws.{name_is_read}
-use Rattle.font_metrics.proofs.laws.a_constant_is_read_by_its_name.Goals as goal
-
-pub returns : goal.returns
-returns c = name_is_read

@@ -1,5 +1,0 @@
-use Rattle.font_metrics.proofs.FileLaws.{metrics_are_said}
-use Rattle.font_metrics.proofs.laws.metrics_are_what_lines_say.Goals as goal
-
-pub returns : goal.returns
-returns c = metrics_are_said

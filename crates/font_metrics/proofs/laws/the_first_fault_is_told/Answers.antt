@@ -1,5 +1,0 @@
-use Rattle.font_metrics.proofs.FileLaws.{fault_is_first}
-use Rattle.font_metrics.proofs.laws.the_first_fault_is_told.Goals as goal
-
-pub returns : goal.returns
-returns c = fault_is_first

@@ -1,5 +1,0 @@
-use Rattle.font_metrics.proofs.FileLaws.{what_is_given_is_taken as taken}
-use Rattle.font_metrics.proofs.laws.what_is_given_is_taken.Goals as goal
-
-pub returns : goal.returns
-returns c = taken

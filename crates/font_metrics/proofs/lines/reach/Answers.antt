@@ -1,4 +1,0 @@
-use Rattle.font_metrics.proofs.lines.reach.Goals as goal
-
-pub returns : goal.returns
-returns c = c.number_in.ensures.value

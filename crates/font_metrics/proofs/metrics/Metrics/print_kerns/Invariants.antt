@@ -1,9 +1,0 @@
-use Rattle.std.proofs.Common.{◌≡◌, ◌++◌, map, take, flat_map}
-use Rattle.font_metrics.specs.declared.table.Table.TheVariants.{Kerns}
-use Rattle.font_metrics.specs.Print.{entry_words, line_text}
-use Rattle.font_metrics.proofs.metrics.Metrics.print_kerns.Given as goal
-
-abbrev pub invariant-loop-kern : goal.invariant-loop-kern
-invariant-loop-kern l =
-    l.lines ≡ l.fn.lines ++ flat_map line_text
-    (map (entry_words (Kerns l.fn.corner) l.fn.self.glyphs l.fn.base.0) (take l.kern-index l.kern-items))

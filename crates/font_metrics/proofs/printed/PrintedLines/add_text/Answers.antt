@@ -1,4 +1,0 @@
-use Rattle.font_metrics.proofs.printed.PrintedLines.add_text.Goals as goal
-
-pub returns : goal.returns
-returns c = rw (← c.self.view_is) c.in_ok-push_str.ensures.bytes

@@ -1,0 +1,39 @@
+ghost use Rattle.std.specs.Prelude.{◌≤◌, length};
+ghost use Rattle.metrics_file.specs.Reads.{Reads, Begins};
+ghost use Rattle.metrics_file.specs.Reading.{lines_of, metrics_of, most_file_bytes};
+
+use crate::pieces::first_line;
+use crate::reader::{begun, take_lines};
+use crate::refusal::{LineRefusal, MetricsRefusal};
+use font_metrics::{Given, Metrics};
+use std::alloc::Global;
+
+/// The most bytes that a metrics file may have: 8 MiB.
+pub const MOST_FILE_BYTES: usize = 8_388_608;
+
+/// Reads a metrics file of at most `MOST_FILE_BYTES`.
+///
+/// Where the file has faults it answers the first: that of the first faulty line, and of this line
+/// the one that is looked for first.
+pub fn read_metrics(alloc: Global, bytes: &[u8]) -> Result<Metrics, MetricsRefusal>
+    requires { length bytes.now ≤ most_file_bytes }
+    ensures reads { Reads (metrics_of bytes.now) result }
+{
+    let (first, _) = first_line(bytes);
+    match begun(alloc, first) {
+        Ok(given) => read_rest(alloc, bytes, given),
+        Err(fault) => Err(LineRefusal::Fault(fault).at(1)),
+    }
+}
+
+/// Reads the lines behind the first, which gave this.
+fn read_rest(alloc: Global, bytes: &[u8], mut given: Given) -> Result<Metrics, MetricsRefusal>
+    requires few { length bytes.now ≤ most_file_bytes }
+    requires begun { Begins (lines_of bytes.now) given }
+    ensures reads { Reads (metrics_of bytes.now) result }
+{
+    match take_lines(&mut given, alloc, bytes) {
+        Ok(needs) => Ok(Metrics::of(needs, given)),
+        Err(refusal) => Err(refusal),
+    }
+}
