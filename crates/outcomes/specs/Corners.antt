@@ -12,7 +12,8 @@ abbrev pub CountAs : MetricsValue → KernFrom → KernFrom → Type 0
 CountAs m from exact = (from ≡ exact) ⊎ HasNoKerns m
 
 abbrev pub cornered : Corner → Option Alone → Option Inked
-cornered corner alone = option_map (λ a. record { glyph = a.glyph; corner = corner; size = a.size }) alone
+cornered corner alone = option_map (λ a. record { glyph = a.glyph; corner = corner; size = a.size })
+    alone
 
 -- a glyph of the font, at a size in range
 pub record IsAlone (count : ℕ) (alone : Alone) : Type 0 where

@@ -1,5 +1,5 @@
--- How far places are told: what can be stored is told as it is, and what can't be stored as something that can't
--- be stored either.
+-- How far places are told: what can be stored is told as it is, and what can't be stored as
+-- something that can't be stored either.
 use Rattle.std.specs.Prelude.{◌^◌, ℤ, pos, neg_ℤ}
 use Rattle.std.specs.Int.{int_max, int_min}
 use Rattle.font_metrics.specs.declared.mark.Mark.{Mark}
@@ -16,4 +16,5 @@ offset_reached offset = record offset { x = reached offset.x }
 abbrev pub mark_reached : Mark → Mark
 mark_reached (Glyph x y size glyph) = Glyph (reached x) y size glyph
 mark_reached (Rule x y width height) = Rule (reached x) y width height
-mark_reached (Built x y size axis glyph count overlap) = Built (reached x) y size axis glyph count overlap
+mark_reached (Built x y size axis glyph count overlap) = Built (reached x) y size axis glyph count
+    overlap

@@ -8,8 +8,8 @@ use fixed_units::{List, Memory};
 use layout_model::{Answer, Reply};
 use std::alloc::Global;
 
-/// The answer that counts of each of so many children: the last one to it in the replies of both waves,
-/// and `nothing` of one that wasn't asked.
+/// The answer that counts of each of so many children: the last one to it in the replies of both
+/// waves, and `nothing` of one that wasn't asked.
 pub fn last_answers<'a>(
     alloc: Global,
     count: usize,
@@ -21,7 +21,8 @@ pub fn last_answers<'a>(
     requires one_within { All (IsBelow count) (questions_in one.now) }
     requires two_within { All (IsBelow count) (questions_in two.now) }
     ensures { IfOk result (λ kids. map (λ kid. kid.now) kids.items
-        ≡ list_to count (last_answer (questions_in one.now ++ questions_in two.now) (answers_in one.now ++ answers_in two.now))) }
+        ≡ list_to count (last_answer (questions_in one.now ++ questions_in two.now) (answers_in
+        one.now ++ answers_in two.now))) }
 {
     let none = unasked(alloc, count, nothing)?;
     let some = placed(none, one.as_slice());
@@ -31,7 +32,8 @@ pub fn last_answers<'a>(
 /// As many times `nothing` as there are children in flow.
 fn unasked<'a>(alloc: Global, count: usize, nothing: &'a Answer) -> Result<Vec<&'a Answer>, Memory>
     requires { nothing.now ≡ no_answer }
-    ensures { IfOk result (λ kids. map (λ kid. kid.now) kids.items ≡ list_to count (last_answer [] [])) }
+    ensures { IfOk result (λ kids. map (λ kid. kid.now) kids.items ≡ list_to count (last_answer []
+        [])) }
 {
     let mut kids = Vec::with_capacity(alloc, count)?;
     for _ in 0..count {
@@ -45,9 +47,11 @@ fn placed<'a>(kids: Vec<&'a Answer>, replies: &'a [Reply]) -> Vec<&'a Answer>
     requires { All (IsBelow (length kids.items)) (questions_in replies.now) }
     ensures count { length result.items ≡ length kids.entry.items }
     ensures last { (asked : _) (given : _) → length given ≡ length asked →
-        map (λ kid. kid.now) kids.entry.items ≡ list_to (length kids.entry.items) (last_answer asked given) →
+        map (λ kid. kid.now) kids.entry.items ≡ list_to (length kids.entry.items) (last_answer asked
+        given) →
         map (λ kid. kid.now) result.items
-        ≡ list_to (length kids.entry.items) (last_answer (asked ++ questions_in replies.now) (given ++ answers_in replies.now)) }
+        ≡ list_to (length kids.entry.items) (last_answer (asked ++ questions_in replies.now) (given
+        ++ answers_in replies.now)) }
 {
     let mut kids = kids;
     for place in 0..replies.len() {

@@ -93,7 +93,8 @@ pub fn sub_sup_corners<V: View>(alloc: Global, e: &Element<V>) -> Result<KernFro
 #[tactic(auto, using(fixed_units::proofs::Signed::from_bits), unfolding(layout_model::specs::Equations::corner_at))]
 fn alone_at<V: View>(alloc: Global, e: &Element<V>, index: usize) -> Result<Option<Alone>, Memory>
     ensures value { IfOk result (λ alone. (corner : CornerValue) →
-        cornered (turned_corner e.now.context.style.rtl corner) alone ≡ corner_at e.now corner index) }
+        cornered (turned_corner e.now.context.style.rtl corner) alone ≡ corner_at e.now corner
+        index) }
     ensures alone { IfOk result (λ alone. IfSome alone (IsAlone (length e.now.metrics.glyphs))) }
 {
     if index >= e.count() {

@@ -78,9 +78,11 @@ impl<'a, V: View> Element<'a, V> {
         requires nothing { nothing.now ≡ no_answer }
         requires fits { IsContext context.now }
         requires size { size_of metrics.now context.now.style ≤ℤ pos (2 ^ 20) }
-        requires replies { RepliesAll metrics.now (seen_of (V.element view.now)) context.now one.now two.now }
+        requires replies { RepliesAll metrics.now (seen_of (V.element view.now)) context.now one.now
+            two.now }
         ensures ok { IfOk result (λ e.
-            e ≡ answered metrics.now (seen_of (V.element view.now)) context.now (answers_in one.now) (answers_in two.now)) }
+            e ≡ answered metrics.now (seen_of (V.element view.now)) context.now (answers_in one.now)
+            (answers_in two.now)) }
     {
         let count = view.kids();
         let kids = last_answers(alloc, count, one, two, nothing)?;
@@ -137,7 +139,8 @@ impl<'a, V: View> Element<'a, V> {
     /// The font size of the child in flow at a place, in units.
     pub fn size_of_kid(&self, index: usize) -> i64
         requires { index < length self.now.seen.kids }
-        ensures value { result ≡ size_of self.now.metrics (kid_style self.now.metrics self.now.seen self.now.context.style index) }
+        ensures value { result ≡ size_of self.now.metrics (kid_style self.now.metrics self.now.seen
+            self.now.context.style index) }
         ensures low { pos 0 ≤ℤ result }
         ensures high { result ≤ℤ pos (2 ^ 20) }
     {

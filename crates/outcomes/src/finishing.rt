@@ -20,8 +20,8 @@ use std::sync::ledger::Ledger;
 use style_scope::{Style, font_size};
 
 /// The outcome of an element over the answers to both waves of its questions. It is refused with
-/// `Range` exactly where a number of it can't be stored. It takes one step. It asks both waves again,
-/// and copies the answers; `finish_replies` is for who has the replies.
+/// `Range` exactly where a number of it can't be stored. It takes one step. It asks both waves
+/// again, and copies the answers; `finish_replies` is for who has the replies.
 pub fn finish<V: View, L: Ledger>(
     alloc: Global,
     view: &V,
@@ -33,11 +33,15 @@ pub fn finish<V: View, L: Ledger>(
 ) -> Result<Outcome, LayRefusal>
     requires fits { IsContext context.now }
     requires size { size_of metrics.now context.now.style ≤ℤ pos (2 ^ 20) }
-    requires answers { AnswersAll metrics.now (seen_of (V.element view.now)) context.now first.now second.now }
-    ensures ok { IfOk result (λ outcome. outcome ≡ equation metrics.now (seen_of (V.element view.now)) context.now first.now second.now) }
-    ensures fit { OnOk result (outcome_fits (equation metrics.now (seen_of (V.element view.now)) context.now first.now second.now) ≡ true) }
+    requires answers { AnswersAll metrics.now (seen_of (V.element view.now)) context.now first.now
+        second.now }
+    ensures ok { IfOk result (λ outcome. outcome ≡ equation metrics.now (seen_of (V.element
+        view.now)) context.now first.now second.now) }
+    ensures fit { OnOk result (outcome_fits (equation metrics.now (seen_of (V.element view.now))
+        context.now first.now second.now) ≡ true) }
     ensures range { result ≡ Err Range →
-        outcome_fits (equation metrics.now (seen_of (V.element view.now)) context.now first.now second.now) ≡ false }
+        outcome_fits (equation metrics.now (seen_of (V.element view.now)) context.now first.now
+        second.now) ≡ false }
     ensures spans { IfOk result (λ outcome. AreSpans outcome.answer) }
     ensures step { steps.new ≡ steps.old + 1 }
 {
@@ -61,8 +65,10 @@ fn both_waves<V: View>(
 ) -> Result<(List<Reply>, List<Reply>), LayRefusal>
     requires fits { IsContext context.now }
     requires size { size_of metrics.now context.now.style ≤ℤ pos (2 ^ 20) }
-    requires answers { AnswersAll metrics.now (seen_of (V.element view.now)) context.now first.now second.now }
-    ensures replies { IfOk result (λ both. RepliesAll metrics.now (seen_of (V.element view.now)) context.now both.0 both.1) }
+    requires answers { AnswersAll metrics.now (seen_of (V.element view.now)) context.now first.now
+        second.now }
+    ensures replies { IfOk result (λ both. RepliesAll metrics.now (seen_of (V.element view.now))
+        context.now both.0 both.1) }
     ensures first { IfOk result (λ both. answers_in both.0 ≡ first.now) }
     ensures second { IfOk result (λ both. answers_in both.1 ≡ second.now) }
     ensures range { result ≡ Err Range → ⊥ }
@@ -103,13 +109,17 @@ pub fn finish_replies<V: View, L: Ledger>(
 ) -> Result<Outcome, LayRefusal>
     requires fits { IsContext context.now }
     requires size { size_of metrics.now context.now.style ≤ℤ pos (2 ^ 20) }
-    requires replies { RepliesAll metrics.now (seen_of (V.element view.now)) context.now one.now two.now }
+    requires replies { RepliesAll metrics.now (seen_of (V.element view.now)) context.now one.now
+        two.now }
     ensures ok { IfOk result (λ outcome.
-        outcome ≡ equation metrics.now (seen_of (V.element view.now)) context.now (answers_in one.now) (answers_in two.now)) }
+        outcome ≡ equation metrics.now (seen_of (V.element view.now)) context.now (answers_in
+        one.now) (answers_in two.now)) }
     ensures fit { OnOk result (outcome_fits
-        (equation metrics.now (seen_of (V.element view.now)) context.now (answers_in one.now) (answers_in two.now)) ≡ true) }
+        (equation metrics.now (seen_of (V.element view.now)) context.now (answers_in one.now)
+        (answers_in two.now)) ≡ true) }
     ensures range { result ≡ Err Range → outcome_fits
-        (equation metrics.now (seen_of (V.element view.now)) context.now (answers_in one.now) (answers_in two.now)) ≡ false }
+        (equation metrics.now (seen_of (V.element view.now)) context.now (answers_in one.now)
+        (answers_in two.now)) ≡ false }
     ensures spans { IfOk result (λ outcome. AreSpans outcome.answer) }
     ensures step { steps.new ≡ steps.old + 1 }
 {

@@ -68,7 +68,8 @@ fn thickness_at(attributes: &Attributes, size: i64, metrics: &Metrics) -> i64
     requires size_low { pos 0 ≤ℤ size }
     requires size_high { size ≤ℤ pos (2 ^ 20) }
     ensures value { let own = constant_of metrics.now FractionRuleThickness size in
-        result ≡ int_max (pos 0) (option_map_or (λ length. resolved length size (ex_of metrics.now size) own)
+        result ≡ int_max (pos 0) (option_map_or (λ length. resolved length size (ex_of metrics.now
+        size) own)
         (option_and_then length_of (value_of (codes "linethickness") attributes.now)) own) }
     ensures within { IsWithin (10 ^ 9 * 2 ^ 32) result }
 {
@@ -81,7 +82,8 @@ fn thickness_at(attributes: &Attributes, size: i64, metrics: &Metrics) -> i64
 
 /// The thickness that an element gives its rule.
 fn line_thickness(attributes: &Attributes) -> Option<LengthText>
-    ensures value { result ≡ option_and_then length_of (value_of (codes "linethickness") attributes.now) }
+    ensures value { result ≡ option_and_then length_of (value_of (codes "linethickness")
+        attributes.now) }
     ensures within { IfSome result (λ length. IsWithin (10 ^ 15) length.millionths) }
 {
     read_length(attributes.get("linethickness")?)

@@ -18,7 +18,8 @@ use layout_model::Outcome;
 use math_tree::Kind;
 use std::alloc::Global;
 
-/// The outcome of an element that is laid out as a kind, or one that can't be stored where that can't be.
+/// The outcome of an element that is laid out as a kind, or one that can't be stored where that
+/// can't be.
 #[tactic(auto, using(crate::proofs::Exactly::exactly), unfolding(layout_model::specs::Equations::outcome_by))]
 pub fn outcome_by<V: View>(alloc: Global, laid: Kind, e: &Element<V>) -> Result<Outcome, Memory>
     requires { laid ≡ e.now.seen.facts.laid }

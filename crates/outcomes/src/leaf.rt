@@ -49,7 +49,8 @@ fn operator_with<V: View>(alloc: Global, e: &Element<V>, core: &Core) -> Result<
 }
 
 fn operator_in<V: View>(alloc: Global, e: &Element<V>, core: &Core) -> Result<Leaf, Memory>
-    ensures { IfOk result (IsLeaf (operator_of e.now.metrics e.now.seen.head core.now e.now.context.style
+    ensures { IfOk result (IsLeaf (operator_of e.now.metrics e.now.seen.head core.now
+        e.now.context.style
         (font e.now) e.now.context.form (pull_of e.now.context.stretch))) }
 {
     let context = e.context();

@@ -1,13 +1,14 @@
 //! The outcome of one element, over the replies of its children: its box, where its children stand,
 //! and what it draws.
 //!
-//! `finish_replies` takes the replies of both waves; `finish` takes the answers alone, and asks again.
+//! `finish_replies` takes the replies of both waves; `finish` takes the answers alone, and asks
+//! again.
 //! An `Element` is what an equation reads: the answer that counts of each child, the context, the
 //! metrics.
 //!
 //! - Models: MathML Core 3; a file a construct, and each kind names the equation of a crate below.
-//! - Proved: the outcome is `equation` of `layout_model`, exactly; it is refused exactly where one of
-//!   its numbers is out of range.
+//! - Proved: the outcome is `equation` of `layout_model`, exactly; it is refused exactly where one
+//!   of   its numbers is out of range.
 //! - Knows nothing of: trees. It sees one element through a `View`.
 //! - Change what is mirrored from right to left: `specs/Direction.antt` of `layout_model`, then
 //!   `src/direction.rt`. Change how a kind is laid out: its arm in `specs/Equations.antt` of

@@ -30,7 +30,8 @@ pub fn under_or_sub<V: View>(alloc: Global, e: &Element<V>) -> Result<Outcome, M
 
 fn with_under<V: View>(alloc: Global, e: &Element<V>, limits: &Limits) -> Result<Outcome, Memory>
     ensures { IfOk result (λ made. made ≡ outcome e.now limits.now.frame
-        (offset 0 limits.now.base.x limits.now.base.y ∷ offset 1 limits.now.under.x limits.now.under.y ∷ []) []) }
+        (offset 0 limits.now.base.x limits.now.base.y ∷ offset 1 limits.now.under.x
+        limits.now.under.y ∷ []) []) }
 {
     let base = offset_at(0, &limits.base);
     let offsets = list_of(alloc, &[base, offset_at(1, &limits.under)])?;
@@ -50,7 +51,8 @@ pub fn over_or_sup<V: View>(alloc: Global, e: &Element<V>) -> Result<Outcome, Me
 
 fn with_over<V: View>(alloc: Global, e: &Element<V>, limits: &Limits) -> Result<Outcome, Memory>
     ensures { IfOk result (λ made. made ≡ outcome e.now limits.now.frame
-        (offset 0 limits.now.base.x limits.now.base.y ∷ offset 1 limits.now.over.x limits.now.over.y ∷ []) []) }
+        (offset 0 limits.now.base.x limits.now.base.y ∷ offset 1 limits.now.over.x limits.now.over.y
+        ∷ []) []) }
 {
     let base = offset_at(0, &limits.base);
     let offsets = list_of(alloc, &[base, offset_at(1, &limits.over)])?;
@@ -60,7 +62,8 @@ fn with_over<V: View>(alloc: Global, e: &Element<V>, limits: &Limits) -> Result<
 /// A base with limits below and above it, or with two scripts where those are moved (MathML Core
 /// 3.4.2).
 pub fn limits_or_scripts<V: View>(alloc: Global, e: &Element<V>) -> Result<Outcome, Memory>
-    ensures { IfOk result (IsOutcome (unless_moved e.now (under_over_outcome e.now) (sub_sup_outcome e.now))) }
+    ensures { IfOk result (IsOutcome (unless_moved e.now (under_over_outcome e.now) (sub_sup_outcome
+        e.now))) }
 {
     if are_moved(e) {
         sub_sup_outcome(alloc, e)
@@ -71,7 +74,8 @@ pub fn limits_or_scripts<V: View>(alloc: Global, e: &Element<V>) -> Result<Outco
 
 fn with_limits<V: View>(alloc: Global, e: &Element<V>, limits: &Limits) -> Result<Outcome, Memory>
     ensures { IfOk result (λ made. made ≡ outcome e.now limits.now.frame
-        (offset 0 limits.now.base.x limits.now.base.y ∷ offset 1 limits.now.under.x limits.now.under.y
+        (offset 0 limits.now.base.x limits.now.base.y ∷ offset 1 limits.now.under.x
+        limits.now.under.y
         ∷ offset 2 limits.now.over.x limits.now.over.y ∷ []) []) }
 {
     let base = offset_at(0, &limits.base);

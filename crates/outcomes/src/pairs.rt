@@ -29,7 +29,8 @@ pub fn multi_outcome<V: View>(alloc: Global, e: &Element<V>) -> Result<Outcome, 
 }
 
 fn multi_in<V: View>(alloc: Global, e: &Element<V>) -> Result<Multi, Memory>
-    ensures { IfOk result (λ multi. multi ≡ multi_of e.now.metrics (frame_at e.now 0) (has_large_base e.now)
+    ensures { IfOk result (λ multi. multi ≡ multi_of e.now.metrics (frame_at e.now 0)
+        (has_large_base e.now)
         e.now.context.style.cramped (pairs_of e.now) (font e.now)) }
 {
     let pairs = pairs_of(alloc, e)?;
@@ -70,7 +71,8 @@ fn pair_at<V: View>(e: &Element<V>, index: usize) -> Pair
 /// The base and its scripts, where they stand.
 fn offsets_in<V: View>(alloc: Global, e: &Element<V>, multi: &Multi) -> Result<List<Offset>, Memory>
     ensures { IfOk result (λ offsets.
-        offsets ≡ list_to (length e.now.seen.kids) (λ kid. offset_reached (offset_in e.now multi.now kid))) }
+        offsets ≡ list_to (length e.now.seen.kids) (λ kid. offset_reached (offset_in e.now multi.now
+        kid))) }
 {
     let mut offsets = List::make(alloc);
     for kid in 0..e.count() {

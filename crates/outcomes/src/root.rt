@@ -41,7 +41,8 @@ fn with_index<V: View>(alloc: Global, e: &Element<V>, root: &Radical) -> Result<
     Ok(e.outcome(alloc, root.frame, offsets, marks))
 }
 
-/// The surd, which ends where the base begins, and the rule over a base of this width, in the direction
+/// The surd, which ends where the base begins, and the rule over a base of this width, in the
+/// direction
 /// of the element.
 pub fn root_marks<V: View>(
     alloc: Global,

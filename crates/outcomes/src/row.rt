@@ -61,7 +61,8 @@ fn with_root_sign<V: View>(
 ) -> Result<Outcome, Memory>
     requires row { row.now ≡ row_in e.now }
     requires within { IsRowWithin row.now }
-    requires root { root.now ≡ square_root_of e.now.metrics row.now.frame e.now.context.style.display (font e.now) }
+    requires root { root.now ≡ square_root_of e.now.metrics row.now.frame
+        e.now.context.style.display (font e.now) }
     requires frame { IsRootBox root.now.frame }
     ensures { IfOk result (IsOutcome (root_sign_over e.now root.now)) }
 {
@@ -121,7 +122,8 @@ fn shows_spaces<V: View>(view: &V) -> bool
     view.head().id.0 == 1 || view.facts().core.is_none()
 }
 
-/// The children of a row that begins at a start, with its baseline so far below that of the element.
+/// The children of a row that begins at a start, with its baseline so far below that of the
+/// element.
 pub fn along<V: View>(
     alloc: Global,
     e: &Element<V>,

@@ -35,7 +35,8 @@ pub fn sub_outcome<V: View>(alloc: Global, e: &Element<V>) -> Result<Outcome, Me
 }
 
 fn sub_in<V: View>(alloc: Global, e: &Element<V>) -> Result<Scripted, Memory>
-    ensures { IfOk result (λ scripted. scripted ≡ sub_of e.now.metrics (frame_at e.now 0) (has_large_base e.now) (frame_at e.now 1)
+    ensures { IfOk result (λ scripted. scripted ≡ sub_of e.now.metrics (frame_at e.now 0)
+        (has_large_base e.now) (frame_at e.now 1)
         (sub_corners e.now) (font e.now)) }
 {
     let from = sub_corners(alloc, e)?;
@@ -65,7 +66,8 @@ pub fn sup_outcome<V: View>(alloc: Global, e: &Element<V>) -> Result<Outcome, Me
 }
 
 fn sup_in<V: View>(alloc: Global, e: &Element<V>) -> Result<Scripted, Memory>
-    ensures { IfOk result (λ scripted. scripted ≡ sup_of e.now.metrics (frame_at e.now 0) (has_large_base e.now) e.now.context.style.cramped
+    ensures { IfOk result (λ scripted. scripted ≡ sup_of e.now.metrics (frame_at e.now 0)
+        (has_large_base e.now) e.now.context.style.cramped
         (frame_at e.now 1) (sup_corners e.now) (font e.now)) }
 {
     let from = sup_corners(alloc, e)?;
@@ -97,7 +99,8 @@ pub fn sub_sup_outcome<V: View>(alloc: Global, e: &Element<V>) -> Result<Outcome
 }
 
 fn sub_sup_in<V: View>(alloc: Global, e: &Element<V>) -> Result<Scripted, Memory>
-    ensures { IfOk result (λ scripted. scripted ≡ sub_sup_of e.now.metrics (frame_at e.now 0) (has_large_base e.now) e.now.context.style.cramped
+    ensures { IfOk result (λ scripted. scripted ≡ sub_sup_of e.now.metrics (frame_at e.now 0)
+        (has_large_base e.now) e.now.context.style.cramped
         (frame_at e.now 1) (frame_at e.now 2) (sub_sup_corners e.now) (font e.now)) }
 {
     let from = sub_sup_corners(alloc, e)?;

@@ -34,7 +34,8 @@ pub fn spans_of<V: View>(alloc: Global, e: &Element<V>) -> Result<List<CellSpan>
 
 /// What each cell of a row spans.
 fn cell_spans<V: View>(alloc: Global, e: &Element<V>) -> Result<List<CellSpan>, Memory>
-    ensures { IfOk result (λ spans. spans ≡ list_to (length e.now.seen.kids) (tables.cell_span e.now)) }
+    ensures { IfOk result (λ spans. spans ≡ list_to (length e.now.seen.kids) (tables.cell_span
+        e.now)) }
 {
     let mut spans = List::with_room(alloc, e.count())?;
     for index in 0..e.count() {
@@ -140,10 +141,12 @@ pub fn table_rows<V: View>(alloc: Global, e: &Element<V>) -> Result<List<MathBox
     }
 }
 
-/// Those of a table in which a cell spans: the last row under each cell over several ones is as deep
+/// Those of a table in which a cell spans: the last row under each cell over several ones is as
+/// deep
 /// as that cell needs.
 fn spanned_rows<V: View>(alloc: Global, e: &Element<V>) -> Result<List<MathBox>, Memory>
-    ensures value { IfOk result (λ rows. rows ≡ list_to (length e.now.kids) (tables.spanned_row e.now.kids)) }
+    ensures value { IfOk result (λ rows. rows ≡ list_to (length e.now.kids) (tables.spanned_row
+        e.now.kids)) }
     ensures within { IfOk result (All HasHeights) }
 {
     // What holds of the element's children comes with their count.
@@ -156,7 +159,8 @@ fn spanned_rows<V: View>(alloc: Global, e: &Element<V>) -> Result<List<MathBox>,
 
 /// The heights of the rows of a table by themselves.
 fn heights<V: View>(alloc: Global, e: &Element<V>) -> Result<List<RowHeight>, Memory>
-    ensures value { IfOk result (λ heights. heights ≡ map (λ row. tables.height_of_row row.frame) e.now.kids) }
+    ensures value { IfOk result (λ heights. heights ≡ map (λ row. tables.height_of_row row.frame)
+        e.now.kids) }
     ensures stored { IfOk result (All IsHeightStored) }
 {
     let mut heights = List::with_room(alloc, e.count())?;

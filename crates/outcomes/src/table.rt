@@ -98,7 +98,8 @@ fn alone(alloc: Global, cells: &List<MathBox>, widths: &List<i64>) -> Result<Row
     requires each { length widths.now ≤ 65_536 }
     requires stored { All IsStored cells.now }
     requires widths_fit { All (IsWithin farthest) widths.now }
-    ensures value { IfOk result (λ row. row ≡ row_of_cells_of cells.now widths.now (table_width_of widths.now)) }
+    ensures value { IfOk result (λ row. row ≡ row_of_cells_of cells.now widths.now (table_width_of
+        widths.now)) }
     ensures within { IfOk result (λ row. All (IsWithin (2 ^ 61)) row.offsets) }
 {
     row_of_cells(alloc, cells, widths, total_width(widths.as_slice()))
@@ -120,7 +121,8 @@ pub fn table_outcome<V: View>(alloc: Global, e: &Element<V>) -> Result<Outcome, 
 /// The places of so many rows that stand so far below the baseline of their table.
 fn lines(alloc: Global, count: usize, below: &[i64]) -> Result<List<Offset>, Memory>
     requires { count ≤ 65_535 }
-    ensures { IfOk result (λ places. places ≡ list_to count (λ index. offset index (pos 0) (row_at below.now index))) }
+    ensures { IfOk result (λ places. places ≡ list_to count (λ index. offset index (pos 0) (row_at
+        below.now index))) }
 {
     let mut places = List::make(alloc);
     for index in 0..count {

@@ -1,8 +1,4 @@
-use Rattle.std.proofs.Common.{◌≡◌, ◌∙◌, refl, sym, ap, ℤ, pos, ◌^◌, ◌≤ℤ◌, Bool, true, false, Option, Some, None, cond, arith}
-use Rattle.std.specs.Prelude.{int_le, is_some}
-use borrow.Author.Differences.{le-false}
-use Rattle.fixed_units.proofs.Signed.{signed}
-use Rattle.style_scope.specs.Sizes.{font_size_of, in_range_of, size_of}
+use Rattle.std.proofs.Common.{◌∙◌, sym}
 use Rattle.layout_model.proofs.FontSizes.{font_size_found}
 use Rattle.outcomes.proofs.Kids.{small_is_found}
 use Rattle.outcomes.proofs.finishing.no_size_is_negative.Goals as goal
