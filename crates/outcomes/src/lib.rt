@@ -8,7 +8,7 @@
 //!
 //! - Models: MathML Core 3; a file a construct, and each kind names the equation of a crate below.
 //! - Proved: the outcome is `equation` of `layout_model`, exactly; it is refused exactly where one
-//!   of   its numbers is out of range.
+//!   of its numbers is out of range.
 //! - Knows nothing of: trees. It sees one element through a `View`.
 //! - Change what is mirrored from right to left: `specs/Direction.antt` of `layout_model`, then
 //!   `src/direction.rt`. Change how a kind is laid out: its arm in `specs/Equations.antt` of

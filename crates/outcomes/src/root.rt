@@ -42,8 +42,7 @@ fn with_index<V: View>(alloc: Global, e: &Element<V>, root: &Radical) -> Result<
 }
 
 /// The surd, which ends where the base begins, and the rule over a base of this width, in the
-/// direction
-/// of the element.
+/// direction of the element.
 pub fn root_marks<V: View>(
     alloc: Global,
     e: &Element<V>,

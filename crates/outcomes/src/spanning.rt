@@ -142,8 +142,7 @@ pub fn table_rows<V: View>(alloc: Global, e: &Element<V>) -> Result<List<MathBox
 }
 
 /// Those of a table in which a cell spans: the last row under each cell over several ones is as
-/// deep
-/// as that cell needs.
+/// deep as that cell needs.
 fn spanned_rows<V: View>(alloc: Global, e: &Element<V>) -> Result<List<MathBox>, Memory>
     ensures value { IfOk result (λ rows. rows ≡ list_to (length e.now.kids) (tables.spanned_row
         e.now.kids)) }
