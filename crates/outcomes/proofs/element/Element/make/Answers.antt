@@ -26,8 +26,8 @@ last_answers-requires-clause-two_within g c =
     subst (λ (n : ℕ). All (IsBelow n) (questions_in c.args.two.now)) (sym c.kids-count.ensures.count)
     (subst (All (IsBelow (length seen.kids))) (sym c.requires.replies.two_asked) (second_below c.args.metrics.now seen c.args.context.now (answers_in c.args.one.now)))
 
-pub returns-clause-ok : goal.returns-clause-ok
-returns-clause-ok g c =
+pub returns : goal.returns
+returns g c =
     let m = c.args.metrics.now in
     let seen = seen_of (g.V.View.element c.args.view.now) in
     let context = c.args.context.now in
