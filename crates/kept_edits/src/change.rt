@@ -54,11 +54,7 @@ pub fn undo_memo(memo: &mut Memo, path: &[u16], splice: Splice<Memo>) -> Option<
     if path.len() == 0 {
         splice.apply_to(&mut memo.below)
     } else {
-        undo_memo(
-            memo.below.at_mut(path[0] as usize),
-            &path[1..],
-            splice,
-        )
+        undo_memo(memo.below.at_mut(path[0] as usize), &path[1..], splice)
     }
 }
 

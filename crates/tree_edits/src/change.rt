@@ -72,10 +72,6 @@ pub fn carry_out_at(node: &mut Node, path: &[u16], change: Change) -> Replaced
     if path.len() == 0 {
         carry_out(node, change)
     } else {
-        carry_out_at(
-            node.children.at_mut(path[0] as usize),
-            &path[1..],
-            change,
-        )
+        carry_out_at(node.children.at_mut(path[0] as usize), &path[1..], change)
     }
 }
