@@ -80,7 +80,7 @@ impl<'a, V: View> Element<'a, V> {
         requires size { size_of metrics.now context.now.style ≤ℤ pos (2 ^ 20) }
         requires replies { RepliesAll metrics.now (seen_of (V.element view.now)) context.now one.now
             two.now }
-        ensures ok { IfOk result (λ e.
+        ensures { IfOk result (λ e.
             e ≡ answered metrics.now (seen_of (V.element view.now)) context.now (answers_in one.now)
             (answers_in two.now)) }
     {
