@@ -9,16 +9,16 @@ A program of cases sees the files of its own folder data/ alone. So fonts are wr
 from there into the data/ of each program that loads them, and the formulas of samples/ with their font and a script are
 copied from there.
 With --check nothing is written: of each stored file that differs the first line that does is told, and the status is 1.
-With --diff nothing is written either, and all lines that would change are told, `-` before one as it is stored and `+`
-before one as it would be, each with the case that it belongs to. With a NAME only that program's files are made.
+With --diff nothing is written either, and all that would change is told case by case: the case's own line, and below it `-`
+before each line as it is stored and `+` before each as it would be. With a NAME only that program's files are made.
 """
 
 import argparse
-import difflib
 import sys
 from pathlib import Path
 
 from cases import kinds
+from cases.changes import changes
 from cases.faults import UNKNOWN_KIND, LineFault, Undetermined
 from cases.source import Known, take_line
 from cases.values import value_of
@@ -31,8 +31,8 @@ OWNERS = {
     path.name: path.parent for path in (TOP / "samples").iterdir() if path.suffix in (".json", ".metrics", ".script")}
 
 
-# How many lines stand round one that changes, and how much of a line is told.
-CONTEXT, WIDTH = 1, 300
+# How much of a line that changes is told.
+WIDTH = 300
 
 
 class Parser(argparse.ArgumentParser):
@@ -42,13 +42,13 @@ class Parser(argparse.ArgumentParser):
         self.exit(2, f"make_cases: {message}\n")
 
 
-def main():
+def main(argv=None):
     parser = Parser(description=__doc__, formatter_class=argparse.RawDescriptionHelpFormatter)
     parser.add_argument("names", metavar="NAME", nargs="*", help=f"a program of cases: {', '.join(kinds.PROGRAMS)}")
     how = parser.add_mutually_exclusive_group()
     how.add_argument("--check", dest="keep", action="store_const", const=check, help="tell the first line that differs")
-    how.add_argument("--diff", dest="keep", action="store_const", const=show, help="tell all lines that would change")
-    words = parser.parse_args()
+    how.add_argument("--diff", dest="keep", action="store_const", const=show, help="tell all that would change, case by case")
+    words = parser.parse_args(argv)
     unknown = [name for name in words.names if name not in kinds.PROGRAMS]
     if unknown:
         parser.error(f"no program {unknown[0]}: there are {', '.join(kinds.PROGRAMS)}")
@@ -128,13 +128,13 @@ def check(path, content):
 
 
 def show(path, content):
-    """Tells all lines in which a stored file differs, and whether it does; lines that are long are cut."""
+    """Tells all that changes in a stored file, case by case, and whether something does; lines that are long are cut."""
     stored = path.read_bytes() if path.exists() else b""
     if stored == content:
         return False
-    texts = [each.decode("utf-8", "replace").split("\n") for each in (stored, content)]
-    place = str(path.relative_to(CRATES))
-    for line in difflib.unified_diff(*texts, fromfile=f"{place}, stored", tofile=f"{place}, expected", lineterm="", n=CONTEXT):
+    place = path.relative_to(CRATES)
+    print(f"--- {place}, stored\n+++ {place}, expected")
+    for line in changes(*(each.decode("utf-8", "replace").split("\n") for each in (stored, content))):
         print(line if len(line) <= WIDTH else line[:WIDTH] + "...")
     return True
 

@@ -5,14 +5,20 @@ import shlex
 import shutil
 import sys
 import unittest
+from pathlib import Path
+from unittest import mock
 from xml.etree import ElementTree
 
 import picture
+from companion import program
 from companion.command import Fault
+from companion.drawing import usual_fonts
 from companion.marks import Box, Built, Glyph, Rule, pieces_of, read_marks
 from companion.metrics import Drawn, Part
 from companion.metrics import Glyph as Measured
 from companion.painted import read_painted, shared_out
+from second import program as engine
+from second.metrics_reading import read_metrics
 from tests.common import TOP, InFolder, make_font, needs_font_tools, run
 
 # Of each glyph its advance, and its ink as left, bottom, right and top; 1,024 units an em.
@@ -349,3 +355,32 @@ class Samples(unittest.TestCase):
     def test_the_rule_of_a_radical_begins_at_the_top_of_its_surd(self):
         # the last piece of the surd stands at -24166 and is 620 units high, which are 10158
         self.assertIn(f'y="{-24166 - 10158}" width="174374"', (TOP / "samples" / "nested_roots.svg").read_text())
+
+
+class OnDisk:
+    """Files of the system, for the second engine."""
+
+    open = staticmethod(lambda name: Path(name).open("rb"))
+
+
+def by_engine(_program, verb, inputs):
+    """What the second engine writes, in the place of a program that is run."""
+    written = []
+    status = engine.run([verb, inputs.metrics, inputs.tree], OnDisk, written.append)
+    return b"".join(written).decode() if status == 0 else f"status {status}"
+
+
+@needs_font_tools
+@unittest.skipUnless(usual_fonts(), "no Latin Modern Math: Debian's fonts-lmodern has it")
+class StoredPictures(unittest.TestCase):
+    """The picture of each sample but `arabic`, which shows a second font."""
+
+    def test_each_is_what_the_second_engine_draws(self):
+        metrics, font = TOP / "samples" / "latin-modern-math.metrics", usual_fonts()[0]
+        known = read_metrics(metrics.read_bytes())
+        with mock.patch.object(program, "run", by_engine), mock.patch.object(engine, "read_metrics", lambda _: known):
+            for stored in sorted((TOP / "samples").glob("*.svg")):
+                with self.subTest(stored.name):
+                    if stored.stem != "arabic":
+                        drawn = run(picture, metrics, font, stored.with_suffix(".json"), "--program", "second")
+                        self.assertTrue(drawn == (0, stored.read_bytes(), ""), "not as stored: samples/README.md says how it is drawn")
