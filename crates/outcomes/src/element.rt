@@ -1,7 +1,6 @@
-ghost use Rattle.std.specs.Prelude.{◌≡◌, ◌<◌, ◌≤◌, ◌^◌, pos, ◌≤ℤ◌, length, map, false, IfOk, Err};
+ghost use Rattle.std.specs.Prelude.{◌≡◌, ◌<◌, ◌≤◌, ◌^◌, pos, ◌≤ℤ◌, length, map, IfOk};
 ghost use Rattle.std.specs.List.{All};
 ghost use Rattle.fixed_units.specs.Boxes.{IsStored};
-ghost use Rattle.fixed_units.specs.declared.refusal.LayRefusal.TheVariants.{Range};
 ghost use Rattle.embellished.specs.Kinds as kinds;
 ghost use Rattle.embellished.specs.Seen.{seen_of};
 ghost use Rattle.row_stretch.specs.Equation.{IsKidStored};
@@ -10,7 +9,6 @@ ghost use Rattle.layout_model.specs.Answers.{answers_in, no_answer};
 ghost use Rattle.layout_model.specs.Contexts.{kid_style};
 ghost use Rattle.layout_model.specs.Elements.{font, frame_at, lead_place, outcome, outcome_with, row_kid, row_kids, spaces_of};
 ghost use Rattle.layout_model.specs.Fits.{IsContext, RepliesAll};
-ghost use Rattle.layout_model.specs.Range.{is_font_size};
 ghost use Rattle.outcomes.specs.Elements.{IsWhole, answered};
 
 use crate::answers::last_answers;

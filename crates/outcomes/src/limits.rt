@@ -19,7 +19,8 @@ use std::alloc::Global;
 
 /// A base with a limit below it, or with a subscript where that is moved (MathML Core 3.4.2).
 pub fn under_or_sub<V: View>(alloc: Global, e: &Element<V>) -> Result<Outcome, Memory>
-    ensures { IfOk result (IsOutcome (unless_moved e.now (under_outcome e.now) (sub_outcome e.now))) }
+    ensures { IfOk result
+        (IsOutcome (unless_moved e.now (under_outcome e.now) (sub_outcome e.now))) }
 {
     if are_moved(e) {
         sub_outcome(alloc, e)
@@ -40,7 +41,8 @@ fn with_under<V: View>(alloc: Global, e: &Element<V>, limits: &Limits) -> Result
 
 /// A base with a limit above it, or with a superscript where that is moved (MathML Core 3.4.2).
 pub fn over_or_sup<V: View>(alloc: Global, e: &Element<V>) -> Result<Outcome, Memory>
-    ensures { IfOk result (IsOutcome (unless_moved e.now (over_outcome e.now) (sup_outcome e.now))) }
+    ensures { IfOk result
+        (IsOutcome (unless_moved e.now (over_outcome e.now) (sup_outcome e.now))) }
 {
     if are_moved(e) {
         sup_outcome(alloc, e)
