@@ -233,4 +233,4 @@ class RefusedMemory(InFolder):
                 status, front, errors = self.ended(words, number)
                 self.assertEqual((words, number, status, errors), (words, number, 7, b""))
                 self.assertTrue(whole.startswith(front), (words, number, front))
-            self.assertGreater(int(told), 100)
+            self.assertGreater(int(told), 50)
