@@ -12,7 +12,9 @@ may_show laid kid = not (is_annotation kid) && not (is_multiscripts laid && is_p
 abbrev pub shown_by : {A : Type 0} → (A → Kind) → Kind → List A → List A
 shown_by kind_of laid kids = filter (λ kid. may_show laid (kind_of kid)) kids
 
--- whether each of the children is in flow, of an element that has no prescripts
+-- whether kinds alone tell that each child is in flow: the element shows all its children, has no
+-- prescripts, and none of its children is an annotation. Where it is false, each may be in flow
+-- still, as of an element that shows its first child alone and has one.
 abbrev pub shows_each : {A : Type 0} → (A → Kind) → Kind → List A → Bool
 shows_each kind_of laid kids = not (shows_none laid)
     && not (shows_its_first laid)

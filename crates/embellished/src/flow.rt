@@ -17,8 +17,8 @@ pub trait LaidOut: Copy {
         ensures { result ≡ kind self.now };
 }
 
-/// Whether all these children of an element that is laid out as this kind are in flow. Those of an
-/// element with prescripts are looked through by `flow` alone.
+/// Whether kinds alone tell that all these children of an element that is laid out as this kind are
+/// in flow. Where they don't, `flow` says which are.
 pub fn shows_each<T: LaidOut>(laid: Kind, kids: &[T]) -> bool
     ensures { result ≡ shows_each T.kind laid kids.now }
 {

@@ -41,8 +41,9 @@ pub fn fits(frame: &MathBox) -> bool
 /// The farthest that a stored number reaches, on both sides of 0.
 const FARTHEST: i64 = 1 << 30;
 
+/// Whether a number can be stored: it lies in -2^30 to 2^30 units.
 #[tactic(auto, unfolding(crate::specs::Boxes::is_stored))]
-fn is_stored(number: i64) -> bool
+pub fn is_stored(number: i64) -> bool
     ensures { result ≡ is_stored number }
 {
     (-FARTHEST <= number) & (number <= FARTHEST)

@@ -30,7 +30,7 @@ mod steps;
 mod text;
 mod words;
 
-pub use boxes::{MathBox, fits, join, join_all, raise};
+pub use boxes::{MathBox, fits, is_stored, join, join_all, raise};
 pub use lengths::{LengthText, Unit, resolve};
 pub use list::List;
 pub use memory::Memory;

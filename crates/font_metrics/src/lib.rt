@@ -12,7 +12,8 @@
 //! - Bounds for crates above: `proofs/Bounds.antt`.
 //! - Add a table by glyph: a case of `Table` and a field of `Tables` (`src/table.rt`), its `Slot`
 //!   in `specs/Tables.antt`; then in `metrics_file` how its lines are taken and printed
-//!   (`take_fields`, `print_table`), and what is proved of its kind (`IsKind`, `proofs/TableKinds`).
+//!   (`take_fields`, `print_table`), and what is proved of its kind (`IsKind`,
+//!   `proofs/TableKinds`).
 //!   The rest is proved of all tables.
 #![tactic(auto)]
 

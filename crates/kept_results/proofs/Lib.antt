@@ -9,12 +9,7 @@ pub mod Law
 pub mod Lists
 pub mod Made
 pub mod Passing
-mod RelayAgain
-mod RelayAll
-mod RelayAnew
-mod RelayCalls
 pub mod Renewing
-mod Replacing
 pub mod Restyling
 pub mod SameItems
 pub mod Sealing

@@ -1,14 +1,9 @@
-ghost use Rattle.std.specs.Prelude.{◌≡◌, ◌≤◌, ◌<◌, ◌+◌, ◌^◌, pos, ◌≤ℤ◌, true, false, [], length, Err, IfOk, IfNone, IfSome, OnOk};
-ghost use Rattle.std.specs.List.{All};
-ghost use Rattle.fixed_units.specs.declared.refusal.LayRefusal.TheVariants.{Range};
+ghost use Rattle.std.specs.Prelude.{◌≡◌, ◌<◌, ◌^◌, pos, ◌≤ℤ◌, true, false, length, IfOk, IfNone, IfSome};
 ghost use Rattle.embellished.specs.Seen.{seen_of};
 ghost use Rattle.style_scope.specs.Sizes.{IsStyle, size_of};
-ghost use Rattle.layout_model.specs.Answers.{answers_in, questions_in};
-ghost use Rattle.layout_model.specs.Fits.{AreAnswers, HasFont, HasStyle, IsContext};
-ghost use Rattle.layout_model.specs.Layout.{equation};
-ghost use Rattle.layout_model.specs.Questions.{first};
-ghost use Rattle.layout_model.specs.Range.{outcome_fits};
-ghost use Rattle.child_questions.specs.Surveys.{has_one_wave, survey_of};
+ghost use Rattle.layout_model.specs.Answers.{questions_in};
+ghost use Rattle.layout_model.specs.Fits.{HasStyle};
+ghost use Rattle.child_questions.specs.Surveys.{survey_of};
 ghost use Rattle.kept_results.specs.Looking.{CanServe, HasNoEarlier, IsEarlier};
 ghost use Rattle.kept_results.specs.Regular.{AreInOrder, IsRegular, restyled};
 ghost use Rattle.kept_results.specs.declared.memo.Memo.TheViews.{out-Memo};
@@ -17,12 +12,10 @@ use crate::memo::{Entry, Memo};
 use crate::whole_view::WholeView;
 use child_questions::{Survey, style_of_kid};
 use embellished::{NodeView, View};
-use fixed_units::{LayRefusal, List, Memory, Steps};
+use fixed_units::{List, Memory};
 use font_metrics::Metrics;
-use layout_model::{Context, Outcome, Question, Reply};
-use outcomes::finish_replies;
+use layout_model::{Context, Question, Reply};
 use std::alloc::Global;
-use std::sync::ledger::Ledger;
 
 /// An entry of before the present edit from which a pass takes over what an element asks.
 #[derive(Clone, Copy, Debug)]
@@ -84,37 +77,6 @@ pub fn asked_again(
         kid: asked.kid,
         context,
     })
-}
-
-/// The outcome of a regular element over the replies to what it asks. It takes one step.
-pub fn outcome_of<L: Ledger>(
-    alloc: Global,
-    view: &WholeView,
-    context: &Context,
-    metrics: &Metrics,
-    one: &List<Reply>,
-    steps: &mut Steps<L>,
-) -> Result<Outcome, LayRefusal>
-    requires fits { IsContext context.now }
-    requires size { size_of metrics.now context.now.style ≤ℤ pos (2 ^ 20) }
-    requires one_wave { has_one_wave (survey_of metrics.now (seen_of view.now.node.now) context.now)
-        ≡ true }
-    requires ones { questions_in one.now ≡ first metrics.now (seen_of view.now.node.now)
-        context.now }
-    requires stored { AreAnswers (answers_in one.now) }
-    requires fonts { All (HasFont metrics.now) (questions_in one.now) }
-    ensures ok { IfOk result (λ outcome. outcome ≡ equation metrics.now (seen_of view.now.node.now)
-        context.now (answers_in one.now) []) }
-    ensures fit { OnOk result
-        (outcome_fits (equation metrics.now (seen_of view.now.node.now) context.now
-        (answers_in one.now) []) ≡ true) }
-    ensures range { result ≡ Err Range →
-        outcome_fits (equation metrics.now (seen_of view.now.node.now) context.now
-        (answers_in one.now) []) ≡ false }
-    ensures step { steps.new ≡ steps.old + 1 }
-{
-    let two = List::make(alloc);
-    finish_replies(alloc, view, context, metrics, one, &two, steps)
 }
 
 /// Whether an element has all its children in flow, and no prescripts, and asks each child once, in

@@ -2,9 +2,10 @@
 //!
 //! A `Memo` has the shape of a tree. At each element it keeps the outcomes in the contexts in which
 //! that element was laid out, so that a later layout computes only what an edit changed. The
-//! outcomes themselves lie in a store beside it: an entry has the id of a run of cells. A pass puts
-//! outcomes in an epoch of that store, and drops none; whoever began the epoch commits it when the
-//! memo is sealed, or rolls it back when the pass is undone.
+//! outcomes themselves lie in a store beside it: an entry has the id of a run of cells. A pass
+//! (`kept_relay`) looks here for what is kept, and keeps here what it computes: it puts outcomes in
+//! an epoch of that store, and drops none; whoever began the epoch commits it when the memo is
+//! sealed, or rolls it back when the pass is undone.
 //!
 //! An edit marks the elements on the way to it; what a marked element keeps from before doesn't
 //! count. But where layout sees the same of it as then, except for one child, and all its children
@@ -26,11 +27,10 @@
 //! the tree is now, is said beside the runs of a store (`IsBacked` of `specs/Backed.antt`).
 //!
 //! - Models: this project's own; MathML Core says nothing of it.
-//! - Proved: a pass gives the layout exactly, computes nothing that is kept, and nothing twice, and
-//!   can be undone; it puts a run for each step, every run that was there stays, and no two entries
-//!   have one where no two had (`Grows`); a pass that is done adds the cells of needed layouts, no
-//!   others (`laws`); an outcome that is kept, and follows by the equations from others that do, is
-//!   that of the layout (`laws`).
+//! - Proved: what is found of an element is kept of it, or nothing is; what is kept, made anew,
+//!   undone or sealed leaves all else as it was (`specs/Looking.antt`, `specs/Ends.antt`); a pass
+//!   that is done adds the cells of needed layouts, no others (`laws`); an outcome that is kept, and
+//!   follows by the equations from others that do, is that of the layout (`laws`).
 //! - Knows nothing of: edits (of `tree_edits` it takes which element a path leads to), and by which
 //!   equation an element of a kind is laid out.
 //! - Change what a kept layout is: `specs/Kept.antt`; what its run has: `specs/Backed.antt`; how
@@ -42,11 +42,12 @@ mod ends; // undo_pass, seal
 mod entries; // one element's entries
 pub mod laws; // what holds of kept layouts
 mod memo; // Memo, Former; Entry, and what a pass did to it: Origin, Before
-mod relay; // a pass over an element
-mod remaking; // an entry that a pass makes anew, and what it was
+mod remaking; // an entry that a pass makes anew, and what it was before
 mod whole_view; // a view of an element that has all its children in flow
 
+pub use earlier::{Earlier, asked_again, find_earlier, is_regular};
 pub use ends::{seal, undo_pass};
-pub use entries::{facts_below, is_marked};
+pub use entries::{Asked, answer_in, facts_below, is_marked, keep, kept_answer};
 pub use memo::{Before, Entry, Former, Memo, Origin};
-pub use relay::relay_element;
+pub use remaking::{remake, turn};
+pub use whole_view::WholeView;

@@ -1,155 +1,17 @@
-ghost use Rattle.std.specs.Prelude.{◌≡◌, ◌≤◌, ◌<◌, ◌+◌, ◌^◌, pos, ◌≤ℤ◌, true, false, [], length, Some, slice_get, slice_set, Err, IfOk, OnErr, OnOk};
-ghost use Rattle.std.specs.List.{All};
-ghost use Rattle.std.specs.Option.{IsSome};
-ghost use Rattle.embellished.specs.Seen.{seen_of};
-ghost use Rattle.fixed_units.specs.declared.refusal.LayRefusal.TheVariants.{Range};
-ghost use Rattle.style_scope.specs.Sizes.{size_of};
-ghost use Rattle.layout_model.specs.Answers.{answers_in, questions_in};
-ghost use Rattle.layout_model.specs.Fits.{AreAnswers, HasFont, IsContext};
-ghost use Rattle.layout_model.specs.Layout.{equation};
-ghost use Rattle.layout_model.specs.Questions.{first};
-ghost use Rattle.layout_model.specs.Range.{outcome_fits};
-ghost use Rattle.outcome_cells.specs.Store.{PutsOutcome};
-ghost use Rattle.child_questions.specs.Surveys.{has_one_wave, survey_of};
+//! An entry that a pass makes anew, and what it was before.
+ghost use Rattle.std.specs.Prelude.{◌≡◌, ◌≤◌, ◌<◌, length, Some, slice_get, slice_set};
 ghost use Rattle.kept_results.specs.Ends.{restored};
-ghost use Rattle.kept_results.specs.Looking.{IsMadeAgain, one_at, one_with, remade, turned};
-ghost use Rattle.kept_results.specs.Regular.{IsShownBy};
-ghost use Rattle.kept_results.specs.declared.memo.Memo.TheViews.{out-Memo};
+ghost use Rattle.kept_results.specs.Looking.{remade, turned};
 
-use crate::earlier::{Earlier, outcome_of};
-use crate::entries::answer_in;
-use crate::memo::{Before, Entry, Memo, Origin};
-use crate::whole_view::WholeView;
+use crate::memo::{Before, Entry, Origin};
 use box_pool::RunId;
-use fixed_units::{LayRefusal, List, Room, Steps};
-use font_metrics::Metrics;
-use layout_model::{Answer, Context, Reply};
-use math_tree::Node;
-use outcome_cells::Store;
+use fixed_units::{List, Room};
+use layout_model::Reply;
 use std::alloc::Global;
 use std::mem;
-use std::sync::ledger::Ledger;
-
-/// Makes an entry of before the edit anew, of which this is the reply of the child on the way
-/// since. It takes one step. The entry's other replies stay where they are. Where it is refused,
-/// the entry and the store are as they were.
-pub fn make_again<L: Ledger>(
-    alloc: Global,
-    node: &Node,
-    memo: &mut Memo,
-    store: &mut Store,
-    context: &Context,
-    before: Earlier,
-    reply: Reply,
-    metrics: &Metrics,
-    steps: &mut Steps<L>,
-) -> Result<Answer, LayRefusal>
-    requires begun { IsSome store.old.checkpoint }
-    requires entry { before.entry < length (out-Memo memo.old).entries }
-    requires asked { before.child < length (one_at (out-Memo memo.old) before.entry) }
-    requires shown { IsShownBy memo.old node.now }
-    requires fits { IsContext context.now }
-    requires size { size_of metrics.now context.now.style ≤ℤ pos (2 ^ 20) }
-    requires one_wave { has_one_wave (survey_of metrics.now (seen_of node.now) context.now) ≡ true }
-    requires ones { questions_in (one_with memo.old before reply) ≡ first metrics.now
-        (seen_of node.now) context.now }
-    requires stored { AreAnswers (answers_in (one_with memo.old before reply)) }
-    requires fonts { All (HasFont metrics.now) (questions_in (one_with memo.old before reply)) }
-    ensures ok { IfOk result (λ answer.
-        answer ≡ (equation metrics.now (seen_of node.now) context.now
-        (answers_in (one_with memo.old before reply)) []).answer) }
-    ensures fit { OnOk result
-        (outcome_fits (equation metrics.now (seen_of node.now) context.now
-        (answers_in (one_with memo.old before reply)) []) ≡ true) }
-    ensures range { result ≡ Err Range →
-        outcome_fits (equation metrics.now (seen_of node.now) context.now
-        (answers_in (one_with memo.old before reply)) []) ≡ false }
-    ensures made { OnOk result (IsMadeAgain memo.old memo.new store.old store.new before
-        (equation metrics.now (seen_of node.now) context.now
-        (answers_in (one_with memo.old before reply)) []) reply) }
-    ensures unchanged { OnErr result (memo.new ≡ memo.old) }
-    ensures same { OnErr result (store.new ≡ store.old) }
-    ensures step { steps.new ≡ steps.old + 1 }
-{
-    let had = turn(memo.entries.at_mut(before.entry), before.child, reply);
-    let made = lay_again(
-        alloc,
-        node,
-        memo,
-        store,
-        context,
-        before.entry,
-        metrics,
-        steps,
-    );
-    let entry = memo.entries.at_mut(before.entry);
-    match made {
-        Ok(LaidAgain { run, answer, room }) => {
-            remake(alloc, entry, run, before.child, had, room);
-            Ok(answer)
-        }
-        Err(refusal) => {
-            drop(turn(entry, before.child, had));
-            Err(refusal)
-        }
-    }
-}
-
-/// The run of a layout that was made, its answer, and room for what there was before it.
-struct LaidAgain {
-    run: RunId,
-    answer: Answer,
-    room: Room<Before>,
-}
-
-/// Puts the layout over the questions and answers of an entry. It takes one step.
-fn lay_again<L: Ledger>(
-    alloc: Global,
-    node: &Node,
-    memo: &Memo,
-    store: &mut Store,
-    context: &Context,
-    entry: usize,
-    metrics: &Metrics,
-    steps: &mut Steps<L>,
-) -> Result<LaidAgain, LayRefusal>
-    requires begun { IsSome store.old.checkpoint }
-    requires entry { entry < length (out-Memo memo.now).entries }
-    requires shown { IsShownBy memo.now node.now }
-    requires fits { IsContext context.now }
-    requires size { size_of metrics.now context.now.style ≤ℤ pos (2 ^ 20) }
-    requires one_wave { has_one_wave (survey_of metrics.now (seen_of node.now) context.now) ≡ true }
-    requires ones { questions_in (one_at (out-Memo memo.now) entry) ≡ first metrics.now
-        (seen_of node.now) context.now }
-    requires stored { AreAnswers (answers_in (one_at (out-Memo memo.now) entry)) }
-    requires fonts { All (HasFont metrics.now) (questions_in (one_at (out-Memo memo.now) entry)) }
-    ensures put { IfOk result
-        (λ laid. PutsOutcome store.old store.new laid.run.0 (equation metrics.now (seen_of node.now)
-        context.now (answers_in (one_at (out-Memo memo.now) entry)) [])) }
-    ensures answer { IfOk result
-        (λ laid. laid.answer ≡ (equation metrics.now (seen_of node.now) context.now
-        (answers_in (one_at (out-Memo memo.now) entry)) []).answer) }
-    ensures unchanged { OnErr result (store.new ≡ store.old) }
-    ensures room { IfOk result (λ laid. 1 ≤ laid.room) }
-    ensures fit { OnOk result
-        (outcome_fits (equation metrics.now (seen_of node.now) context.now
-        (answers_in (one_at (out-Memo memo.now) entry)) []) ≡ true) }
-    ensures range { result ≡ Err Range →
-        outcome_fits (equation metrics.now (seen_of node.now) context.now
-        (answers_in (one_at (out-Memo memo.now) entry)) []) ≡ false }
-    ensures step { steps.new ≡ steps.old + 1 }
-{
-    let view = WholeView::of(node, memo);
-    let entry = &memo.entries.as_slice()[entry];
-    let outcome = outcome_of(alloc, &view, context, metrics, &entry.one, steps)?;
-    let room = Room::make(alloc, 1)?;
-    let run = store.put(&outcome)?;
-    let answer = answer_in(outcome);
-    Ok(LaidAgain { run, answer, room })
-}
 
 /// Puts the reply of a child in place of the one that an entry has, and gives that one.
-fn turn(entry: &mut Entry, child: usize, reply: Reply) -> Reply
+pub fn turn(entry: &mut Entry, child: usize, reply: Reply) -> Reply
     requires { child < length entry.old.one }
     ensures had { slice_get entry.old.one child ≡ Some result }
     ensures turned { entry.new ≡ turned entry.old child reply }
@@ -158,7 +20,7 @@ fn turn(entry: &mut Entry, child: usize, reply: Reply) -> Reply
 }
 
 /// Gives an entry the run of a new outcome, and has it hold what it had before.
-fn remake(
+pub fn remake(
     alloc: Global,
     entry: &mut Entry,
     run: RunId,

@@ -5,7 +5,6 @@ pub mod Flagging
 pub mod Listed
 pub mod Listing
 pub mod RunIds
-pub mod Starting
 pub mod Stored
 pub mod Sweeping
 pub mod Totals

@@ -17,6 +17,7 @@ pub mod Made
 pub mod Offsets
 pub mod Places
 mod PlainTables
+mod Raised
 pub mod Ranges
 pub mod Replies
 pub mod Spans

@@ -6,7 +6,8 @@
 //! (`specs/Layout.antt`).
 //!
 //! - Models: MathML Core 3; one arm a kind, which names the equation of a crate below.
-//! - Proved: what holds of all elements and trees, whatever their kinds (`laws`).
+//! - Proved: what holds of all elements and trees, whatever their kinds (`laws`); whether an outcome
+//!   can be stored (`fits`), exactly.
 //! - Knows nothing of: how a layout is computed, or kept.
 //! - Change how a kind is laid out: its arm in `specs/Questions.antt` or `specs/Equations.antt`.
 #![tactic(auto)]
@@ -16,6 +17,7 @@ mod context; // Stretch, Context, Question
 mod laid; // Laid
 pub mod laws; // what holds of all elements and trees
 mod outcome; // Answer, Offset, Outcome
+mod range; // which outcomes can be stored
 mod reply; // Reply
 mod tables; // the cells of a table
 
@@ -23,5 +25,6 @@ pub use asking::Asking;
 pub use context::{Context, Question, Stretch};
 pub use laid::Laid;
 pub use outcome::{Answer, Offset, Outcome};
+pub use range::fits;
 pub use reply::{Answered, Reply};
 pub use tables::{cells_of_rows, has_spans};

@@ -9,7 +9,6 @@ mod Lasts
 mod Leaves
 mod Lists
 mod MirroredRows
-mod Raised
 mod Reach
 mod Roots
 mod RowBounds

@@ -9,12 +9,11 @@ ghost use Rattle.layout_model.specs.Range.{is_font_size, outcome_fits};
 
 use crate::element::Element;
 use crate::kinds::outcome_by;
-use crate::range::fits;
 use child_questions::{wave_one, wave_two};
 use embellished::View;
 use fixed_units::{LayRefusal, List, Memory, Steps};
 use font_metrics::Metrics;
-use layout_model::{Answer, Context, Outcome, Question, Reply};
+use layout_model::{Answer, Context, Outcome, Question, Reply, fits};
 use std::alloc::Global;
 use std::sync::ledger::Ledger;
 use style_scope::{Style, font_size};

@@ -28,7 +28,6 @@ mod limits; // limits over and under a base
 mod listing; // lists of offsets and marks
 mod padding; // padded rows
 mod pairs; // scripts in pairs
-mod range; // which outcomes can be stored
 mod root; // a root with an index
 mod row; // rows, errors, square roots and cells
 mod script; // scripts beside a base

@@ -10,11 +10,10 @@ ghost use Rattle.layout_model.specs.Equations.{cells_placed, row_at, table_outco
 ghost use Rattle.outcomes.specs.Outcomes.{IsOutcome};
 
 use crate::element::Element;
-use crate::range::is_stored;
 use crate::row::along;
 use crate::spanning::{spanned, spans_of, table_columns, table_rows};
 use embellished::View;
-use fixed_units::{List, MathBox, Memory};
+use fixed_units::{List, MathBox, Memory, is_stored};
 use layout_model::{Offset, Outcome, Stretch};
 use math_tables::{row_of_cells, row_of_slots, table_finish, total_width};
 use row_stretch::Row;

@@ -46,4 +46,4 @@ pub use command::{Command, CommandRefusal};
 pub use edit::{Edit, EditRefusal};
 pub use parents::Parents;
 pub use path::{Path, element_at, path_to};
-pub use read::{command_of, read_command};
+pub use read::read_command;

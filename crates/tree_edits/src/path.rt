@@ -91,8 +91,8 @@ pub fn path_to(tree: &Tree, id: NodeId) -> Option<Path>
     }
 }
 
-/// Whether there is such a way from an element at that level down, written where it is wanted. All elements are looked at for most ids, so none of them
-/// makes room for a way of its own.
+/// Whether there is such a way from an element at that level down, written where it is wanted. All
+/// elements are looked at for most ids, so none of them makes room for a way of its own.
 #[tactic(auto, using(crate::proofs::Paths::leads_here, crate::proofs::Paths::leads_further, crate::proofs::Paths::level_within, crate::proofs::Paths::in_child, crate::proofs::Paths::none_more, crate::proofs::Paths::none_in))]
 fn find(node: &Node, id: NodeId, level: usize, path: &mut Path) -> bool
     requires shallow { AllByRecursion (λ e. e.level ≤ most_levels) (listed level node.now) }

@@ -48,7 +48,7 @@ pub fn read_command(alloc: Global, line: &[u8]) -> Result<Command, CommandRefusa
 
 /// What the JSON value of a line asks for: an object with the keys of its command and no others.
 #[tactic(auto, unfolding(crate::specs::Commands::command_of))]
-pub fn command_of(alloc: Global, value: &Value) -> Result<Command, CommandRefusal>
+fn command_of(alloc: Global, value: &Value) -> Result<Command, CommandRefusal>
     ensures reads { Gives (command_of (view value.now)) result }
     ensures proper { IfOk result IsProperCommand }
 {

@@ -1,10 +1,10 @@
 //! `token`, `operator`, `space`: elements without children.
 ghost use Rattle.token_boxes.specs.Operator.{IsPull};
 
-use crate::values::{ByMetrics, add_mark, element_of, is_stored, pull_in, size_in};
+use crate::values::{ByMetrics, add_mark, element_of, pull_in, size_in};
 use case_format::{Fault, Fields, add_box};
 use embellished::{Core, known_of};
-use fixed_units::{Pull, fits};
+use fixed_units::{Pull, fits, is_stored};
 use font_metrics::{Mark, Metrics};
 use math_tree::{Head, Kind, Node};
 use op_dictionary::Form;

@@ -41,11 +41,6 @@ pub fn in_range(key: &'static str, number: i64) -> Result<i64, Fault>
     }
 }
 
-/// Whether a number can be stored.
-pub fn is_stored(number: i64) -> bool {
-    -FARTHEST <= number && number <= FARTHEST
-}
-
 /// The items of a key, which aren't too many.
 pub fn items_in<'a>(fields: Fields<'a>, key: &'static str) -> Result<&'a [Value], Fault>
     ensures { IfOk result (λ items. length items.now ≤ 65_536) }

@@ -3,7 +3,7 @@ use Rattle.std.proofs.lemmas.Bool.{and_from}
 use Rattle.std.proofs.lemmas.List.Folds.{list_all_more}
 use Rattle.std.proofs.lemmas.Nat.{le_or_l, le_or_r}
 use Rattle.layout_model.specs.Range.{offset_fits}
-use Rattle.outcomes.proofs.range.are_inside.Goals as goal
+use Rattle.layout_model.proofs.range.are_inside.Goals as goal
 
 pub loop-offset-init : goal.loop-offset-init
 loop-offset-init c = λ h. refl

@@ -12,8 +12,8 @@ use Rattle.outcome_cells.specs.Store.{PutsOutcome}
 use Rattle.kept_results.specs.Looking.{remade, turned, with_entry}
 use Rattle.kept_results.specs.declared.memo.Entry.{Entry}
 use Rattle.kept_results.specs.declared.memo.Memo.TheViews.{roll-Memo}
-use Rattle.kept_results.proofs.Replacing.{near_one, one_turned, put_back, put_twice, stands_there, turned_back}
-use Rattle.kept_results.proofs.remaking.make_again.Goals as goal
+use Rattle.kept_relay.proofs.Replacing.{near_one, one_turned, put_back, put_twice, stands_there, turned_back}
+use Rattle.kept_relay.proofs.making.make_again.Goals as goal
 
 pub lay_again-made-requires-clause-ones : goal.lay_again-made-requires-clause-ones
 lay_again-made-requires-clause-ones g c =

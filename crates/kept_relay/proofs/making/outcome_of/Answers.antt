@@ -6,7 +6,7 @@ use Rattle.layout_model.specs.Fits.{HasFont}
 use Rattle.layout_model.specs.declared.reply.Reply.{Reply}
 use Rattle.child_questions.proofs.Unstretched.{one_wave}
 use Rattle.kept_results.proofs.Restyling.{no_answers}
-use Rattle.kept_results.proofs.earlier.outcome_of.Goals as goal
+use Rattle.kept_relay.proofs.making.outcome_of.Goals as goal
 
 pub finish_replies-requires-clause-replies : goal.finish_replies-requires-clause-replies
 finish_replies-requires-clause-replies g c =

@@ -38,7 +38,7 @@ use Rattle.kept_results.proofs.Agreement.{has_added}
 use Rattle.kept_results.proofs.Backed.{grows_added, grows_both, grows_step}
 use Rattle.kept_results.proofs.Lists.{all_then}
 use Rattle.kept_results.proofs.Passing.{fresh_live, passes_both}
-use Rattle.kept_results.proofs.RelayCalls.{own_entry, own_step}
+use Rattle.kept_relay.proofs.RelayCalls.{own_entry, own_step}
 use Rattle.kept_results.proofs.Tidying.{tidy_added}
 use Rattle.kept_results.proofs.Turns.{Waves, missing_same, names_still, ones_proper, pass_ones, pass_twos, sound_made, twos_proper, waves_fit, waves_lay}
 

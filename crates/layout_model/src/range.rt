@@ -3,13 +3,13 @@ ghost use Rattle.std.specs.List.{list_all};
 ghost use Rattle.fixed_units.specs.Boxes.{is_stored};
 ghost use Rattle.layout_model.specs.Range.{answer_fits, mark_fits, offset_fits, outcome_fits, span_fits};
 
-use fixed_units::fits as box_fits;
+use crate::outcome::{Answer, Offset, Outcome};
+use fixed_units::{fits as box_fits, is_stored};
 use font_metrics::Mark;
-use layout_model::{Answer, Offset, Outcome};
 use span_tables::CellSpan;
 
 /// Whether every number of an outcome can be stored: it lies in -2^30 to 2^30 units.
-#[tactic(auto, unfolding(layout_model::specs::Range::outcome_fits))]
+#[tactic(auto, unfolding(crate::specs::Range::outcome_fits))]
 pub fn fits(outcome: &Outcome) -> bool
     ensures { result ≡ outcome_fits outcome.now }
 {
@@ -18,7 +18,7 @@ pub fn fits(outcome: &Outcome) -> bool
         & marks_fit(outcome.marks.as_slice())
 }
 
-#[tactic(auto, unfolding(layout_model::specs::Range::answer_fits))]
+#[tactic(auto, unfolding(crate::specs::Range::answer_fits))]
 fn answer_fits(answer: &Answer) -> bool
     ensures { result ≡ answer_fits answer.now }
 {
@@ -66,7 +66,7 @@ fn are_inside(offsets: &[Offset]) -> bool
 }
 
 /// The bits of both numbers of an offset together.
-#[tactic(auto, unfolding(layout_model::specs::Range::offset_fits))]
+#[tactic(auto, unfolding(crate::specs::Range::offset_fits))]
 fn bits_of(offset: &Offset) -> u64
     ensures { result < 2 ^ 31 → offset_fits offset.now ≡ true }
 {
@@ -86,7 +86,7 @@ fn marks_fit(marks: &[Mark]) -> bool
     marks.iter().all(|mark| mark_fits(mark))
 }
 
-#[tactic(auto, unfolding(layout_model::specs::Range::offset_fits))]
+#[tactic(auto, unfolding(crate::specs::Range::offset_fits))]
 fn offset_fits(offset: &Offset) -> bool
     ensures { result ≡ offset_fits offset.now }
 {
@@ -94,7 +94,7 @@ fn offset_fits(offset: &Offset) -> bool
 }
 
 /// Whether the place of a mark and its size can be stored.
-#[tactic(auto, unfolding(layout_model::specs::Range::mark_fits))]
+#[tactic(auto, unfolding(crate::specs::Range::mark_fits))]
 fn mark_fits(mark: &Mark) -> bool
     ensures { result ≡ mark_fits mark.now }
 {
@@ -109,15 +109,4 @@ fn mark_fits(mark: &Mark) -> bool
             is_stored(*x) & is_stored(*y) & is_stored(*size)
         }
     }
-}
-
-/// The farthest that a stored number reaches, on both sides of 0.
-const FARTHEST: i64 = 1 << 30;
-
-/// Whether a number can be stored.
-#[tactic(auto, unfolding(fixed_units::specs::Boxes::is_stored))]
-pub fn is_stored(number: i64) -> bool
-    ensures { result ≡ is_stored number }
-{
-    (-FARTHEST <= number) & (number <= FARTHEST)
 }

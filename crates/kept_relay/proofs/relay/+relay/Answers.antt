@@ -20,13 +20,13 @@ use Rattle.kept_results.specs.declared.memo.Memo.TheViews.{out-Memo}
 use Rattle.kept_results.proofs.Again.{kept_again, near_entry, one_now, shown_by, still_regular, still_sized, tidied_again, was_near}
 use Rattle.kept_results.proofs.Backed.{are_backed, grows_both, grows_partly, only_none, still_begun}
 use Rattle.kept_results.proofs.Passing.{passes_both, passes_none, passes_partly}
-use Rattle.kept_results.proofs.RelayAgain.{answer_again, answers_again, child_agrees, child_backed, child_few, child_smaller, child_suits, child_there, child_unfit, fit_again, fonts_again, grown_again, grown_child, heard_of, memo_there, ones_again, passed_again, passed_child, shown_again, stepped_again, turn_of, unfit_again, unkept_again, was_read}
-use Rattle.kept_results.proofs.RelayAll.{asked_near, asks_unfit, fit_next, goes_there, grow_more, kept_next, kid_agrees, kid_backed, kid_few, kid_smaller, kid_suits, memo_near, pass_more, told_next}
-use Rattle.kept_results.proofs.RelayAnew.{answered_of, fit_anew, grown_anew, grown_waves, kept_anew, ones_known, ones_stored, ones_suit, ones_unfit, pass_first, pass_second, passed_anew, replies_all, stepped_anew, tidy_anew, told_of, twos_known, twos_suit, twos_unfit, unkept_anew, waves}
-use Rattle.kept_results.proofs.RelayCalls.{err_both, none_of, nothing_done, ok_is_not_err, on_both, on_each, some_of, unchanged_store}
+use Rattle.kept_relay.proofs.RelayAgain.{answer_again, answers_again, child_agrees, child_backed, child_few, child_smaller, child_suits, child_there, child_unfit, fit_again, fonts_again, grown_again, grown_child, heard_of, memo_there, ones_again, passed_again, passed_child, shown_again, stepped_again, turn_of, unfit_again, unkept_again, was_read}
+use Rattle.kept_relay.proofs.RelayAll.{asked_near, asks_unfit, fit_next, goes_there, grow_more, kept_next, kid_agrees, kid_backed, kid_few, kid_smaller, kid_suits, memo_near, pass_more, told_next}
+use Rattle.kept_relay.proofs.RelayAnew.{answered_of, fit_anew, grown_anew, grown_waves, kept_anew, ones_known, ones_stored, ones_suit, ones_unfit, pass_first, pass_second, passed_anew, replies_all, stepped_anew, tidy_anew, told_of, twos_known, twos_suit, twos_unfit, unkept_anew, waves}
+use Rattle.kept_relay.proofs.RelayCalls.{err_both, none_of, nothing_done, ok_is_not_err, on_both, on_each, some_of, unchanged_store}
 use Rattle.kept_results.proofs.Tidying.{tidy_below, tidy_renewed}
 use Rattle.kept_results.proofs.Turns.{facts_known, kept_answers, kept_fits, own_entries, own_mark, waves_lay, waves_unfit}
-use Rattle.kept_results.proofs.relay.+relay.Goals as goal
+use Rattle.kept_relay.proofs.relay.+relay.Goals as goal
 
 -- ---- one question after another
 

@@ -39,7 +39,7 @@ use Rattle.kept_results.proofs.Again.{asked_now, asked_there, asks_are_set, entr
 use Rattle.kept_results.proofs.Agreement.{agrees_child}
 use Rattle.kept_results.proofs.Backed.{backed_child, grows_both, grows_step, grows_under, only_same}
 use Rattle.kept_results.proofs.Passing.{passes_both}
-use Rattle.kept_results.proofs.RelayCalls.{own_need, own_step}
+use Rattle.kept_relay.proofs.RelayCalls.{own_need, own_step}
 use Rattle.kept_results.proofs.Shown.{read_at}
 use Rattle.kept_results.proofs.Turns.{Waves, sound_made, suits_child, waves_fit, waves_lay, waves_unfit}
 

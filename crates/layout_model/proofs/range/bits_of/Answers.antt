@@ -2,7 +2,7 @@ use Rattle.std.proofs.Common.{arith}
 use Rattle.std.proofs.lemmas.Int.{to_z-of_z}
 use Rattle.std.proofs.lemmas.Nat.{le_or_l, le_or_r}
 use Rattle.layout_model.specs.Range.{offset_fits}
-use Rattle.outcomes.proofs.range.bits_of.Goals as goal
+use Rattle.layout_model.proofs.range.bits_of.Goals as goal
 
 pub returns : goal.returns
 unfolding offset_fits

@@ -14,15 +14,15 @@ ghost use Rattle.kept_results.specs.Passes.{AnswersNeed, Needs, Passes};
 ghost use Rattle.kept_results.specs.Tidy.{AreTidy, IsTidy};
 ghost use Rattle.kept_results.specs.declared.memo.Memo.TheViews.{out-Memo};
 
-use crate::earlier::{Earlier, asked_again, find_earlier, is_regular};
-use crate::entries::{Asked, facts_below, keep, kept_answer};
-use crate::memo::Memo;
-use crate::remaking::make_again;
-use crate::whole_view::WholeView;
+use crate::making::make_again;
 use child_questions::{Survey, first_wave, second_wave};
 use embellished::NodeView;
 use fixed_units::{LayRefusal, List, Steps};
 use font_metrics::Metrics;
+use kept_results::{
+    Asked, Earlier, Memo, WholeView, asked_again, facts_below, find_earlier, is_regular, keep,
+    kept_answer,
+};
 use layout_model::{Answer, Context, Reply};
 use math_tree::Node;
 use outcome_cells::Store;

@@ -1,7 +1,7 @@
 use Rattle.std.proofs.Common.{◌∙◌, ℕ, ℤ, ◌+◌, ◌^◌, ◌%◌, ◌<◌, ap, subst, w64, of_z}
 use Rattle.std.proofs.lemmas.Int.{to_z-of_z}
-use Rattle.outcomes.proofs.Raised.{raised_stored}
-use Rattle.outcomes.proofs.range.raised.Goals as goal
+use Rattle.layout_model.proofs.Raised.{raised_stored}
+use Rattle.layout_model.proofs.range.raised.Goals as goal
 
 pub returns : goal.returns
 returns c = λ h.

@@ -14,7 +14,7 @@ use Rattle.kept_results.specs.Passes.{AnswersNeed, Passes}
 use Rattle.kept_results.specs.Tidy.{AreTidy}
 use Rattle.kept_results.specs.declared.memo.Memo.{Memo}
 use Rattle.kept_results.specs.declared.memo.Memo.TheViews.{out-Memo}
-use Rattle.kept_results.proofs.relay.+relay.Given as goal
+use Rattle.kept_relay.proofs.relay.+relay.Given as goal
 
 -- the first questions are answered, in range and kept, and that is all that the pass did
 pub record Answered (m : MetricsValue) (node : Node) (before memo : Memo) (held holds : StoreValue) (asks : List Question) (index : ℕ) (replies : List Reply) (from to : ℕ) : Type 0 where

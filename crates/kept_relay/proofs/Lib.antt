@@ -1,0 +1,6 @@
+mod RelayAgain
+mod RelayAll
+mod RelayAnew
+mod RelayCalls
+mod Replacing
+mod Starting
