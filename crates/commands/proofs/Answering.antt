@@ -1,6 +1,6 @@
 -- The answers of works, scripts, jobs and the two files, part by part.
 use Rattle.std.proofs.Common.{◌≡◌, ◌⊎◌, inl, inr, ℕ, List, refl, ap, sym, ◌∙◌, subst, arith, Option, Some, None, IfSome}
-use Rattle.std.specs.Prelude.{[], unwrap_or, Result, Ok, Err, IsSome, IsSomeAnd, IsOk}
+use Rattle.std.specs.Prelude.{[], unwrap_or, Result, Ok, Err, IsSome, IsSomeAnd, IsOk, Bool, true, false, if◌then◌else◌}
 use Rattle.std.specs.Option.{option_map}
 use Rattle.std.specs.Io.KnownBytes.{prepend_known}
 use Rattle.doc_io.specs.Causes.{Files, InputsTold, SinkTold}
@@ -9,7 +9,6 @@ use Rattle.fixed_units.specs.declared.refusal.LayRefusal.{LayRefusal}
 use Rattle.fixed_units.specs.declared.refusal.LayRefusal.TheVariants as layout
 use Rattle.font_metrics.specs.Metrics.{MetricsValue}
 use Rattle.math_tree.specs.Trees.{TreeValue}
-use Rattle.std.specs.Prelude.{Bool, true, false, if◌then◌else◌}
 use Rattle.layout_model.specs.Layout.{is_tree_in_range}
 use Rattle.edit_session.specs.Session.{SessionValue}
 use Rattle.generator.specs.Generated.{generated}
@@ -21,22 +20,21 @@ use Rattle.queries.specs.declared.query.Query.{Query}
 use Rattle.queries.specs.declared.query.QueryRefusal.{QueryRefusal}
 use Rattle.queries.specs.declared.query.QueryRefusal.TheVariants as refused_query
 use Rattle.commands.specs.Command.{Asked, Job, OverTree, Generates, Work, LaysOut, Edits, Checks, Asks, Remembers}
-use Rattle.commands.specs.Answer.{Text, whole_text, content, metrics_in, tree_in, answers_to, ◌>>=◌, started, lines_of_page, answered, asked_of_page, of_answer, checked, laid_out, scripted, done, generates, told_of_edits, answer_over, answer_with, answer}
-use Rattle.commands.specs.Refusals.{of_layout, of_query}
-use Rattle.commands.specs.Ends.{LacksFile, IsCut, GivesOr, Answers, IsReachedNext, IsScript, start_of}
-use Rattle.commands.specs.Responders.{Responder}
-use Rattle.commands.specs.Replies.{by_session}
-use Rattle.commands.specs.HistorySteps.{by_history, kept_at_first}
+use Rattle.commands.specs.Answer.{Text, whole_text, content, answers_to, lines_of_page, answered, asked_of_page, of_answer, checked, laid_out, scripted, done, generates, told_of_edits, answer_over, answer_with, answer}
+use Rattle.line_replies.specs.Opening.{metrics_in, tree_in, ◌>>=◌, started, GivesOr}
+use Rattle.line_replies.specs.Refusals.{of_layout, of_query}
+use Rattle.commands.specs.Ends.{LacksFile, IsCut, Answers, IsReachedNext, IsScript, start_of}
+use Rattle.line_replies.specs.Responders.{Responder}
+use Rattle.line_replies.specs.Replies.{by_session}
+use Rattle.line_replies.specs.HistorySteps.{by_history, kept_at_first}
 use Rattle.commands.specs.Parts.{AnswersLines, LacksNext, LacksScript, LacksTree, OpensScript, replies_left}
-use Rattle.commands.specs.declared.status.Status.{Status}
-use Rattle.commands.specs.declared.refusal.Refusal.{Refusal}
-use Rattle.commands.specs.declared.refusal.Refusal.TheVariants.{ReadFault, Range, Memory}
+use Rattle.line_replies.specs.declared.status.Status.{Status}
+use Rattle.line_replies.specs.declared.refusal.Refusal.{Refusal}
+use Rattle.line_replies.specs.declared.refusal.Refusal.TheVariants.{ReadFault, Range, Memory}
+use Rattle.line_replies.proofs.Opening.{refused_start, session_over}
 use Rattle.commands.proofs.TwoParts.{continued, cut_again, err_again, refused, without_files}
 
 -- ---- work on a tree
-
-abbrev session_over : MetricsValue → TreeValue → SessionValue
-session_over metrics tree = record { tree = tree; metrics = metrics }
 
 -- no tree fails to be laid out for a read
 started_no_fault : (metrics : MetricsValue) (tree : TreeValue) → started metrics tree ≡ Err ReadFault → ⊥
@@ -348,24 +346,6 @@ unfolding answer
 refused_by_metrics asked f r h = ap (λ x. x >>= λ metrics. answer_with asked.job metrics f) h
 
 -- ---- the session of a tree
-
-pub in_range_started : (session : SessionValue) (metrics : MetricsValue) (tree : TreeValue)
-    → session ≡ session_over metrics tree → is_tree_in_range session.metrics session.tree ≡ true
-    → started metrics tree ≡ Ok session
-unfolding started
-in_range_started session metrics tree is e =
-    let fits : is_tree_in_range metrics tree ≡ true = (λ i. is_tree_in_range (sym is i).metrics (sym is i).tree) ∙ e in
-    ap (λ (fits : Bool). if fits then Ok (record { tree = tree; metrics = metrics }) else Err Range) fits ∙ ap Ok (sym is)
-
-out_of_range : (metrics : MetricsValue) (tree : TreeValue) → is_tree_in_range metrics tree ≡ false → started metrics tree ≡ Err Range
-unfolding started
-out_of_range metrics tree e = ap (λ (fits : Bool). if fits then Ok (record { tree = tree; metrics = metrics }) else Err Range) e
-
--- the refusal of a layout is the wanted one, or want of memory
-pub refused_start : (refused : LayRefusal) (metrics : MetricsValue) (tree : TreeValue) → (refused ≡ layout.Range → is_tree_in_range metrics tree ≡ false)
-    → GivesOr (started metrics tree) (Err (of_layout refused))
-refused_start layout.Range metrics tree h = inr (sym (out_of_range metrics tree (h refl)))
-refused_start layout.Memory metrics tree h = inl refl
 
 -- a session that was started, and what is made of it
 pub laid_out_of : (metrics : MetricsValue) (tree : TreeValue) (session : SessionValue) (result : Result Text Refusal)

@@ -1,15 +1,15 @@
 -- How the replies to the lines of a script make its output.
-use Rattle.std.proofs.Common.{◌≡◌, ◌⊎◌, inl, inr, ◌∙◌, ap, sym, refl, subst, ℕ, ◌+◌, zero, suc, ◌≤◌, ◌&&◌, nat_le, Bool, true, false, cond, List, [], ◌∷◌, ◌++◌, length, take, append_assoc, append-nil, add-one, arith, Option, Some, None}
+use Rattle.std.proofs.Common.{◌≡◌, ◌⊎◌, inl, inr, ◌∙◌, ap, sym, refl, subst, ℕ, ◌+◌, zero, suc, ◌≤◌, ◌&&◌, nat_le, Bool, true, false, cond, List, [], ◌∷◌, ◌++◌, length, take, append-nil, arith, Option, Some, None}
 use Rattle.std.proofs.Math.Seq.{take-append-add, take-append_seam}
 use Rattle.std.proofs.lemmas.List.{take-append-le}
-use Rattle.std.specs.Prelude.{Ok, Err}
+use Rattle.std.specs.Prelude.{Err}
 use Rattle.std.specs.List.{concat, list_all, take_while}
 use Rattle.std.proofs.lemmas.List.Sums.{take_while-cons}
 use Rattle.std.proofs.lemmas.Bool.Decides.{nat_tests}
 use Rattle.std.specs.Io.KnownBytes.{Appends}
 use Rattle.doc_io.specs.Causes.{InputsTold, Rose, SinkTold}
 use Rattle.doc_io.proofs.Known.{appends_both, kept_of_nothing}
-use Rattle.commands.specs.Responders.{Responder, all_replies, each_reply}
+use Rattle.line_replies.specs.Responders.{Responder, all_replies, each_reply}
 use Rattle.doc_io.specs.LineReader.{is_short}
 use Rattle.commands.specs.Script.{within, is_within}
 use Rattle.commands.specs.Parts.{Tells, status_of_stop}
@@ -17,8 +17,7 @@ use Rattle.commands.specs.Answer.{Text, replies_within, status_of_end}
 use Rattle.commands.specs.Ends.{Breaks, Delivers}
 use Rattle.commands.specs.declared.replies.Stop.{Stop}
 use Rattle.commands.specs.declared.replies.Stop.TheVariants as stop
-use Rattle.commands.specs.declared.status.Status.{Status}
-use Rattle.commands.specs.declared.status.Status.TheVariants.{ReadFault, WriteFault}
+use Rattle.line_replies.specs.declared.status.Status.TheVariants.{ReadFault, WriteFault}
 
 -- ---- limits
 

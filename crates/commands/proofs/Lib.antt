@@ -12,5 +12,4 @@ mod RepliesLaws
 mod CoordinateWords
 mod DigitWords
 mod Limits
-pub mod Histories
 mod Worked

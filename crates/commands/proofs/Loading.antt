@@ -1,5 +1,5 @@
 -- What a file's bytes, or the lack of them, make of an answer.
-use Rattle.std.proofs.Common.{◌≡◌, ◌⊎◌, inl, inr, ℕ, ◌<◌, ◌≤◌, List, [], length, refl, ap, sym, ◌∙◌, subst, Option, Some, None, IfSome, Bool, true, false, nat_lt, unwrap_or}
+use Rattle.std.proofs.Common.{◌≡◌, ◌⊎◌, inl, inr, ℕ, ◌<◌, ◌≤◌, List, [], length, refl, ap, sym, ◌∙◌, subst, Option, Some, None, IfSome, true, false, nat_lt, unwrap_or}
 use Rattle.std.specs.Prelude.{Result, Ok, Err, IsErrOf, IsSomeAnd, IsNone}
 use Rattle.std.specs.Option.{option_map}
 use Rattle.std.proofs.lemmas.Bool.{le-ltb, lt-ltb}
@@ -14,14 +14,13 @@ use Rattle.math_tree.specs.Reading.{tree_of}
 use Rattle.math_tree.specs.declared.fault.TreeFault.{TreeFault}
 use Rattle.serde_json.specs.Data.{Data}
 use Rattle.serde_json.specs.Read.{read}
-use Rattle.std.specs.Str.{IsUtf8, is_utf8}
-use Rattle.std.proofs.lemmas.Str.{IsUtf8-from_is_utf8, is_utf8-from_IsUtf8}
-use Rattle.commands.specs.Refusals.{of_reading}
+use Rattle.line_replies.specs.Refusals.{of_reading}
 use Rattle.tree_edits.specs.Commands.{json_in}
-use Rattle.commands.specs.Answer.{tree_limit, content, of_metrics_file, metrics_in, of_tree_file, tree_of_json, tree_in}
-use Rattle.commands.specs.Ends.{IsCut, GivesOr, Answers}
-use Rattle.commands.specs.declared.refusal.Refusal.{Refusal}
-use Rattle.commands.specs.declared.refusal.Refusal.TheVariants.{MetricsLong, TreeLong, TreeJson, ReadFault, Memory}
+use Rattle.commands.specs.Answer.{content}
+use Rattle.line_replies.specs.Opening.{tree_limit, of_metrics_file, metrics_in, of_tree_file, tree_of_json, tree_in, GivesOr}
+use Rattle.commands.specs.Ends.{IsCut, Answers}
+use Rattle.line_replies.specs.declared.refusal.Refusal.{Refusal}
+use Rattle.line_replies.specs.declared.refusal.Refusal.TheVariants.{MetricsLong, TreeLong, TreeJson, ReadFault, Memory}
 
 -- ---- a file's bytes
 
@@ -173,14 +172,3 @@ tree_read name bytes shown before after result reads is gives =
     read_whole tree_in tree_limit name before after bytes result reads
     (subst (λ w. GivesOr w result) (sym whole) gives)
     (λ fault. json_no_fault (json_in shown) (sym whole ∙ fault))
-
--- a text that `serde_json` reads, and bytes that have no reading
-pub json_of_text : (bytes : List ℕ) (value : Data) → IsUtf8 bytes → read bytes ≡ Some value → json_in bytes ≡ Some value
-json_of_text bytes value text is = let yes : is_utf8 bytes ≡ true = is_utf8-from_IsUtf8 bytes text in rw yes is
-
-pub no_json : (bytes : List ℕ) → (IsUtf8 bytes → read bytes ≡ None) → json_in bytes ≡ None
-no_json bytes none = by (is_utf8 bytes) refl
-  where
-    by : (text : Bool) → is_utf8 bytes ≡ text → json_in bytes ≡ None
-    by true text = rw text (none (IsUtf8-from_is_utf8 bytes text))
-    by false text = rw text refl

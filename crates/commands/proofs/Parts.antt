@@ -1,14 +1,14 @@
 -- A script that is selected, and what is delivered of it.
 use Rattle.std.proofs.Common.{◌≡◌, ◌⊎◌, inl, inr, ℕ, List, [], refl, sym, subst, arith, ◌≤◌, Option, Some, None, IfSome}
-use Rattle.std.specs.Prelude.{Result, Ok, Err, IsErrOf, IsNone, IsSomeAnd}
+use Rattle.std.specs.Prelude.{Result, Ok, Err, IsNone, IsSomeAnd}
 use Rattle.doc_io.specs.Causes.{Files, InputsTold, Rose, Selects, SinkTold}
 use Rattle.doc_io.specs.LineReader.{ReaderValue}
 use Rattle.commands.specs.Answer.{Text, status_of_end}
 use Rattle.commands.specs.Ends.{Breaks, Delivers, IsDelivered}
 use Rattle.commands.specs.Parts.{OpensScript, SelectsScript}
-use Rattle.commands.specs.declared.refusal.Refusal.{Refusal}
-use Rattle.commands.specs.declared.refusal.Refusal.TheVariants.{ReadFault, Memory}
-use Rattle.commands.specs.declared.status.Status.{Status}
+use Rattle.line_replies.specs.declared.refusal.Refusal.{Refusal}
+use Rattle.line_replies.specs.declared.refusal.Refusal.TheVariants.{ReadFault, Memory}
+use Rattle.line_replies.specs.declared.status.Status.{Status}
 
 -- the replies to a script may be cut short, also where a read failed since
 pub in_parts : (text : Text) (before mid after : InputsTold) (old new : SinkTold) (status : Status) → before.faults ≤ mid.faults

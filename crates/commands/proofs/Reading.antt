@@ -1,24 +1,24 @@
 -- How the lines that a reader gives are answered, where what is left is told and where it isn't.
-use Rattle.std.proofs.Common.{◌≡◌, ◌⊎◌, inl, inr, ◌∙◌, ap, sym, refl, subst, ℕ, ◌+◌, ◌-◌, zero, suc, ◌<◌, ◌≤◌, Bool, true, false, List, [], ◌∷◌, ◌++◌, length, take, append_assoc, append-nil, add-one, arith, Option, Some, None, IfSome}
+use Rattle.std.proofs.Common.{◌≡◌, ◌⊎◌, inl, inr, ◌∙◌, ap, sym, refl, subst, ℕ, ◌+◌, ◌-◌, suc, ◌<◌, ◌≤◌, Bool, true, false, List, [], ◌∷◌, ◌++◌, append_assoc, append-nil, arith, Option, Some, None, IfSome}
 use Rattle.std.specs.Prelude.{Result, Ok, Err, IsErrOf, IsSomeAnd}
 use Rattle.std.specs.List.{concat}
 use Rattle.std.specs.Option.{option_map}
 use Rattle.std.specs.Io.KnownBytes.{Appends, IsAtEnd}
-use Rattle.doc_io.specs.Causes.{InputsTold, Rose, SinkTold}
-use Rattle.doc_io.specs.LineReader.{GivesLine, ReaderValue, answer_of, behind_line, first_line, is_short, left_of, lines_of, most_lines}
+use Rattle.doc_io.specs.Causes.{InputsTold, SinkTold}
+use Rattle.doc_io.specs.LineReader.{GivesLine, ReaderValue, behind_line, first_line, is_short, left_of, lines_of, most_lines}
 use Rattle.doc_io.specs.declared.line_reader.Line.{Line}
 use Rattle.doc_io.specs.declared.line_reader.Line.TheVariants.{Whole, End}
 use Rattle.doc_io.specs.declared.line_reader.LineRefusal.{LineRefusal}
 use Rattle.doc_io.specs.declared.line_reader.LineRefusal.TheVariants as reading
 use Rattle.doc_io.proofs.Known.{appends_both}
 use Rattle.doc_io.proofs.LineLaws.{given_end, given_line, no_lines, refused_line, short_line}
-use Rattle.commands.specs.Responders.{Responder}
+use Rattle.line_replies.specs.Responders.{Responder}
 use Rattle.commands.specs.Answer.{Text, replies_within, status_of_end}
 use Rattle.commands.specs.Parts.{AnswersEach, AnswersLines, AnswersNext, ComesToLine, Tells, replies_left, status_of_stop, told_line}
 use Rattle.commands.specs.declared.replies.Stop.{Stop}
 use Rattle.commands.specs.declared.replies.Stop.TheVariants as stop
-use Rattle.commands.specs.declared.status.Status.{Status}
-use Rattle.commands.specs.declared.status.Status.TheVariants as status
+use Rattle.line_replies.specs.declared.status.Status.{Status}
+use Rattle.line_replies.specs.declared.status.Status.TheVariants as status
 use Rattle.commands.proofs.Continuing.{Continues, appends_nothing, breaks_at_read, closes, more_replies, no_replies, stopped_replies, stops}
 
 -- one part more behind others

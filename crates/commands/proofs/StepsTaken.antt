@@ -1,48 +1,29 @@
 -- The steps of lines, one after another, and of what stands before them.
-use Rattle.std.proofs.Common.{◌≡◌, ◌⊎◌, inl, inr, ◌∙◌, ap, sym, refl, subst, ℕ, ◌+◌, ◌-◌, zero, suc, Bool, true, false, List, [], ◌∷◌, ◌++◌, length, take, append_assoc, append-nil, arith, Option, Some, None, IfSome}
+use Rattle.std.proofs.Common.{◌≡◌, ◌⊎◌, inl, inr, ◌∙◌, ap, sym, refl, subst, ℕ, ◌+◌, ◌-◌, suc, Bool, true, false, List, [], ◌∷◌, ◌++◌, length, take, append_assoc, arith, Option, Some, None, IfSome}
 use Rattle.std.proofs.Math.Seq.{take-append_seam}
-use Rattle.std.specs.Prelude.{◌≢◌, Result, Ok, Err, IfErr, IsSome, IsSomeAnd, unwrap_or}
+use Rattle.std.specs.Prelude.{Result, Ok, Err, IsSome, IsSomeAnd, unwrap_or}
 use Rattle.std.specs.Option.{option_map}
 use Rattle.std.specs.Io.KnownBytes.{prepend_known}
 use Rattle.doc_io.specs.Causes.{Files, InputsTold}
-use Rattle.doc_io.specs.LineReader.{GivesLine, ReaderValue, behind_line, is_short, left_of, lines_of, most_lines}
+use Rattle.doc_io.specs.LineReader.{GivesLine, ReaderValue, behind_line, left_of, lines_of, most_lines}
 use Rattle.doc_io.specs.declared.line_reader.Line.TheVariants.{Whole}
 use Rattle.doc_io.proofs.LineLaws.{given_line, short_line}
 use Rattle.font_metrics.specs.Metrics.{MetricsValue}
 use Rattle.math_tree.specs.Trees.{TreeValue}
-use Rattle.tree_edits.specs.declared.edit.Edit.{Edit}
-use Rattle.tree_edits.specs.declared.edit.EditRefusal.{EditRefusal}
-use Rattle.kept_edits.specs.ByIds.{TakesNeeded}
 use Rattle.memo_tree.specs.Counted.{TakesVisits}
 use Rattle.edit_session.specs.Session.{SessionValue}
 use Rattle.commands.specs.Command.{Asked, Work}
-use Rattle.commands.specs.Answer.{content, metrics_in, started, tree_in}
+use Rattle.commands.specs.Answer.{content}
+use Rattle.line_replies.specs.Opening.{metrics_in, started, tree_in}
 use Rattle.commands.specs.Ends.{Answers, IsCut}
 use Rattle.commands.specs.Parts.{OpensScript}
-use Rattle.commands.specs.Responders.{LineSteps, Responder, TakesForLines, after_all}
+use Rattle.line_replies.specs.Responders.{LineSteps, Responder, TakesForLines, after_all}
 use Rattle.commands.specs.Script.{within}
-use Rattle.commands.specs.Steps.{TakesBehindStart, TakesForEdit, TakesForEdits, TakesForJob, TakesForLine, TakesForNext, TakesForRun, TakesForScript, TakesForWork, TakesOverMetrics, accepted_in, lines_left, script_lines, unless_refused}
-use Rattle.commands.specs.declared.refusal.Refusal.{Refusal}
+use Rattle.commands.specs.Steps.{TakesBehindStart, TakesForEdits, TakesForJob, TakesForNext, TakesForRun, TakesForScript, TakesForWork, TakesOverMetrics, lines_left, script_lines}
+use Rattle.line_replies.specs.declared.refusal.Refusal.{Refusal}
 use Rattle.commands.specs.declared.replies.Stop.{Stop}
 use Rattle.commands.proofs.TwoParts.{ok_is_not_cut}
 use Rattle.commands.proofs.Continuing.{within_more}
-
--- ---- one line
-
--- no step is none too many
-pub none_for_edit : (session : SessionValue) (edit : Option Edit) (from to : ℕ) → to ≡ from → TakesForEdit session edit from to
-none_for_edit session None from to none = none
-none_for_edit session (Some edit) from to none = record { pairs = []; steps = omega (arith, none); needed = tt; apart = tt }
-
-pub none_for_line : (session : SessionValue) (line : List ℕ) (from to : ℕ) → to ≡ from → TakesForLine session line from to
-none_for_line session line from to none = none_for_edit session (accepted_in session line) from to none
-
--- an edit of a session
-pub for_edit : (session : SessionValue) (edit : Edit) (reason : Option EditRefusal) (from to : ℕ) → (reason ≢ None → to ≡ from)
-    → (reason ≡ None → TakesNeeded session.metrics session.tree edit from to)
-    → TakesForEdit session (unless_refused reason edit) from to
-for_edit session edit None from to unlaid needed = needed refl
-for_edit session edit (Some reason) from to unlaid needed = unlaid (λ e. cc)
 
 -- ---- one line after another
 

@@ -3,10 +3,10 @@ use Rattle.std.proofs.Common.{◌≡◌, ◌⊎◌, inl, inr, refl, ap, sym, ◌
 use Rattle.std.specs.Prelude.{Result, Ok, Err, IsErrOf, IsSomeAnd, IsNone}
 use Rattle.std.specs.Option.{option_map}
 use Rattle.doc_io.specs.Causes.{Files, InputsTold}
-use Rattle.commands.specs.Answer.{◌>>=◌}
-use Rattle.commands.specs.Ends.{HasReadCause, IsCut, GivesOr, Answers}
-use Rattle.commands.specs.declared.refusal.Refusal.{Refusal}
-use Rattle.commands.specs.declared.refusal.Refusal.TheVariants.{ReadFault}
+use Rattle.line_replies.specs.Opening.{◌>>=◌, GivesOr}
+use Rattle.commands.specs.Ends.{HasReadCause, IsCut, Answers}
+use Rattle.line_replies.specs.declared.refusal.Refusal.{Refusal}
+use Rattle.line_replies.specs.declared.refusal.Refusal.TheVariants.{ReadFault}
 
 -- the same refusal, of another type of answer
 pub cut_again : {A B : Type 0} (r : Refusal) → IsCut {V = A} (Err r) → IsCut {V = B} (Err r)

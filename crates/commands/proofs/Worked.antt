@@ -2,7 +2,7 @@
 use Rattle.std.proofs.Common.{◌≡◌, ◌∙◌, ap, ℕ, pos, negsuc, List, [], ◌∷◌, ◌++◌, codes, Option, Some, None, refl, subst, lit≤, Bool, true, false}
 use Rattle.std.specs.Prelude.{⊤, Ok, Err, if◌then◌else◌}
 use Rattle.std.specs.Fmt.{digits}
-use Rattle.std.specs.Str.{bytes_eq}
+use Rattle.std.specs.Str.{bytes_eq, IsUtf8}
 use Rattle.std.proofs.lemmas.Str.{is_utf8-from_IsUtf8}
 use Rattle.serde_json.specs.Read.{read}
 use Rattle.doc_io.specs.Causes.{Files}
@@ -13,16 +13,14 @@ use Rattle.metrics_file.specs.Reading.{words_of, is_foreign, after, after_first,
 use Rattle.font_metrics.specs.Metrics.{MetricsValue, NamedGlyph}
 use Rattle.font_metrics.specs.Tables.{no_tables}
 use Rattle.math_tree.proofs.OnLiterals.{math_tree_on_literals}
-use Rattle.math_tree.specs.Trees.{TreeValue}
+use Rattle.math_tree.specs.Trees.{TreeValue, Listed, listed}
 use Rattle.math_tree.specs.declared.kind.Kind.{Kind}
 use Rattle.math_tree.specs.declared.kind.Kind.TheVariants.{Math, Mn}
 use Rattle.math_tree.specs.declared.node.Node.{Node}
 use Rattle.math_tree.specs.declared.node.Node.TheViews.{roll-Node}
 use Rattle.math_tree.specs.declared.node.Node.TheOpen.{Node-F}
 use Rattle.std.specs.Option.{option_and_then}
-use Rattle.std.specs.Str.{IsUtf8}
 use Rattle.math_tree.specs.Forms.{is_white_space}
-use Rattle.math_tree.specs.Trees.{Listed, listed}
 use Rattle.tree_edits.specs.Commands.{command_in, command_of, element_in, has_only, id_in, index_in, op_in, op_of, text_at, value_in}
 use Rattle.tree_edits.specs.Edits.{edited, first_refusal, refusal_of}
 use Rattle.tree_edits.specs.declared.command.Command.TheVariants.{Change}
@@ -33,20 +31,21 @@ use Rattle.tree_edits.proofs.Frames.{listed_out}
 use Rattle.edit_session.specs.Session.{SessionValue}
 use Rattle.doc_io.specs.LineReader.{is_short}
 use Rattle.commands.specs.Script.{within, is_within}
-use Rattle.commands.specs.Replies.{after_line, by_session, is_edited_in_range, replies, reply_by, reply_to, reply_to_command, reply_to_edit, text_of_reply, told_of}
-use Rattle.commands.specs.declared.reply.Cause.TheVariants.{NoCommand, Unmade}
-use Rattle.commands.specs.declared.reply.Reply.TheVariants.{Nothing, Refused}
-use Rattle.commands.specs.Steps.{TakesForEdit, TakesForLine, accepted_by, accepted_in, unless_refused}
+use Rattle.line_replies.specs.Replies.{after_line, by_session, is_edited_in_range, replies, reply_by, reply_to, reply_to_command, reply_to_edit, text_of_reply, told_of}
+use Rattle.line_replies.specs.declared.reply.Cause.TheVariants.{NoCommand, Unmade}
+use Rattle.line_replies.specs.declared.reply.Reply.TheVariants.{Nothing, Refused}
+use Rattle.line_replies.specs.EditSteps.{TakesForEdit, TakesForLine, accepted_by, accepted_in, unless_refused}
 use Rattle.commands.specs.Numerals.{coordinate_in, number_in as numeral_in}
 use Rattle.queries.specs.declared.query.Query.TheVariants.{Hit, Select}
 use Rattle.commands.specs.Command.{asked_by, Asked, OverTree, Generates, Edits, Checks, Asks}
-use Rattle.commands.specs.Responders.{TakesForLines}
-use Rattle.commands.specs.Answer.{metrics_in, tree_of_json, tree_in, output_of, output}
+use Rattle.line_replies.specs.Responders.{TakesForLines}
+use Rattle.commands.specs.Answer.{output_of, output}
+use Rattle.line_replies.specs.Opening.{metrics_in, tree_of_json, tree_in}
 use Rattle.commands.proofs.Loading.{tree_short}
 use Rattle.commands.proofs.Answering.{refused_by_metrics}
 use Rattle.commands.proofs.RepliesLaws.{unchanged}
-use Rattle.commands.specs.declared.status.Status.TheVariants.{Usage, Metrics as MetricsStatus}
-use Rattle.commands.specs.declared.refusal.Refusal.TheVariants.{Metrics, Tree, TreeJson}
+use Rattle.line_replies.specs.declared.status.Status.TheVariants.{Usage, Metrics as MetricsStatus}
+use Rattle.line_replies.specs.declared.refusal.Refusal.TheVariants.{Metrics, Tree, TreeJson}
 
 -- what the definitions are computed by, from literals
 unfoldable on_literals : ⊤

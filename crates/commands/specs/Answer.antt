@@ -1,18 +1,12 @@
 -- What the program answers to a command, where the files are told: the table of its endings.
-use Rattle.std.specs.Prelude.{ℕ, Bool, true, false, List, [], ◌∷◌, ◌++◌, length, nat_lt, if◌then◌else◌, Option, Some, None, Result, Ok, Err, unwrap_or}
-use Rattle.serde_json.specs.Data.{Data}
+use Rattle.std.specs.Prelude.{ℕ, Bool, true, false, List, [], ◌∷◌, ◌++◌, Option, Some, None, Result, Ok, Err, unwrap_or}
 use Rattle.doc_io.specs.Causes.{Files}
 use Rattle.doc_io.specs.LineReader.{most_lines, lines_of}
 use Rattle.font_metrics.specs.Metrics.{MetricsValue}
 use Rattle.metrics_file.specs.Print.{print_of as metrics_print}
-use Rattle.metrics_file.specs.Reading.{Fault, metrics_of, most_file_bytes}
 use Rattle.metrics_file.specs.Reads.{told}
 use Rattle.math_tree.specs.Print.{print_of as tree_print}
-use Rattle.math_tree.specs.Reading.{tree_of}
 use Rattle.math_tree.specs.Trees.{TreeValue}
-use Rattle.math_tree.specs.declared.fault.TreeFault.{TreeFault}
-use Rattle.tree_edits.specs.Commands.{json_in}
-use Rattle.layout_model.specs.Layout.{is_tree_in_range}
 use Rattle.box_writer.specs.Lines.{text_of}
 use Rattle.edit_session.specs.Session.{SessionValue, page}
 use Rattle.generator.specs.Generated.{generated}
@@ -23,50 +17,18 @@ use Rattle.queries.specs.declared.query.Query.{Query}
 use Rattle.queries.specs.declared.query.QueryRefusal.{QueryRefusal}
 use Rattle.commands.specs.Command.{Asked, Job, OverTree, Generates, Work, LaysOut, Edits, Checks, Asks, usage_line, Remembers}
 use Rattle.commands.specs.Script.{within, is_within}
-use Rattle.commands.specs.Replies.{by_session}
-use Rattle.commands.specs.Refusals.{line_of, of_query, status_of}
-use Rattle.commands.specs.Responders.{Responder, all_replies, each_reply}
-use Rattle.commands.specs.HistorySteps.{by_history, kept_at_first}
-use Rattle.commands.specs.declared.status.Status.{Status}
-use Rattle.commands.specs.declared.status.Status.TheVariants.{Done, Usage, ScriptLimit}
-use Rattle.commands.specs.declared.refusal.Refusal.{Refusal}
-use Rattle.commands.specs.declared.refusal.Refusal.TheVariants.{MetricsLong, Metrics, TreeLong, TreeJson, Tree, Range}
-
--- ---- the two files
-
--- the most bytes that a tree file may have: 4 MiB
-abbrev pub tree_limit : ℕ
-tree_limit = 4194304
+use Rattle.line_replies.specs.Opening.{◌>>=◌, metrics_in, started, tree_in}
+use Rattle.line_replies.specs.Replies.{by_session}
+use Rattle.line_replies.specs.Refusals.{line_of, of_query, status_of}
+use Rattle.line_replies.specs.Responders.{Responder, all_replies, each_reply}
+use Rattle.line_replies.specs.HistorySteps.{by_history, kept_at_first}
+use Rattle.line_replies.specs.declared.status.Status.{Status}
+use Rattle.line_replies.specs.declared.status.Status.TheVariants.{Done, Usage, ScriptLimit}
+use Rattle.line_replies.specs.declared.refusal.Refusal.{Refusal}
 
 -- a file that isn't there counts as empty
 abbrev pub content : Files → List ℕ → List ℕ
 content files name = unwrap_or (files name) []
-
--- the metrics, or their first fault as it is told
-abbrev pub of_metrics_file : Result MetricsValue Fault → Result MetricsValue Refusal
-of_metrics_file (Ok metrics) = Ok metrics
-of_metrics_file (Err fault) = Err (Metrics (told fault))
-
--- the metrics of a file's bytes
-unfoldable pub metrics_in : List ℕ → Result MetricsValue Refusal
-metrics_in bytes =
-    if nat_lt most_file_bytes (length bytes) then Err MetricsLong
-    else of_metrics_file (metrics_of bytes)
-
--- the tree, or its first fault
-abbrev pub of_tree_file : Result TreeValue TreeFault → Result TreeValue Refusal
-of_tree_file (Ok tree) = Ok tree
-of_tree_file (Err fault) = Err (Tree fault)
-
-abbrev pub tree_of_json : Option Data → Result TreeValue Refusal
-tree_of_json None = Err TreeJson
-tree_of_json (Some value) = of_tree_file (tree_of value)
-
--- the tree of a file's bytes
-unfoldable pub tree_in : List ℕ → Result TreeValue Refusal
-tree_in bytes =
-    if nat_lt tree_limit (length bytes) then Err TreeLong
-    else tree_of_json (json_in bytes)
 
 -- ---- the text of an answer
 
@@ -94,29 +56,6 @@ abbrev pub answers_to : (R : Responder) → R.Known → List ℕ → Text
 answers_to R known script = replies_within R most_lines known (lines_of script)
 
 -- ---- the answer
-
-infixl 10 ◌>>=◌
-abbrev pub ◌>>=◌ : {A B : Type 0} → Result A Refusal → (A → Result B Refusal) → Result B Refusal
-Ok value >>= next = next value
-Err refusal >>= next = Err refusal
-
--- the session with which work on a tree begins, unless a number of the layout can't be stored
-unfoldable pub started : MetricsValue → TreeValue → Result SessionValue Refusal
-started metrics tree =
-    if is_tree_in_range metrics tree then Ok (record { tree = tree; metrics = metrics })
-    else Err Range
-
--- the session with which work begins, by these metrics and the bytes of a tree file
-abbrev pub opened_over : MetricsValue → List ℕ → Result SessionValue Refusal
-opened_over metrics tree_bytes = do
-  tree ← tree_in tree_bytes
-  started metrics tree
-
--- the same by the bytes of both files
-abbrev pub opened : List ℕ → List ℕ → Result SessionValue Refusal
-opened metrics_bytes tree_bytes = do
-  metrics ← metrics_in metrics_bytes
-  opened_over metrics tree_bytes
 
 -- the lines of the boxes and marks of the tree, whose baseline begins at (0, 0)
 abbrev pub lines_of_page : SessionValue → List ℕ

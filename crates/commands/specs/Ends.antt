@@ -5,11 +5,13 @@ use Rattle.std.specs.Io.KnownBytes.{Appends, IsAtEnd, Keeps}
 use Rattle.doc_io.specs.Causes.{Files, InputsTold, Rose, SinkTold}
 use Rattle.edit_session.specs.Session.{SessionValue}
 use Rattle.commands.specs.Command.{Asked, Job, OverTree, Generates, Work, LaysOut, Edits, Checks, Asks, usage_line, Remembers}
-use Rattle.commands.specs.Answer.{Output, Text, ◌>>=◌, content, metrics_in, tree_in, started, output, output_of, parts_asked, parts_of}
-use Rattle.commands.specs.declared.status.Status.{Status}
-use Rattle.commands.specs.declared.status.Status.TheVariants.{Done, Usage, Metrics, Tree, ReadFault, WriteFault, Memory}
-use Rattle.commands.specs.declared.refusal.Refusal.{Refusal}
-use Rattle.commands.specs.declared.refusal.Refusal.TheVariants as refusal
+use Rattle.commands.specs.Answer.{Text, content, output, output_of, parts_asked, parts_of}
+use Rattle.line_replies.specs.Opening.{◌>>=◌, GivesOr, metrics_in, started, tree_in}
+use Rattle.line_replies.specs.Status.{EndsBeforeTree, EndsUnlaid}
+use Rattle.line_replies.specs.declared.status.Status.{Status}
+use Rattle.line_replies.specs.declared.status.Status.TheVariants.{Done, Usage, ReadFault, WriteFault, Memory}
+use Rattle.line_replies.specs.declared.refusal.Refusal.{Refusal}
+use Rattle.line_replies.specs.declared.refusal.Refusal.TheVariants as refusal
 
 -- ---- which files are reached
 
@@ -60,10 +62,6 @@ HasReadCause lacks before after =
 -- a read failed, or memory was refused
 abbrev pub IsCut : {V : Type 0} → Result V Refusal → Type 0
 IsCut result = IsErrOf result refusal.ReadFault ⊎ IsErrOf result refusal.Memory
-
--- the wanted answer, or want of memory
-abbrev pub GivesOr : {V : Type 0} → Result V Refusal → Result V Refusal → Type 0
-GivesOr wanted result = IsErrOf result refusal.Memory ⊎ (result ≡ wanted)
 
 -- the wanted answer, or the reason why it was cut short
 pub record Answers {V : Type 0} (wanted : Option (Result V Refusal)) (lacks : Files → Type 0)
@@ -189,18 +187,6 @@ pub record Ends (asked : Option Asked) (before after : InputsTold) (old new : Si
   pub write_faults : old.faults ≤ new.faults
 
 -- ---- steps
-
--- the run ended before there was a tree
-abbrev pub EndsBeforeTree : Status → Type 0
-EndsBeforeTree Usage = Unit {0}
-EndsBeforeTree Metrics = Unit {0}
-EndsBeforeTree Tree = Unit {0}
-EndsBeforeTree other = ⊥
-
--- the run ended before any tree was laid out
-abbrev pub EndsUnlaid : Status → Type 0
-EndsUnlaid ReadFault = Unit {0}
-EndsUnlaid other = EndsBeforeTree other
 
 -- work that lays out no tree, or that ended before; the read of a script comes behind it
 abbrev pub StepsStand : Work → Status → Type 0

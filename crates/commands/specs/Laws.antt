@@ -1,14 +1,14 @@
 -- What holds of the replies to all scripts.
-use Rattle.std.specs.Prelude.{◌≡◌, ◌↔◌, ℕ, true, List, [], ◌∷◌, ◌++◌, Some, None}
+use Rattle.std.specs.Prelude.{◌≡◌, ◌↔◌, ℕ, true, List, ◌∷◌, ◌++◌, Some, None}
 use Rattle.tree_edits.specs.Commands.{command_in}
 use Rattle.tree_edits.specs.Edits.{refusal_of}
 use Rattle.tree_edits.specs.declared.command.Command.TheVariants.{Change}
 use Rattle.tree_edits.specs.declared.edit.Edit.{Edit}
 use Rattle.edit_session.specs.Session.{SessionValue, edited_session}
 use Rattle.generator.specs.Folded.{after_edit, is_accepted}
-use Rattle.commands.specs.Responders.{after_all}
-use Rattle.commands.specs.Replies.{after_line, after_reply, by_session, is_edited_in_range, replies, reply_to, reply_to_edit, told_of}
-use Rattle.commands.specs.declared.reply.Reply.TheVariants.{Accepted}
+use Rattle.line_replies.specs.Responders.{after_all}
+use Rattle.line_replies.specs.Replies.{after_line, after_reply, by_session, is_edited_in_range, replies, reply_to, reply_to_edit, told_of}
+use Rattle.line_replies.specs.declared.reply.Reply.TheVariants.{Accepted}
 
 -- a line that isn't answered by `ok` leaves the session as it was
 abbrev pub UnchangedLaw : Type 0

@@ -1,14 +1,6 @@
-pub mod Status
-pub mod Refusals
 pub mod Numerals
 pub mod Command
 pub mod Script
-pub mod Responders
-pub mod Replies
-pub mod EditSteps
-pub mod History
-pub mod HistorySteps
-pub mod HistoryParts
 pub mod Answer
 pub mod Ends
 pub mod Parts

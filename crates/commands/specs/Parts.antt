@@ -10,16 +10,17 @@ use Rattle.doc_io.specs.declared.line_reader.LineRefusal.{LineRefusal}
 use Rattle.doc_io.specs.declared.line_reader.LineRefusal.TheVariants as reading
 use Rattle.font_metrics.specs.Metrics.{MetricsValue}
 use Rattle.math_tree.specs.Trees.{TreeValue}
-use Rattle.commands.specs.Responders.{Responder}
-use Rattle.commands.specs.Answer.{Text, content, replies_within, started, status_of_end, tree_in}
+use Rattle.line_replies.specs.Responders.{Responder}
+use Rattle.commands.specs.Answer.{Text, content, replies_within, status_of_end}
+use Rattle.line_replies.specs.Opening.{started, tree_in}
 use Rattle.commands.specs.Command.{Job, OverTree, Generates, Work, LaysOut, Edits, Checks, Asks, Remembers}
 use Rattle.commands.specs.Ends.{Breaks, Delivers, HasReadCause, IsCut}
-use Rattle.commands.specs.declared.refusal.Refusal.{Refusal}
-use Rattle.commands.specs.declared.refusal.Refusal.TheVariants.{ReadFault}
+use Rattle.line_replies.specs.declared.refusal.Refusal.{Refusal}
+use Rattle.line_replies.specs.declared.refusal.Refusal.TheVariants.{ReadFault}
 use Rattle.commands.specs.declared.replies.Stop.{Stop}
 use Rattle.commands.specs.declared.replies.Stop.TheVariants as stop
-use Rattle.commands.specs.declared.status.Status.{Status}
-use Rattle.commands.specs.declared.status.Status.TheVariants as ending
+use Rattle.line_replies.specs.declared.status.Status.{Status}
+use Rattle.line_replies.specs.declared.status.Status.TheVariants as ending
 
 -- ---- files that aren't there
 

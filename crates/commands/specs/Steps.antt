@@ -1,42 +1,24 @@
 -- How many steps a run takes: those of the first layout, and those of each line of a script.
-use Rattle.std.specs.Prelude.{◌≡◌, ◌⊎◌, ℕ, ◌-◌, Bool, true, false, List, [], ◌∷◌, take, if◌then◌else◌, Option, Some, None, IfSome, Result, Ok, Err, IfErr}
+use Rattle.std.specs.Prelude.{◌≡◌, ◌⊎◌, ℕ, ◌-◌, Bool, true, false, List, take, Option, Some, None, IfSome, Result, Ok, Err, IfErr}
 use Rattle.std.specs.Option.{option_map}
 use Rattle.doc_io.specs.Causes.{Files, InputsTold}
 use Rattle.doc_io.specs.LineReader.{GivesLine, ReaderValue, left_of, lines_of, most_lines}
 use Rattle.doc_io.specs.declared.line_reader.Line.TheVariants.{Whole}
 use Rattle.font_metrics.specs.Metrics.{MetricsValue}
-use Rattle.math_tree.specs.Forms.{is_white_space}
 use Rattle.math_tree.specs.Trees.{TreeValue}
-use Rattle.tree_edits.specs.Commands.{command_in}
-use Rattle.tree_edits.specs.Edits.{refusal_of}
-use Rattle.tree_edits.specs.declared.command.Command.{Command}
-use Rattle.tree_edits.specs.declared.command.Command.TheVariants.{Show, Change}
-use Rattle.tree_edits.specs.declared.edit.Edit.{Edit}
-use Rattle.tree_edits.specs.declared.edit.EditRefusal.{EditRefusal}
-use Rattle.kept_edits.specs.ByIds.{TakesNeeded}
 use Rattle.memo_tree.specs.Counted.{TakesVisits}
 use Rattle.edit_session.specs.Session.{SessionValue}
 use Rattle.generator.specs.Steps.{TakesForRun as TakesForGenerated}
 use Rattle.commands.specs.Command.{Asked, Job, OverTree, Generates, Work, LaysOut, Edits, Checks, Asks, Remembers}
-pub use Rattle.commands.specs.EditSteps.{TakesForEdit, accepted_by, unless_refused}
-use Rattle.commands.specs.HistorySteps.{TakesForKept, by_history, kept_at_first}
+use Rattle.line_replies.specs.EditSteps.{TakesForLine}
+use Rattle.line_replies.specs.HistorySteps.{TakesForKept, by_history, kept_at_first}
 use Rattle.commands.specs.Script.{within}
-use Rattle.commands.specs.Responders.{LineSteps, Responder, TakesForLines}
-use Rattle.commands.specs.Replies.{by_session}
-use Rattle.commands.specs.Answer.{content, metrics_in, started, tree_in}
-use Rattle.commands.specs.declared.refusal.Refusal.{Refusal}
+use Rattle.line_replies.specs.Responders.{LineSteps, Responder, TakesForLines}
+use Rattle.line_replies.specs.Replies.{by_session}
+use Rattle.commands.specs.Answer.{content}
+use Rattle.line_replies.specs.Opening.{metrics_in, started, tree_in}
+use Rattle.line_replies.specs.declared.refusal.Refusal.{Refusal}
 use Rattle.commands.specs.declared.replies.Stop.{Stop}
-
--- ---- one line
-
--- the edit that a line asks for, where the tree has no reason to refuse it
-unfoldable pub accepted_in : SessionValue → List ℕ → Option Edit
-accepted_in session line =
-    if is_white_space line then None else accepted_by session (command_in line)
-
--- the steps of a line
-abbrev pub TakesForLine : SessionValue → List ℕ → ℕ → ℕ → Type 0
-TakesForLine session line from to = TakesForEdit session (accepted_in session line) from to
 
 -- the steps of the next line that a reader gives, if it gives one
 pub record TakesForNext (R : Responder) (Takes : LineSteps R) (known : R.Known)

@@ -8,29 +8,21 @@
 //! - Models: words, lines, replies and statuses, which are own.
 //! - Proved: `run` ends as `Ends` says (`specs/Ends.antt`): with the bytes and the status of
 //!   `output` (`specs/Answer.antt`), or cut short for a cause. Of `edit` these bytes are `replies`
-//!   (`specs/Replies.antt`), each over the tree as edited so far.
+//!   (`specs/Replies.antt` of `line_replies`), each over the tree as edited so far.
 //! - Knows nothing of: the system; how a metrics file, a tree or a line of a script is read, how a
 //!   tree is laid out, and what an edit makes of it.
-//! - Change what is answered: `specs/Answer.antt`; to a line of a script: `specs/Replies.antt`;
-//!   then the file of `src/` below, then `rt check`.
+//! - Change what is answered: `specs/Answer.antt`, then the file of `src/` below, then `rt check`;
+//!   to a line of a script: the crate `line_replies`.
 #![tactic(auto)]
 
 mod command; // the words of the command line
 pub mod laws; // of all scripts
-pub mod history; // the lines of a script whose edits can be undone
 mod load; // the files
 mod numerals; // numbers among the words
-mod opening; // a session of two files' bytes
 mod program; // the top call
 mod query; // what is asked of a page
-mod refusal; // why the answer is another
 mod replies; // the lines of a script, one after another
-mod reply; // to one line
-mod script; // white space
-mod status; // how a run ends
+mod responders; // what answers them: a session, and a ring of edits
 
-pub use opening::{metrics_in, open, open_tree};
+pub use line_replies::Status;
 pub use program::run;
-pub use refusal::Refusal;
-pub use reply::{Cause, Reply, reply_to};
-pub use status::Status;

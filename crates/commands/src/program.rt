@@ -6,21 +6,22 @@ ghost use Rattle.box_writer.specs.Lines.{text_of};
 ghost use Rattle.queries.specs.Queries.{IsWritable, bytes_of};
 ghost use Rattle.generator.specs.Steps.{TakesForRun as TakesForGenerated};
 ghost use Rattle.generator.specs.Summary.{lines_of};
-ghost use Rattle.commands.specs.Command.{IsInLimits, IsWorkInLimits, asked_by, asked_of, work_of, LaysOut, Edits, Remembers};
-ghost use Rattle.commands.specs.Answer.{answer, answer_over, answered, asked_of_page, checked, done, generates, laid_out, lines_of_page, scripted, started, whole_text};
-ghost use Rattle.commands.specs.Ends.{Answered, AnsweredJob, Delivers, Ends, EndsBeforeTree, EndsUnlaid, GivesOr, IsJobInParts, JobStepsStand, LacksFile, StepsStand, TakesNoSteps, Written};
+ghost use Rattle.commands.specs.Command.{IsInLimits, IsWorkInLimits, asked_by, asked_of, work_of, Edits, Remembers};
+ghost use Rattle.commands.specs.Answer.{answer, answer_over, answered, asked_of_page, checked, done, generates, laid_out, lines_of_page, scripted, whole_text};
+ghost use Rattle.line_replies.specs.Opening.{started, GivesOr};
+ghost use Rattle.commands.specs.Ends.{Answered, AnsweredJob, Delivers, Ends, IsJobInParts, JobStepsStand, LacksFile, StepsStand, TakesNoSteps, Written};
+ghost use Rattle.line_replies.specs.Status.{EndsBeforeTree, EndsUnlaid};
 ghost use Rattle.commands.specs.Parts.{LacksScript, LacksTree};
-ghost use Rattle.commands.specs.Steps.{TakesForEdits, TakesForLine, TakesForRun, TakesForScript, TakesForWork, TakesOverMetrics, script_lines};
-ghost use Rattle.commands.specs.HistorySteps.{TakesForKept, by_history, kept_at_first, new_ring, ring_of};
-ghost use Rattle.commands.specs.Replies.{by_session};
-ghost use Rattle.commands.specs.Refusals.{line_of, status_of};
+ghost use Rattle.commands.specs.Steps.{TakesForEdits, TakesForRun, TakesForScript, TakesForWork, TakesOverMetrics, script_lines};
+ghost use Rattle.line_replies.specs.EditSteps.{TakesForLine};
+ghost use Rattle.line_replies.specs.HistorySteps.{TakesForKept, by_history, kept_at_first, new_ring, ring_of};
+ghost use Rattle.line_replies.specs.Replies.{by_session};
+ghost use Rattle.line_replies.specs.Refusals.{line_of, status_of};
 ghost use Rattle.edit_session.specs.Session.{SessionValue};
 
 use crate::command::{Job, NoCommand, Request, Task, USAGE};
 use crate::load::{load_metrics, load_tree, open_script};
-use crate::refusal::Refusal;
 use crate::replies::{Respond, answer_lines};
-use crate::status::Status;
 use box_writer::{Placed, write_placed};
 use doc_io::{Inputs, Sink, write_all};
 use edit_ring::Ring;
@@ -28,6 +29,7 @@ use edit_session::Session;
 use fixed_units::{List, Memory, Steps};
 use font_metrics::Metrics;
 use generator::{Summary, generate};
+use line_replies::{Refusal, Status, start};
 use math_tree::Tree;
 use metrics_file::print_metrics;
 use queries::{Answer, Query, answer_query};
@@ -330,24 +332,6 @@ fn start_ring<L: Ledger>(
     match Ring::make(alloc, Undoable { session }, depth as usize) {
         Ok(ring) => Ok(ring),
         Err(Memory) => Err(Refusal::Memory),
-    }
-}
-
-/// The session of a tree that is laid out.
-pub(crate) fn start<L: Ledger>(
-    alloc: Global,
-    metrics: Metrics,
-    tree: Tree,
-    steps: &mut Steps<L>,
-) -> Result<Session, Refusal>
-    ensures session { IfOk result (λ session. started metrics tree ≡ Ok session.held) }
-    ensures refused { IfErr result (λ refusal. GivesOr (started metrics tree) (Err refusal)) }
-    ensures late { IfErr result (λ refusal. ¬ EndsUnlaid (status_of refusal)) }
-    ensures taken { TakesVisits metrics tree steps.old steps.new }
-{
-    match Session::start(alloc, tree, metrics, steps) {
-        Ok(session) => Ok(session),
-        Err(refusal) => Err(Refusal::of_layout(refusal)),
     }
 }
 

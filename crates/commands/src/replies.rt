@@ -1,12 +1,12 @@
 ghost use Rattle.std.specs.Prelude.{◌≡◌, OnOk};
 ghost use Rattle.commands.specs.Parts.{AnswersEach, AnswersLines, AnswersNext, ComesToLine, Tells, status_of_stop, stop_of};
-ghost use Rattle.commands.specs.Responders.{LineSteps, Responder};
+ghost use Rattle.line_replies.specs.Responders.{LineSteps, Responder};
 ghost use Rattle.commands.specs.Steps.{TakesForNext, TakesForScript, lines_left};
 
-use crate::status::Status;
 use command_reader::CommandReader;
 use doc_io::{Inputs, Line, LineReader, LineRefusal, Sink, WriteFault};
 use fixed_units::{Memory, Steps};
+use line_replies::Status;
 use std::alloc::Global;
 use std::sync::ledger::Ledger;
 
@@ -152,7 +152,7 @@ impl Stop {
 
 impl From<WriteFault> for Stop {
     ghost use Rattle.std.specs.Prelude.{◌≡◌};
-    ghost use Rattle.commands.specs.declared.replies.Stop.TheVariants.{WriteFault as NotWritten};
+    ghost use Rattle.commands.specs.declared.replies.Stop.TheVariants.{WriteFault as NotWritten, Memory as NoMemory};
 
     ghost from_gives = { λ _ stop. stop ≡ NotWritten };
 
@@ -162,9 +162,6 @@ impl From<WriteFault> for Stop {
 }
 
 impl From<Memory> for Stop {
-    ghost use Rattle.std.specs.Prelude.{◌≡◌};
-    ghost use Rattle.commands.specs.declared.replies.Stop.TheVariants.{Memory as NoMemory};
-
     ghost from_gives = { λ _ stop. stop ≡ NoMemory };
 
     fn from(_: Memory) -> Self {

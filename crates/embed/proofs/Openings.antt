@@ -1,11 +1,10 @@
 -- A start over metrics, and an opening over the bytes of which they were read.
-use Rattle.std.proofs.Common.{◌≡◌, ◌≢◌, ◌↔◌, ◌∙◌, sym, ap, ℕ, List, Option, Some, None}
-use Rattle.std.specs.Prelude.{Result, Ok, Err}
+use Rattle.std.proofs.Common.{◌≡◌, ◌≢◌, ◌∙◌, sym, ap, ℕ, List, Some, None}
+use Rattle.std.specs.Prelude.{Result, Ok}
 use Rattle.std.proofs.lemmas.Option.{none-some}
 use Rattle.font_metrics.specs.Metrics.{MetricsValue}
-use Rattle.edit_session.specs.Session.{SessionValue}
-use Rattle.commands.specs.Answer.{◌>>=◌, metrics_in, opened, opened_over}
-use Rattle.commands.specs.declared.refusal.Refusal.{Refusal}
+use Rattle.line_replies.specs.Opening.{◌>>=◌, metrics_in, opened, opened_over}
+use Rattle.line_replies.specs.declared.refusal.Refusal.{Refusal}
 use Rattle.embed.specs.Calls.{Opens, Seen, Starts}
 use Rattle.embed.specs.Desks.{DeskValue}
 use Rattle.embed.specs.Laws.{StartedLaw}

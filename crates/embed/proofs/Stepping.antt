@@ -1,6 +1,6 @@
 -- What a call of a ring makes of what its desk keeps.
 use Rattle.std.proofs.Common.{◌≡◌, ◌≢◌, ◌∙◌, sym, ap, refl, subst, ℕ, List, Option, Some, None}
-use Rattle.std.specs.Prelude.{Result, Ok, Err, IfOk, OnOk, OnErr, IfSome}
+use Rattle.std.specs.Prelude.{Result, Ok, Err, OnOk, OnErr, IfSome}
 use Rattle.std.specs.Option.{option_map}
 use Rattle.std.proofs.lemmas.Option.{none-some}
 use Rattle.font_metrics.specs.Metrics.{MetricsValue}
@@ -19,12 +19,12 @@ use Rattle.queries.specs.declared.query.Query.{Query}
 use Rattle.queries.specs.declared.query.QueryRefusal.{QueryRefusal}
 use Rattle.session_ring.specs.Undoable.{told}
 use Rattle.session_ring.specs.declared.moves.Move.TheVariants.{Other}
-use Rattle.commands.specs.History.{reply_by_move, reply_to, session_in}
-use Rattle.commands.specs.HistoryParts.{Makes, kept_after_move}
-use Rattle.commands.specs.HistorySteps.{kept_after, kept_by}
-use Rattle.commands.specs.Replies.{IsReplyOfFont, text_of_reply}
-use Rattle.commands.specs.declared.reply.Reply.{Reply}
-use Rattle.commands.proofs.Histories.{Keeps, back_keeps, forth_keeps, history_keeps}
+use Rattle.line_replies.specs.History.{reply_by_move, reply_to, session_in}
+use Rattle.line_replies.specs.HistoryParts.{Makes, kept_after_move}
+use Rattle.line_replies.specs.HistorySteps.{kept_after, kept_by}
+use Rattle.line_replies.specs.Replies.{IsReplyOfFont, text_of_reply}
+use Rattle.line_replies.specs.declared.reply.Reply.{Reply}
+use Rattle.line_replies.proofs.Histories.{Keeps, back_keeps, forth_keeps, history_keeps}
 use Rattle.embed.specs.Desks.{DeskValue, IsAnswered, IsOfFont, after, redone, shown, text_of, undone, with_history}
 use Rattle.embed.specs.declared.kept_reply.KeptReply.{KeptReply}
 use Rattle.embed.specs.declared.kept_reply.KeptReply.TheVariants.{Line, Page}

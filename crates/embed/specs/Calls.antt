@@ -8,10 +8,10 @@ use Rattle.edit_session.specs.Session.{root_box}
 use Rattle.queries.specs.Queries.{IsCause, answer_to}
 use Rattle.queries.specs.declared.query.Query.{Query}
 use Rattle.queries.specs.declared.query.QueryRefusal.{QueryRefusal}
-use Rattle.commands.specs.Answer.{metrics_in, opened, opened_over}
-use Rattle.commands.specs.History.{session_in}
-use Rattle.commands.specs.Refusals.{line_of, of_query}
-use Rattle.commands.specs.declared.refusal.Refusal.TheVariants.{NoNode, Memory as NoMemory}
+use Rattle.line_replies.specs.Opening.{metrics_in, opened, opened_over}
+use Rattle.line_replies.specs.History.{session_in}
+use Rattle.line_replies.specs.Refusals.{line_of, of_query}
+use Rattle.line_replies.specs.declared.refusal.Refusal.TheVariants.{NoNode, Memory as NoMemory}
 use Rattle.embed.specs.Desks.{DeskValue, IsAnswered, IsOpened, IsStarted, after, element_at, shown}
 use Rattle.embed.specs.Frames.{frame_of}
 use Rattle.embed.specs.Kept.{Becomes, Keeps}

@@ -9,11 +9,11 @@ use Rattle.hit_test.specs.Hits.{holding, id_of_box, last_of}
 use Rattle.queries.specs.Queries.{IsWritable, answer_to, bytes_of}
 use Rattle.queries.specs.declared.query.Query.{Query}
 use Rattle.session_ring.specs.declared.undoable.Undoable.{Undoable}
-use Rattle.commands.specs.Answer.{opened, opened_over}
-use Rattle.commands.specs.History.{Remembered, after_line, remembered, session_in, told_of}
-use Rattle.commands.specs.HistorySteps.{kept_by, ring_of}
-use Rattle.commands.specs.Replies.{IsReplyOfFont, text_of_reply}
-use Rattle.commands.specs.declared.reply.Reply.TheVariants.{Shown}
+use Rattle.line_replies.specs.Opening.{opened, opened_over}
+use Rattle.line_replies.specs.History.{Remembered, after_line, remembered, session_in, told_of}
+use Rattle.line_replies.specs.HistorySteps.{kept_by, ring_of}
+use Rattle.line_replies.specs.Replies.{IsReplyOfFont, text_of_reply}
+use Rattle.line_replies.specs.declared.reply.Reply.TheVariants.{Shown}
 use Rattle.embed.specs.declared.kept_reply.KeptReply.{KeptReply}
 use Rattle.embed.specs.declared.kept_reply.KeptReply.TheVariants.{Line, Page}
 

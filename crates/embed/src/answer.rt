@@ -1,7 +1,7 @@
 ghost use Rattle.std.specs.Prelude.{◌≡◌};
 ghost use Rattle.embed.specs.Status.{number_of};
 
-use commands::{Refusal, Status};
+use line_replies::{Refusal, Status};
 
 /// What a call answers.
 #[derive(Clone, Copy, Debug, PartialEq, Eq)]

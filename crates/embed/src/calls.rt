@@ -1,6 +1,5 @@
 ghost use Rattle.std.specs.Prelude.{◌≡◌, ◌≢◌, true, false, None, Some, IfOk, IfErr, Err, Ok};
-ghost use Rattle.commands.specs.Answer.{opened as opened_session};
-ghost use Rattle.commands.specs.Ends.{GivesOr};
+ghost use Rattle.line_replies.specs.Opening.{opened as opened_session, GivesOr};
 ghost use Rattle.embed.specs.Calls.{Asks, Goes, Hits, Lines, Measures, Misses, Opens, Shows, Tells, answer_of_query, answer_of_step, seen};
 ghost use Rattle.embed.specs.Desks.{IsOpened, redone, undone};
 ghost use Rattle.queries.specs.declared.query.Query.TheVariants.{Paint, Select};
@@ -10,9 +9,9 @@ use crate::copying::copy_to;
 use crate::desk::Desk;
 use crate::frame::Frame;
 use crate::handle::Handle;
-use commands::Refusal;
 use edit_ring::RingRefusal;
 use fixed_units::Memory;
+use line_replies::Refusal;
 use math_tree::NodeId;
 use queries::{Query, QueryRefusal};
 use std::alloc::Global;

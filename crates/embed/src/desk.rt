@@ -2,9 +2,8 @@ ghost use Rattle.std.specs.Prelude.{◌≡◌, ◌≢◌, ◌<◌, None, Some, O
 ghost use Rattle.edit_ring.specs.declared.ring.RingRefusal.TheVariants.{Nothing as HoldsNone, Memory as LacksMemory};
 ghost use Rattle.edit_session.specs.Session.{root_box};
 ghost use Rattle.queries.specs.Queries.{IsCause, answer_to};
-ghost use Rattle.commands.specs.Answer.{opened, opened_over};
-ghost use Rattle.commands.specs.Ends.{GivesOr};
-ghost use Rattle.commands.specs.History.{session_in};
+ghost use Rattle.line_replies.specs.Opening.{opened, opened_over, GivesOr};
+ghost use Rattle.line_replies.specs.History.{session_in};
 ghost use Rattle.embed.specs.Calls.{Tells, seen};
 ghost use Rattle.embed.specs.Desks.{IsAnswered, IsOpened, IsStarted, after, element_at, fresh, redone, shown, undone};
 
@@ -13,12 +12,12 @@ use crate::copying::put;
 use crate::growing::text_of;
 use crate::kept_reply::KeptReply;
 use command_reader::CommandReader;
-use commands::{Refusal, Reply, history, open, open_tree};
 use edit_ring::{Ring, RingRefusal};
 use edit_session::Session;
 use fixed_units::{List, MathBox, Memory, Steps};
 use font_metrics::Metrics;
 use hit_test::hit;
+use line_replies::{Refusal, Reply, history, open, open_tree};
 use math_tree::NodeId;
 use queries::{Query, QueryRefusal, answer_over};
 use session_ring::Undoable;
@@ -115,7 +114,7 @@ impl Desk {
     }
 
     /// A desk over a session of which nothing can be undone yet.
-    #[tactic(auto, unfolding(commands::specs::Replies::text_of_reply))]
+    #[tactic(auto, unfolding(line_replies::specs::Replies::text_of_reply))]
     fn over(alloc: Global, session: Session) -> Result<Desk, Memory>
         ensures { IfOk result (λ desk. desk ≡ fresh session.held) }
     {

@@ -1,9 +1,9 @@
 ghost use Rattle.doc_io.specs.Whole.{WritesAll};
 ghost use Rattle.embed.specs.Desks.{IsOfFont, text_of};
 
-use commands::Reply;
 use doc_io::{Sink, WriteFault};
 use font_metrics::Metrics;
+use line_replies::Reply;
 use queries::Answer;
 
 /// A reply that is kept until the next one.

@@ -1,6 +1,5 @@
 ghost use Rattle.std.specs.Prelude.{◌≡◌, ◌≢◌, true, false, None, Some, Err, Ok, IfOk, IfErr};
-ghost use Rattle.commands.specs.Answer.{metrics_in as metrics_of, opened_over};
-ghost use Rattle.commands.specs.Ends.{GivesOr};
+ghost use Rattle.line_replies.specs.Opening.{metrics_in as metrics_of, opened_over, GivesOr};
 ghost use Rattle.embed.specs.Calls.{Reads, Starts, seen};
 ghost use Rattle.embed.specs.Desks.{IsStarted};
 
@@ -10,8 +9,8 @@ use crate::copying::copy_to;
 use crate::desk::Desk;
 use crate::font::Font;
 use crate::handle::Handle;
-use commands::{Refusal, metrics_in};
 use font_metrics::Metrics;
+use line_replies::{Refusal, metrics_in};
 use std::alloc::Global;
 
 /// Reads the bytes of a metrics file into a closed handle of metrics.

@@ -7,7 +7,7 @@
 //!
 //! - Models: MathML Core 3; one arm a kind, which names the equation of a crate below.
 //! - Proved: what holds of all elements and trees, whatever their kinds (`laws`); whether an outcome
-//!   can be stored (`fits`), exactly.
+//!   can be stored (`outcome_fits`), exactly.
 //! - Knows nothing of: how a layout is computed, or kept.
 //! - Change how a kind is laid out: its arm in `specs/Questions.antt` or `specs/Equations.antt`.
 #![tactic(auto)]
@@ -25,6 +25,6 @@ pub use asking::Asking;
 pub use context::{Context, Question, Stretch};
 pub use laid::Laid;
 pub use outcome::{Answer, Offset, Outcome};
-pub use range::fits;
+pub use range::outcome_fits;
 pub use reply::{Answered, Reply};
 pub use tables::{cells_of_rows, has_spans};

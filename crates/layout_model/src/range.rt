@@ -10,7 +10,7 @@ use span_tables::CellSpan;
 
 /// Whether every number of an outcome can be stored: it lies in -2^30 to 2^30 units.
 #[tactic(auto, unfolding(crate::specs::Range::outcome_fits))]
-pub fn fits(outcome: &Outcome) -> bool
+pub fn outcome_fits(outcome: &Outcome) -> bool
     ensures { result ≡ outcome_fits outcome.now }
 {
     answer_fits(&outcome.answer)

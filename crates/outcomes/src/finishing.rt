@@ -13,7 +13,7 @@ use child_questions::{wave_one, wave_two};
 use embellished::View;
 use fixed_units::{LayRefusal, List, Memory, Steps};
 use font_metrics::Metrics;
-use layout_model::{Answer, Context, Outcome, Question, Reply, fits};
+use layout_model::{Answer, Context, Outcome, Question, Reply, outcome_fits};
 use std::alloc::Global;
 use std::sync::ledger::Ledger;
 use style_scope::{Style, font_size};
@@ -143,7 +143,7 @@ fn storable(outcome: Outcome) -> Result<Outcome, LayRefusal>
     ensures fit { OnOk result (outcome_fits outcome ≡ true) }
     ensures range { result ≡ Err Range → outcome_fits outcome ≡ false }
 {
-    if fits(&outcome) {
+    if outcome_fits(&outcome) {
         Ok(outcome)
     } else {
         Err(LayRefusal::Range)

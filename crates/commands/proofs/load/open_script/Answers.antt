@@ -1,6 +1,4 @@
-use Rattle.std.proofs.Common.{◌≡◌, rules}
-use Rattle.std.specs.Prelude.{Err}
-use Rattle.commands.specs.declared.refusal.Refusal.TheVariants.{Memory}
+use Rattle.std.proofs.Common.{rules}
 use Rattle.commands.proofs.Parts.{opens, opens_not, opens_nothing}
 use Rattle.commands.proofs.load.open_script.Goals as goal
 

@@ -1,6 +1,6 @@
 use Rattle.std.proofs.Common.{inl, inr, refl, sym, Err}
-use Rattle.commands.specs.Replies.{by_session}
-use Rattle.commands.specs.Steps.{TakesForLine}
+use Rattle.line_replies.specs.Replies.{by_session}
+use Rattle.line_replies.specs.EditSteps.{TakesForLine}
 use Rattle.commands.proofs.Answering.{edited_answers, with_session, without_session}
 use Rattle.commands.proofs.Ending.{told_not_done}
 use Rattle.commands.proofs.StepsTaken.{for_no_session, for_session}

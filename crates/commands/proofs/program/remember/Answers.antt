@@ -1,5 +1,5 @@
 use Rattle.std.proofs.Common.{ap, inl, inr, sym, Err}
-use Rattle.commands.specs.HistorySteps.{TakesForKept, by_history, kept_at_first, kept_by, ring_of}
+use Rattle.line_replies.specs.HistorySteps.{TakesForKept, by_history, kept_at_first, kept_by, ring_of}
 use Rattle.commands.proofs.Answering.{remembered_answers, with_session, without_session}
 use Rattle.commands.proofs.Ending.{told_not_done}
 use Rattle.commands.proofs.StepsTaken.{for_no_session, for_session}

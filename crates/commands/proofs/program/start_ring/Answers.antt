@@ -1,5 +1,5 @@
 use Rattle.std.proofs.Common.{ap, inl, refl}
-use Rattle.commands.specs.HistorySteps.{ring_of}
+use Rattle.line_replies.specs.HistorySteps.{ring_of}
 use Rattle.commands.proofs.program.start_ring.Goals as goal
 
 pub returns-in-Ok-clause-ring : goal.returns-in-Ok-clause-ring

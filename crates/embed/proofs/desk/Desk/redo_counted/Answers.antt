@@ -1,4 +1,4 @@
-use Rattle.commands.specs.HistorySteps.{ring_of}
+use Rattle.line_replies.specs.HistorySteps.{ring_of}
 use Rattle.embed.proofs.Stepping.{still_kept, redo_done, redo_kept, redo_metrics, redo_none, redo_some}
 use Rattle.embed.proofs.desk.Desk.redo_counted.Goals as goal
 

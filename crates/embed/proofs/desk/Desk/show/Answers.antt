@@ -1,4 +1,4 @@
-use Rattle.commands.specs.HistorySteps.{ring_of}
+use Rattle.line_replies.specs.HistorySteps.{ring_of}
 use Rattle.embed.proofs.Stepping.{show_done, show_fits}
 use Rattle.embed.proofs.desk.Desk.show.Goals as goal
 

@@ -1,4 +1,4 @@
-use Rattle.commands.specs.HistorySteps.{ring_of}
+use Rattle.line_replies.specs.HistorySteps.{ring_of}
 use Rattle.embed.proofs.Stepping.{still_kept, undo_done, undo_kept, undo_metrics, undo_none, undo_some}
 use Rattle.embed.proofs.desk.Desk.undo_counted.Goals as goal
 

@@ -1,8 +1,0 @@
-use Rattle.std.proofs.Common.{subst, sym}
-use Rattle.commands.specs.Answer.{tree_of_json}
-use Rattle.commands.specs.Ends.{GivesOr}
-use Rattle.commands.proofs.load.tree_by_value.Goals as goal
-
-pub returns : goal.returns
-returns c =
-    subst (λ j. GivesOr (tree_of_json j) c.tree_of_value.result) (sym (c.in_ok-value.ensures {u = tt}).read) c.tree_of_value.ensures

@@ -1,0 +1,58 @@
+//! What answers the lines of a script: a session, and a ring of which edits can be undone.
+use crate::replies::{Respond, Stop};
+use command_reader::CommandReader;
+use doc_io::Sink;
+use edit_ring::Ring;
+use edit_session::Session;
+use fixed_units::Steps;
+use line_replies::{history, reply_to};
+use session_ring::Undoable;
+use std::alloc::Global;
+use std::sync::ledger::Ledger;
+
+impl Respond for Session {
+    ghost use Rattle.line_replies.specs.Replies.{by_session};
+    ghost use Rattle.line_replies.specs.EditSteps.{TakesForLine};
+
+    ghost responder = { by_session };
+
+    ghost takes = { TakesForLine };
+
+    ghost known = { λ session. session.held };
+
+    fn answer_line<O: Sink, L: Ledger>(
+        &mut self,
+        alloc: Global,
+        commands: &mut CommandReader,
+        line: &[u8],
+        out: &mut O,
+        steps: &mut Steps<L>,
+    ) -> Result<(), Stop> {
+        let reply = reply_to(alloc, self, commands, line, steps)?;
+        reply.write(out, self.metrics())?;
+        Ok(())
+    }
+}
+
+impl Respond for Ring<Undoable> {
+    ghost use Rattle.line_replies.specs.HistorySteps.{TakesForKept, by_history, kept_by, ring_of};
+
+    ghost responder = { by_history };
+
+    ghost takes = { TakesForKept };
+
+    ghost known = { λ ring. kept_by (ring_of ring) };
+
+    fn answer_line<O: Sink, L: Ledger>(
+        &mut self,
+        alloc: Global,
+        commands: &mut CommandReader,
+        line: &[u8],
+        out: &mut O,
+        steps: &mut Steps<L>,
+    ) -> Result<(), Stop> {
+        let reply = history::reply_to(alloc, self, commands, line, steps)?;
+        reply.write(out, self.metrics())?;
+        Ok(())
+    }
+}

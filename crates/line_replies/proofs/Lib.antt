@@ -1,0 +1,4 @@
+pub mod EditSteps
+pub mod Histories
+pub mod Opening
+mod Written

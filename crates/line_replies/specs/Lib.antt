@@ -1,0 +1,9 @@
+pub mod Status
+pub mod Refusals
+pub mod Responders
+pub mod Replies
+pub mod EditSteps
+pub mod History
+pub mod HistorySteps
+pub mod HistoryParts
+pub mod Opening

@@ -1,0 +1,30 @@
+//! A session from the bytes of two files, and what it answers to a line of a script.
+//!
+//! `open` makes the session of a metrics file and a tree file, or says why there is none
+//! (`Refusal`). `reply_to` does what a line asks for, over the tree as edited so far, and gives the
+//! reply; `history::reply_to` does the same over a ring, whose edits can be undone. A `Reply` is
+//! written without memory.
+//!
+//! - Models: replies, refusals and statuses, which are own.
+//! - Proved: `open` gives the session of `opened`, or its refusal (`specs/Opening.antt`), but for
+//!   want of memory; a reply is `reply_to` of `specs/Replies.antt` or `specs/History.antt`, exactly,
+//!   and the session is then `after_line`; where memory is refused, it is as before; which steps a
+//!   line takes (`specs/EditSteps.antt`, `specs/HistorySteps.antt`).
+//! - Knows nothing of: the words of the command line, and how files and scripts are read.
+//! - Change what is answered to a line: `specs/Replies.antt`; what is told of a file that gives no
+//!   session: `specs/Refusals.antt`; then the file of `src/` below.
+#![tactic(auto)]
+
+mod files; // metrics and trees, by the bytes of their files
+pub mod history; // replies to lines whose edits can be undone
+mod opening; // a session of two files' bytes
+mod refusal; // why there is no session, or no answer
+mod reply; // to one line
+mod script; // white space
+mod status; // how a run ends
+
+pub use files::{TREE_LIMIT, metrics_of, tree_of};
+pub use opening::{metrics_in, open, open_tree, start};
+pub use refusal::Refusal;
+pub use reply::{Cause, Reply, reply_to};
+pub use status::Status;
