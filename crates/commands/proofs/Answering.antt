@@ -31,7 +31,7 @@ use Rattle.commands.specs.Parts.{AnswersLines, LacksNext, LacksScript, LacksTree
 use Rattle.line_replies.specs.declared.status.Status.{Status}
 use Rattle.line_replies.specs.declared.refusal.Refusal.{Refusal}
 use Rattle.line_replies.specs.declared.refusal.Refusal.TheVariants.{ReadFault, Range, Memory}
-use Rattle.line_replies.proofs.Opening.{refused_start, session_over}
+use Rattle.line_replies.proofs.Starting.{refused_start, session_over}
 use Rattle.commands.proofs.TwoParts.{continued, cut_again, err_again, refused, without_files}
 
 -- ---- work on a tree

@@ -1,4 +1,4 @@
 pub mod EditSteps
 pub mod Histories
-pub mod Opening
+pub mod Starting
 mod Written

@@ -1,7 +1,7 @@
 use Rattle.std.proofs.Common.{sym, ap, inr}
 use Rattle.serde_json.specs.Errors.{IsMemory}
 use Rattle.line_replies.specs.Opening.{tree_of_json}
-use Rattle.line_replies.proofs.Opening.{json_of_text, no_json}
+use Rattle.line_replies.proofs.Starting.{json_of_text, no_json}
 use Rattle.line_replies.proofs.files.value_of.Goals as goal
 
 pub returns-in-Ok-clause-read : goal.returns-in-Ok-clause-read

@@ -1,6 +1,6 @@
 use Rattle.std.proofs.Common.{ap, subst, sym, Err}
 use Rattle.line_replies.specs.Opening.{started, GivesOr}
-use Rattle.line_replies.proofs.Opening.{in_range_started, refused_start}
+use Rattle.line_replies.proofs.Starting.{in_range_started, refused_start}
 use Rattle.line_replies.proofs.opening.start.Goals as goal
 
 pub returns-in-Ok-clause-session : goal.returns-in-Ok-clause-session
