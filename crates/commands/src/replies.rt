@@ -152,7 +152,7 @@ impl Stop {
 
 impl From<WriteFault> for Stop {
     ghost use Rattle.std.specs.Prelude.{◌≡◌};
-    ghost use Rattle.commands.specs.declared.replies.Stop.TheVariants.{WriteFault as NotWritten, Memory as NoMemory};
+    ghost use Rattle.commands.specs.declared.replies.Stop.TheVariants.{WriteFault as NotWritten};
 
     ghost from_gives = { λ _ stop. stop ≡ NotWritten };
 
@@ -162,6 +162,9 @@ impl From<WriteFault> for Stop {
 }
 
 impl From<Memory> for Stop {
+    ghost use Rattle.std.specs.Prelude.{◌≡◌};
+    ghost use Rattle.commands.specs.declared.replies.Stop.TheVariants.{Memory as NoMemory};
+
     ghost from_gives = { λ _ stop. stop ≡ NoMemory };
 
     fn from(_: Memory) -> Self {

@@ -1,5 +1,5 @@
 -- The steps of one line.
-use Rattle.std.proofs.Common.{◌≡◌, ℕ, List, [], arith, Option, Some, None}
+use Rattle.std.proofs.Common.{◌≡◌, refl, ℕ, List, [], arith, Option, Some, None}
 use Rattle.std.specs.Prelude.{◌≢◌}
 use Rattle.tree_edits.specs.declared.edit.Edit.{Edit}
 use Rattle.tree_edits.specs.declared.edit.EditRefusal.{EditRefusal}

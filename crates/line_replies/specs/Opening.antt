@@ -72,4 +72,4 @@ opened metrics_bytes tree_bytes = do
 
 -- the wanted answer, or want of memory
 abbrev pub GivesOr : {V : Type 0} → Result V Refusal → Result V Refusal → Type 0
-GivesOr wanted result = IsErrOf result refusal.Memory ⊎ (result ≡ wanted)
+GivesOr wanted result = IsErrOf result Memory ⊎ (result ≡ wanted)

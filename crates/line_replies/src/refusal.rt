@@ -145,7 +145,8 @@ impl From<Memory> for Refusal {
 }
 
 impl From<MetricsRefusal> for Refusal {
-    ghost use Rattle.line_replies.specs.Refusals.{of_metrics, of_tree};
+    ghost use Rattle.std.specs.Prelude.{◌≡◌};
+    ghost use Rattle.line_replies.specs.Refusals.{of_metrics};
 
     ghost from_gives = { λ refused refusal. refusal ≡ of_metrics refused };
 
@@ -158,6 +159,9 @@ impl From<MetricsRefusal> for Refusal {
 }
 
 impl From<TreeRefusal> for Refusal {
+    ghost use Rattle.std.specs.Prelude.{◌≡◌};
+    ghost use Rattle.line_replies.specs.Refusals.{of_tree};
+
     ghost from_gives = { λ refused refusal. refusal ≡ of_tree refused };
 
     fn from(refusal: TreeRefusal) -> Self {
