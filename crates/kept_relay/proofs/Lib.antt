@@ -3,4 +3,3 @@ mod RelayAll
 mod RelayAnew
 mod RelayCalls
 mod Replacing
-mod Starting

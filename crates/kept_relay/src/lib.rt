@@ -1,15 +1,13 @@
-//! Passes over kept layouts: the answer of an element, from what is kept of it and of all below it.
+//! Passes over kept layouts: the answer of an element, from what is kept of it and all below it.
 //!
 //! `relay_element` computes what isn't kept and is needed, and keeps it from then on. Where an
-//! element was regular before an edit, only its child on the way to the edit is asked again, and its
-//! entry is made anew where it stands. `start_layout` lays a tree out for the first time: a pass
-//! over an element of which nothing is kept.
+//! element was regular before an edit, only its child on the way to the edit is asked again, and
+//! its entry is made anew where it stands.
 //!
 //! - Models: this project's own; MathML Core says nothing of it.
 //! - Proved: a pass gives the layout exactly, computes nothing that is kept, and nothing twice, and
 //!   can be undone; it puts a run for each step, every run that was there stays, and no two entries
-//!   have one where no two had (`Passes` and `Grows` of `kept_results`); what a tree starts with is
-//!   just what the layout of its root needs (`specs/Swept.antt` of `kept_sweep`).
+//!   have one where no two had (`Passes` and `Grows` of `kept_results`).
 //! - Knows nothing of: edits, and by which equation an element of a kind is laid out.
 //! - Change how what is kept is found: `entries.rt` and `earlier.rt` of `kept_results`; what is
 //!   computed where nothing is: `src/relay.rt`.
@@ -17,7 +15,5 @@
 
 mod making; // an entry of before the edit, made anew
 mod relay; // a pass over an element
-mod start; // the first layout of a tree
 
 pub use relay::relay_element;
-pub use start::start_layout;

@@ -29,8 +29,8 @@
 //! - Models: this project's own; MathML Core says nothing of it.
 //! - Proved: what is found of an element is kept of it, or nothing is; what is kept, made anew,
 //!   undone or sealed leaves all else as it was (`specs/Looking.antt`, `specs/Ends.antt`); a pass
-//!   that is done adds the cells of needed layouts, no others (`laws`); an outcome that is kept, and
-//!   follows by the equations from others that do, is that of the layout (`laws`).
+//!   that is done adds the cells of needed layouts, no others (`laws`); an outcome that is kept,
+//!   and follows by the equations from others that do, is that of the layout (`laws`).
 //! - Knows nothing of: edits (of `tree_edits` it takes which element a path leads to), and by which
 //!   equation an element of a kind is laid out.
 //! - Change what a kept layout is: `specs/Kept.antt`; what its run has: `specs/Backed.antt`; how

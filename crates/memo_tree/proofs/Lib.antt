@@ -5,5 +5,6 @@ pub mod Marks
 pub mod Passing
 pub mod Rooms
 pub mod Roots
+mod Starting
 pub mod Undone
 pub mod Ways

@@ -24,6 +24,7 @@ pub mod laws; // of the definitions
 mod notes; // which element stands over which
 mod reversal; // Reversal
 mod root; // the context of a tree's root
+mod start; // the first layout of a tree
 mod tree; // MemoTree
 mod way; // where an edit changes a tree
 

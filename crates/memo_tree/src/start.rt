@@ -8,10 +8,10 @@ ghost use Rattle.kept_results.specs.Ends.{kept_count};
 ghost use Rattle.kept_sweep.specs.Runs.{HaveOneRunEach};
 ghost use Rattle.kept_sweep.specs.Swept.{CountsNeeded, KeepsNeeded};
 
-use crate::relay::relay_element;
 use fixed_units::{LayRefusal, Steps};
 use font_metrics::Metrics;
 use kept_edits::blank;
+use kept_relay::relay_element;
 use kept_results::{Memo, seal};
 use layout_model::Context;
 use math_tree::Node;

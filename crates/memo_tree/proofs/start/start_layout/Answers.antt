@@ -12,9 +12,9 @@ use Rattle.kept_edits.proofs.Tidying.{blank_tidy}
 use Rattle.kept_edits.proofs.Unlaid.{blank_law}
 use Rattle.kept_sweep.specs.Swept.{KeepsNeeded}
 use Rattle.kept_sweep.proofs.Backed.{idle_again}
-use Rattle.kept_relay.proofs.Starting.{start_law, start_steps}
+use Rattle.memo_tree.proofs.Starting.{start_law, start_steps}
 use Rattle.kept_sweep.proofs.Stored.{one_run_each_law}
-use Rattle.kept_relay.proofs.start.start_layout.Goals as goal
+use Rattle.memo_tree.proofs.start.start_layout.Goals as goal
 
 pub relay_element-requires-clause-begun : goal.relay_element-requires-clause-begun
 relay_element-requires-clause-begun g c = ap (λ (s : StoreValue). is_some s.checkpoint) c.begin.ensures
