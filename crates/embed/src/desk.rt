@@ -1,11 +1,11 @@
-ghost use Rattle.std.specs.Prelude.{◌≡◌, ◌≢◌, ◌<◌, None, Some, Ok, Err, IfOk, IfErr, OnOk, OnErr};
+ghost use Rattle.std.specs.Prelude.{◌≡◌, ◌≢◌, ◌<◌, [], None, Some, Ok, Err, IfOk, IfErr, OnOk, OnErr};
 ghost use Rattle.edit_ring.specs.declared.ring.RingRefusal.TheVariants.{Nothing as HoldsNone, Memory as LacksMemory};
 ghost use Rattle.edit_session.specs.Session.{root_box};
 ghost use Rattle.queries.specs.Queries.{IsCause, answer_to};
 ghost use Rattle.line_replies.specs.Opening.{opened, opened_over, GivesOr};
 ghost use Rattle.line_replies.specs.History.{session_in};
 ghost use Rattle.embed.specs.Calls.{Tells, seen};
-ghost use Rattle.embed.specs.Desks.{IsAnswered, IsOpened, IsStarted, after, element_at, fresh, redone, shown, undone};
+ghost use Rattle.embed.specs.Desks.{IsAnswered, IsOpened, IsStarted, after, element_at, fresh, kept_in, redone, shown, undone};
 
 use crate::answer::Answer;
 use crate::copying::put;
@@ -114,17 +114,25 @@ impl Desk {
     }
 
     /// A desk over a session of which nothing can be undone yet.
-    #[tactic(auto, unfolding(line_replies::specs::Replies::text_of_reply))]
     fn over(alloc: Global, session: Session) -> Result<Desk, Memory>
         ensures { IfOk result (λ desk. desk ≡ fresh session.held) }
     {
         let ring = Ring::make(alloc, Undoable { session }, DEPTH)?;
-        Ok(Desk {
+        Ok(Desk::of_ring(ring, CommandReader::make(alloc)))
+    }
+
+    /// The same over a ring.
+    #[tactic(auto, unfolding(line_replies::specs::Replies::text_of_reply))]
+    fn of_ring(ring: Ring<Undoable>, commands: CommandReader) -> Desk
+        ensures kept { result.kept ≡ kept_in ring }
+        ensures text { result.text ≡ [] }
+    {
+        Desk {
             ring,
             reply: KeptReply::Line(Reply::Nothing),
             text: None,
-            commands: CommandReader::make(alloc),
-        })
+            commands,
+        }
     }
 
     /// Does what a line of a script asks for, and keeps the reply.

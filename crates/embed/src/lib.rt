@@ -17,6 +17,7 @@
 #![tactic(auto)]
 
 mod answer; // Answer
+mod boxing; // values in boxes
 pub mod calls; // on a session
 mod copying; // texts into buffers
 mod desk; // Desk

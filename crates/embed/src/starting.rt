@@ -4,6 +4,7 @@ ghost use Rattle.embed.specs.Calls.{Reads, Starts, seen};
 ghost use Rattle.embed.specs.Desks.{IsStarted};
 
 use crate::answer::Answer;
+use crate::boxing::boxed;
 use crate::calls::{REFUSAL_ROOM, is_open};
 use crate::copying::copy_to;
 use crate::desk::Desk;
@@ -64,11 +65,7 @@ fn boxed_metrics(alloc: Global, bytes: &[u8]) -> Result<Box<Metrics>, Refusal>
     ensures refused { IfErr result
         (λ refusal. GivesOr (metrics_of bytes.now) (Err refusal)) }
 {
-    let metrics = metrics_in(alloc, bytes)?;
-    match Box::new(alloc, metrics) {
-        Ok(metrics) => Ok(metrics),
-        Err(_) => Err(Refusal::Memory),
-    }
+    Ok(boxed(alloc, metrics_in(alloc, bytes)?)?)
 }
 
 /// Opens a session in a closed handle, over the bytes of a tree file and a copy of the metrics that
@@ -134,10 +131,7 @@ fn desk_over(alloc: Global, metrics: &Metrics, tree: &[u8]) -> Result<Box<Desk>,
         (λ refusal. GivesOr (opened_over metrics.now tree.now) (Err refusal)) }
 {
     let desk = Desk::start(alloc, metrics.copy(alloc)?, tree)?;
-    match Box::new(alloc, desk) {
-        Ok(desk) => Ok(desk),
-        Err(_) => Err(Refusal::Memory),
-    }
+    Ok(boxed(alloc, desk)?)
 }
 
 /// Drops the metrics, if there are any.

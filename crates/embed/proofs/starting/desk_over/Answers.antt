@@ -4,7 +4,7 @@ use Rattle.embed.specs.Desks.{DeskValue, IsStarted}
 use Rattle.embed.proofs.starting.desk_over.Goals as goal
 
 -- a copy has the values of the metrics, and a box the desk that it was made of
-pub returns-in-Ok-clause-started : goal.returns-in-Ok-clause-started
-returns-in-Ok-clause-started c =
-    subst (λ (desk : DeskValue). IsStarted c.args.metrics.now c.args.tree.now desk) (sym c.in-Ok.ensures.ok)
+pub returns-clause-started : goal.returns-clause-started
+returns-clause-started c =
+    subst (λ (desk : DeskValue). IsStarted c.args.metrics.now c.args.tree.now desk) (sym c.in_ok-boxed.ensures)
     (subst (λ (m : MetricsValue). IsStarted m c.args.tree.now c.in_ok-desk.desk) c.in_ok-copy.ensures c.in_ok-desk.ensures.started)
