@@ -1,4 +1,4 @@
-ghost use Rattle.std.specs.Prelude.{◌≡◌, ◌≤◌, ◌≢◌, ◌⊎◌, ◌+◌, ◌*◌, false, length, None, All, Err, IfOk, OnOk, IfErr, OnErr};
+ghost use Rattle.std.specs.Prelude.{◌≡◌, ◌≤◌, ◌≢◌, ◌⊎◌, ◌+◌, ◌*◌, false, length, nat_lt, None, All, Err, IfOk, OnOk, IfErr, OnErr};
 ghost use Rattle.box_pool.specs.Runs.{cell_count};
 ghost use Rattle.box_writer.specs.Items.{IsOfFont};
 ghost use Rattle.fixed_units.specs.declared.refusal.LayRefusal.TheVariants.{Range};
@@ -14,7 +14,7 @@ ghost use Rattle.memo_tree.specs.Counted.{EntriesStay, TakesVisits};
 ghost use Rattle.memo_tree.specs.States.{IsIn, Sealed};
 ghost use Rattle.memo_tree.specs.Trees.{context_of};
 ghost use Rattle.edit_session.specs.Session.{IsCause, IsInRange, edited_session, layouts_of, page, root_box, session_of};
-ghost use Rattle.edit_session.specs.Sweeping.{HasFewCells, HasGrownFrom, IsCarriedOut, IsFound, IsLeft, IsSwept, IsSweptFrom, RunsStay, is_due};
+ghost use Rattle.edit_session.specs.Sweeping.{HasFewCells, HasGrownFrom, IsCarriedOut, IsFound, IsLeft, IsSwept, IsSweptFrom, RunsStay, is_due, most_unswept};
 
 use crate::SessionRefusal;
 use box_writer::Placed;
@@ -23,6 +23,7 @@ use font_metrics::Metrics;
 use kept_laid::KeptLayout;
 use math_tree::Tree;
 use memo_tree::{MemoTree, Reversal};
+use outcomes::Equations;
 use placement::place_kept;
 use std::alloc::Global;
 use std::marker::Model;
@@ -85,7 +86,7 @@ impl Session {
         ensures visits { TakesVisits metrics tree steps.old steps.new }
         ensures all { IfOk result (λ session. steps.new ≡ steps.old + kept_count session.memo) }
     {
-        let layouts = MemoTree::start(alloc, tree, metrics, steps)?;
+        let layouts = MemoTree::start::<Equations, _>(alloc, tree, metrics, steps)?;
         let swept_cells = layouts.cells();
         // one run for each layout that is kept
         let most_kept = layouts.store().live();
@@ -228,7 +229,7 @@ impl Session {
             → TakesNeeded self.old.held.metrics self.old.held.tree edit steps.old steps.new }
     {
         let reversal = self.layouts.change(alloc, edit)?;
-        match self.layouts.relay(alloc, steps) {
+        match self.layouts.relay::<Equations, _>(alloc, steps) {
             Ok(()) => {
                 let made = self.layouts.seal();
                 self.most_kept = self.most_kept.saturating_add(made);
@@ -242,17 +243,33 @@ impl Session {
         }
     }
 
-    /// Whether so much is kept that an edit first drops what isn't needed. It counts the layouts
-    /// only where there may be too many. It takes no memory.
+    /// Whether so much is kept that an edit first drops what isn't needed. It takes no memory.
     fn is_due(&mut self) -> bool
         ensures due { result ≡ is_due self.old }
+        ensures limit { kept_count self.old.memo ≤ 262_144 }
+        ensures same { self.new ≡ self.old }
+    {
+        self.keeps_many() || self.has_many_cells()
+    }
+
+    /// Whether more layouts are kept than a sweep may leave. It counts them only where there may be
+    /// too many.
+    fn keeps_many(&mut self) -> bool
+        ensures many { result ≡ nat_lt most_unswept (kept_count self.old.memo) }
         ensures limit { kept_count self.old.memo ≤ 262_144 }
         ensures same { self.new ≡ self.old }
     {
         if self.most_kept > MOST_UNSWEPT {
             self.most_kept = self.layouts.kept();
         }
-        self.most_kept > MOST_UNSWEPT || self.layouts.cells() > self.swept_cells.saturating_mul(2)
+        self.most_kept > MOST_UNSWEPT
+    }
+
+    /// Whether there are more than twice the cells that the last sweep left.
+    fn has_many_cells(&self) -> bool
+        ensures { result ≡ nat_lt (2 * self.now.swept_cells) (cell_count self.now.store.runs) }
+    {
+        self.layouts.cells() > self.swept_cells.saturating_mul(2)
     }
 
     /// Drops all layouts but those that the one of the tree needs, and notes how many cells are

@@ -4,9 +4,12 @@ pub mod Changed
 pub mod EditPaths
 pub mod Edited
 pub mod Endings
+pub mod Followed
 pub mod Ids
 pub mod Known
 pub mod Laws
 pub mod Need
 pub mod Passed
+pub mod Rooms
 pub mod Runs
+pub mod Ways

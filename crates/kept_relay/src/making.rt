@@ -20,17 +20,16 @@ use box_pool::RunId;
 use fixed_units::{LayRefusal, List, Room, Steps};
 use font_metrics::Metrics;
 use kept_results::{Before, Earlier, Memo, WholeView, answer_in, remake, turn};
-use layout_model::{Answer, Context, Outcome, Reply};
+use layout_model::{Answer, Context, Finish, Outcome, Reply};
 use math_tree::Node;
 use outcome_cells::Store;
-use outcomes::finish_replies;
 use std::alloc::Global;
 use std::sync::ledger::Ledger;
 
 /// Makes an entry of before the edit anew, of which this is the reply of the child on the way
 /// since. It takes one step. The entry's other replies stay where they are. Where it is refused,
 /// the entry and the store are as they were.
-pub fn make_again<L: Ledger>(
+pub fn make_again<F: Finish, L: Ledger>(
     alloc: Global,
     node: &Node,
     memo: &mut Memo,
@@ -69,7 +68,7 @@ pub fn make_again<L: Ledger>(
     ensures step { steps.new ≡ steps.old + 1 }
 {
     let had = turn(memo.entries.at_mut(before.entry), before.child, reply);
-    let made = lay_again(
+    let made = lay_again::<F, _>(
         alloc,
         node,
         memo,
@@ -100,7 +99,7 @@ struct LaidAgain {
 }
 
 /// Puts the layout over the questions and answers of an entry. It takes one step.
-fn lay_again<L: Ledger>(
+fn lay_again<F: Finish, L: Ledger>(
     alloc: Global,
     node: &Node,
     memo: &Memo,
@@ -138,7 +137,7 @@ fn lay_again<L: Ledger>(
 {
     let view = WholeView::of(node, memo);
     let entry = &memo.entries.as_slice()[entry];
-    let outcome = outcome_of(alloc, &view, context, metrics, &entry.one, steps)?;
+    let outcome = outcome_of::<F, _>(alloc, &view, context, metrics, &entry.one, steps)?;
     let room = Room::make(alloc, 1)?;
     let run = store.put(&outcome)?;
     let answer = answer_in(outcome);
@@ -146,7 +145,7 @@ fn lay_again<L: Ledger>(
 }
 
 /// The outcome of a regular element over the replies to what it asks. It takes one step.
-fn outcome_of<L: Ledger>(
+fn outcome_of<F: Finish, L: Ledger>(
     alloc: Global,
     view: &WholeView,
     context: &Context,
@@ -173,5 +172,5 @@ fn outcome_of<L: Ledger>(
     ensures step { steps.new ≡ steps.old + 1 }
 {
     let two = List::make(alloc);
-    finish_replies(alloc, view, context, metrics, one, &two, steps)
+    F::finish_replies(alloc, view, context, metrics, one, &two, steps)
 }

@@ -23,10 +23,9 @@ use kept_results::{
     Asked, Earlier, Memo, WholeView, asked_again, facts_below, find_earlier, is_regular, keep,
     kept_answer,
 };
-use layout_model::{Answer, Context, Reply};
+use layout_model::{Answer, Context, Finish, Reply};
 use math_tree::Node;
 use outcome_cells::Store;
-use outcomes::finish_replies;
 use std::alloc::Global;
 use std::sync::ledger::Ledger;
 
@@ -35,7 +34,7 @@ use std::sync::ledger::Ledger;
 /// refused with `Range` exactly where a number of a layout that this one needs can't be stored;
 /// what was made until then stays.
 #[cycle(relay)]
-pub fn relay_element<L: Ledger>(
+pub fn relay_element<F: Finish, L: Ledger>(
     alloc: Global,
     node: &Node,
     memo: &mut Memo,
@@ -68,8 +67,10 @@ pub fn relay_element<L: Ledger>(
     match kept_answer(alloc, memo, store, context)? {
         Some(answer) => Ok(answer),
         None => match find_earlier(memo, context) {
-            Some(before) => relay_again(alloc, node, memo, store, context, before, metrics, steps),
-            None => relay_anew(alloc, node, memo, store, context, metrics, steps),
+            Some(before) => relay_again::<F, _>(
+                alloc, node, memo, store, context, before, metrics, steps,
+            ),
+            None => relay_anew::<F, _>(alloc, node, memo, store, context, metrics, steps),
         },
     }
 }
@@ -78,7 +79,7 @@ pub fn relay_element<L: Ledger>(
 /// frame of this call: most elements that a pass asks have one.
 #[cycle(relay)]
 #[inline(never)]
-fn relay_anew<L: Ledger>(
+fn relay_anew<F: Finish, L: Ledger>(
     alloc: Global,
     node: &Node,
     memo: &mut Memo,
@@ -114,10 +115,10 @@ fn relay_anew<L: Ledger>(
     let view = NodeView::make(alloc, node, memo.facts, &kids)?;
     let survey = Survey::make(alloc, &view, context, metrics)?;
     let mut one = first_wave(alloc, &view, &survey, context, metrics)?;
-    relay_all(alloc, node, memo, store, &view, &mut one, metrics, steps)?;
+    relay_all::<F, _>(alloc, node, memo, store, &view, &mut one, metrics, steps)?;
     let mut two = second_wave(alloc, &view, &survey, context, metrics, &one)?;
-    relay_all(alloc, node, memo, store, &view, &mut two, metrics, steps)?;
-    let outcome = finish_replies(alloc, &view, context, metrics, &one, &two, steps)?;
+    relay_all::<F, _>(alloc, node, memo, store, &view, &mut two, metrics, steps)?;
+    let outcome = F::finish_replies(alloc, &view, context, metrics, &one, &two, steps)?;
     let regular = is_regular(&view, &survey, context, metrics, &one);
     let asked = Asked { one, two, regular };
     Ok(keep(alloc, memo, store, context, outcome, asked)?)
@@ -128,7 +129,7 @@ fn relay_anew<L: Ledger>(
 /// looked for. The entry is made anew where it stands.
 #[cycle(relay)]
 #[inline(never)]
-fn relay_again<L: Ledger>(
+fn relay_again<F: Finish, L: Ledger>(
     alloc: Global,
     node: &Node,
     memo: &mut Memo,
@@ -169,19 +170,19 @@ fn relay_again<L: Ledger>(
     let asked = asked_again(alloc, &view, &was.question, context, metrics)?;
     let child = &node.children.as_slice()[place];
     let below = memo.below.at_mut(place);
-    let answer = relay_element(alloc, child, below, store, &asked.context, metrics, steps)?;
+    let answer = relay_element::<F, _>(alloc, child, below, store, &asked.context, metrics, steps)?;
     let reply = Reply {
         question: asked,
         answer,
     };
-    make_again(
+    make_again::<F, _>(
         alloc, node, memo, store, context, before, reply, metrics, steps,
     )
 }
 
 /// Has the children that an element asks answer, in order.
 #[cycle(relay)]
-fn relay_all<L: Ledger>(
+fn relay_all<F: Finish, L: Ledger>(
     alloc: Global,
     node: &Node,
     memo: &mut Memo,
@@ -230,7 +231,7 @@ fn relay_all<L: Ledger>(
         let kid = view.node_at(place);
         let below = memo.below.at_mut(view.place(place));
         let context = &reply.question.context;
-        let answer = relay_element(alloc, kid, below, store, context, metrics, steps)?;
+        let answer = relay_element::<F, _>(alloc, kid, below, store, context, metrics, steps)?;
         reply.answer = answer;
     }
     Ok(())

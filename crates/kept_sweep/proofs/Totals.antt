@@ -5,9 +5,6 @@ use Rattle.std.proofs.lemmas.List.Sums.{sum_by-cons}
 use Rattle.std.proofs.lemmas.Option.{none-some, same_Some, slice_get-map, slice_get_within}
 use Rattle.std.specs.List.{AllByRecursion, sum}
 use Rattle.std.specs.Option.{option_map}
-use Rattle.math_tree.specs.declared.node.Node.{Node}
-use Rattle.math_tree.specs.declared.node.Node.TheViews.{out-Node}
-use Rattle.math_tree.proofs.Nodes.{by_children}
 use Rattle.layout_model.specs.declared.context.Context.{Context}
 use Rattle.kept_results.specs.Ends.{kept_count, sealed, settled}
 use Rattle.kept_results.specs.Kept.{Holds, is_live, is_marked}
@@ -16,13 +13,11 @@ use Rattle.kept_results.specs.declared.memo.Entry.{Entry}
 use Rattle.kept_results.specs.declared.memo.Memo.{Memo}
 use Rattle.kept_results.specs.declared.memo.Memo.TheFolds.{fold-Memo, fold_out-Memo}
 use Rattle.kept_results.specs.declared.memo.Memo.TheOpen.{Memo-F}
-use Rattle.kept_results.specs.declared.memo.Memo.TheViews.{out-Memo, out-roll-Memo}
+use Rattle.kept_results.specs.declared.memo.Memo.TheViews.{out-Memo}
 use Rattle.kept_results.proofs.Counts.{count_out}
 use Rattle.kept_results.proofs.Lists.{still_first}
 use Rattle.kept_results.proofs.Passing.{pair_at, under}
 use Rattle.kept_results.proofs.Sealing.{out_sealed}
-use Rattle.kept_edits.specs.Blank.{blank}
-use Rattle.kept_edits.proofs.Unlaid.{blank_out}
 use Rattle.kept_sweep.specs.Flagged.{cleared}
 use Rattle.kept_sweep.proofs.Clearing.{out_cleared}
 use Rattle.kept_sweep.proofs.Sweeping.{by_below}
@@ -227,11 +222,3 @@ count_cleared = by_below (λ memo. kept_count memo ≤ kept_count (cleared memo)
       shorter (is_live (is_marked layer)) layer.entries,
       sum_more cleared layer.below h,
     ))
-
-none_below : (nodes : List Node) → AllByRecursion (λ node. kept_count (blank node) ≡ 0) nodes → sum (map kept_count (map blank nodes)) ≡ 0
-none_below [] h = refl
-none_below (x ∷ nodes) h = omega (arith, h.0, none_below nodes h.1, sum_first (kept_count (blank x)) (map kept_count (map blank nodes)))
-
-pub count_blank : (node : Node) → kept_count (blank node) ≡ 0
-count_blank = by_children (λ node. kept_count (blank node) ≡ 0) (λ node h.
-    omega (arith, count_out (blank node) ∙ ap count_in (ap out-Memo (blank_out node) ∙ out-roll-Memo _), none_below (out-Node node).children h))

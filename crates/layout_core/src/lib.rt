@@ -18,4 +18,4 @@ mod slots; // the children as asked last
 pub use child_questions::{Survey, first_wave, second_wave, style_of_kid, wave_one, wave_two};
 pub use fresh::lay_fresh;
 pub use layout_model::{Answer, Context, Laid, Offset, Outcome, Question, Stretch};
-pub use outcomes::{finish, finish_replies};
+pub use outcomes::finish;

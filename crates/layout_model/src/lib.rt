@@ -8,12 +8,14 @@
 //! - Models: MathML Core 3; one arm a kind, which names the equation of a crate below.
 //! - Proved: what holds of all elements and trees, whatever their kinds (`laws`); whether an
 //!   outcome can be stored (`outcome_fits`), exactly.
-//! - Knows nothing of: how a layout is computed, or kept.
+//! - Knows nothing of: how a layout is computed, or kept. Who keeps layouts gets outcomes by
+//!   `Finish`.
 //! - Change how a kind is laid out: its arm in `specs/Questions.antt` or `specs/Equations.antt`.
 #![tactic(auto)]
 
 mod asking; // how an element asks its children
 mod context; // Stretch, Context, Question
+mod finish; // Finish
 mod laid; // Laid
 pub mod laws; // what holds of all elements and trees
 mod outcome; // Answer, Offset, Outcome
@@ -23,6 +25,7 @@ mod tables; // the cells of a table
 
 pub use asking::Asking;
 pub use context::{Context, Question, Stretch};
+pub use finish::Finish;
 pub use laid::Laid;
 pub use outcome::{Answer, Offset, Outcome};
 pub use range::outcome_fits;

@@ -18,15 +18,15 @@ use Rattle.splices.specs.declared.splice.Splice.{Splice}
 use Rattle.kept_edits.specs.Passed.{TakesMissing}
 use Rattle.kept_edits.proofs.ToldById.{IsNeededThere, all_named, as_many, missing_need, none_twice, visited}
 use Rattle.memo_tree.specs.Counted.{EntriesStay, MissingIsCounted, StepsLaw, VisitsLaw}
-use Rattle.memo_tree.specs.Followed.{IsBefore, IsFollowed}
+use Rattle.kept_edits.specs.Followed.{IsBefore, IsFollowed}
 use Rattle.memo_tree.specs.Marked.{EachStays, MarksPath, NewIsBlank}
 use Rattle.memo_tree.specs.Reversing.{Reverses}
 use Rattle.memo_tree.specs.States.{IsChanged}
 use Rattle.memo_tree.specs.Trees.{IsLaidOut, MemoTreeValue, context_of}
-use Rattle.memo_tree.specs.Ways.{IsWay}
-use Rattle.memo_tree.specs.declared.way.Way.{Way}
+use Rattle.kept_edits.specs.Ways.{IsWay}
+use Rattle.kept_edits.specs.declared.way.Way.{Way}
 use Rattle.memo_tree.proofs.Marks.{blank_put, path_marked, stays_elsewhere, stays_on}
-use Rattle.memo_tree.proofs.Undone.{backed_then, own_then, ready_then, stays_then, tidy_then}
+use Rattle.kept_edits.proofs.Undone.{backed_then, own_then, ready_then, stays_then, tidy_then}
 
 module _ (old : MemoTreeValue) (edit : Edit) (way : Way) (tree : TreeValue) (root : Node) (laid : IsLaidOut old) (is : IsWay old.tree edit way) (made : tree ≡ edited old.tree edit)
     (read : root ≡ tree.root) where

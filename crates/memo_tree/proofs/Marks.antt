@@ -27,7 +27,7 @@ use Rattle.kept_edits.specs.declared.change.Renewal.{Renewal}
 use Rattle.kept_edits.proofs.Backwards.{below_unmarked, former_none}
 use Rattle.kept_edits.proofs.Changing.{marked, marked_is}
 use Rattle.kept_edits.proofs.Unlaid.{blank_law}
-use Rattle.memo_tree.specs.Followed.{IsSplicedAlong}
+use Rattle.kept_edits.specs.Followed.{IsSplicedAlong}
 use Rattle.memo_tree.specs.Marked.{HasEntriesOf, memo_at}
 
 -- ---- one step down

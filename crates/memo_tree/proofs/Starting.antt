@@ -13,7 +13,8 @@ use Rattle.kept_results.proofs.Sealing.{seal_law}
 use Rattle.kept_results.proofs.Whole.{kept_law}
 use Rattle.kept_edits.specs.Blank.{blank}
 use Rattle.kept_sweep.specs.Swept.{KeepsNeeded}
-use Rattle.kept_sweep.proofs.Totals.{count_blank, count_sealed, each_of, kept_among}
+use Rattle.kept_edits.proofs.Counting.{count_blank}
+use Rattle.kept_sweep.proofs.Totals.{count_sealed, each_of, kept_among}
 
 module _ (m : MetricsValue) (node : Node) (context : Context) (memo made : Memo) (from to : ℕ) (nothing : memo ≡ blank node)
     (passed : Passes m node (Needs m node context) memo made from to true) (kept : IsKept (out-Memo made) context) where

@@ -15,18 +15,17 @@
 //!   needs, told by ids, none twice (`specs/Counted.antt`); what is taken back is as it was, and
 //!   takes no memory (`specs/Reversing.antt`); and what is read is what a fresh layout gives.
 //! - Knows nothing of: how an element is laid out, and what is written of it.
-//! - Change what an edit does to what is kept: `src/following.rt`, and below it `kept_edits`.
+//! - Change what an edit does to what is kept: `kept_edits`.
 //!   Change what is kept: `kept_results`; what is dropped: `kept_sweep`.
 #![tactic(auto)]
 
-mod following; // memos after an edit
+mod following; // memos after an edit, and what is noted of it
 pub mod laws; // of the definitions
 mod notes; // which element stands over which
 mod reversal; // Reversal
 mod root; // the context of a tree's root
 mod start; // the first layout of a tree
 mod tree; // MemoTree
-mod way; // where an edit changes a tree
 
 pub use reversal::Reversal;
 pub use tree::MemoTree;

@@ -13,7 +13,7 @@ use font_metrics::Metrics;
 use kept_edits::blank;
 use kept_relay::relay_element;
 use kept_results::{Memo, seal};
-use layout_model::Context;
+use layout_model::{Context, Finish};
 use math_tree::Node;
 use outcome_cells::Store;
 use std::alloc::Global;
@@ -24,7 +24,7 @@ use std::sync::ledger::Ledger;
 /// entries are kept. So many runs come in the store: where it was empty, it has one for each entry.
 /// It is refused with `Range` exactly where a number of one of them can't be stored; then the store
 /// is as before.
-pub fn start_layout<L: Ledger>(
+pub fn start_layout<F: Finish, L: Ledger>(
     alloc: Global,
     node: &Node,
     store: &mut Store,
@@ -50,7 +50,7 @@ pub fn start_layout<L: Ledger>(
 {
     let mut memo = blank(alloc, node)?;
     store.begin();
-    match relay_element(alloc, node, &mut memo, store, context, metrics, steps) {
+    match relay_element::<F, _>(alloc, node, &mut memo, store, context, metrics, steps) {
         Ok(answer) => {
             drop(answer);
             seal(&mut memo);

@@ -24,15 +24,14 @@ use crate::notes::Notes;
 use crate::reversal::Reversal;
 use crate::root::context_of;
 use crate::start::start_layout;
-use crate::way::way_along;
 use fixed_units::{LayRefusal, MathBox, Memory, Steps};
 use font_metrics::Metrics;
-use kept_edits::blank;
+use kept_edits::{blank, way_along};
 use kept_laid::{box_of, count_or_most, laid_of, root_box};
 use kept_relay::relay_element;
 use kept_results::{Memo, seal, undo_pass};
 use kept_sweep::sweep_stored;
-use layout_model::{Context, Laid};
+use layout_model::{Context, Finish, Laid};
 use math_tree::{Node, NodeId, Tree};
 use outcome_cells::Store;
 use std::alloc::Global;
@@ -118,7 +117,7 @@ impl MemoTree {
     /// Takes a tree and metrics over, and lays the tree out. Exactly the layouts are kept that the
     /// one of the tree needs, and each ticks a step. It is refused with `Range` exactly where a
     /// number of one of them can't be stored; then both are dropped.
-    pub fn start<L: Ledger>(
+    pub fn start<F: Finish, L: Ledger>(
         alloc: Global,
         tree: Tree,
         metrics: Metrics,
@@ -137,7 +136,7 @@ impl MemoTree {
     {
         let context = context_of(&tree, &metrics);
         let mut store = Store::make(alloc);
-        let made = start_layout(alloc, tree.root(), &mut store, &context, &metrics, steps);
+        let made = start_layout::<F, _>(alloc, tree.root(), &mut store, &context, &metrics, steps);
         // Told, here and below, so that what is let go of isn't proved through all its parts here.
         drop(context);
         match made {
@@ -216,7 +215,7 @@ impl MemoTree {
     /// Lays the tree out as far as its layouts aren't kept, each of which ticks a step and comes to
     /// the store; those that are kept stay, with their runs. It is refused with `Range` exactly
     /// where a number of a layout that the one of the tree needs can't be stored.
-    pub fn relay<L: Ledger>(
+    pub fn relay<F: Finish, L: Ledger>(
         &mut self,
         alloc: Global,
         steps: &mut Steps<L>,
@@ -244,7 +243,7 @@ impl MemoTree {
         self.swept = false;
         let context = context_of(&self.tree, &self.metrics);
         self.store.begin();
-        relay_element(
+        relay_element::<F, _>(
             alloc,
             self.tree.root(),
             &mut self.memo,

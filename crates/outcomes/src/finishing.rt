@@ -13,14 +13,14 @@ use child_questions::{wave_one, wave_two};
 use embellished::View;
 use fixed_units::{LayRefusal, List, Memory, Steps};
 use font_metrics::Metrics;
-use layout_model::{Answer, Context, Outcome, Question, Reply, outcome_fits};
+use layout_model::{Answer, Context, Finish, Outcome, Question, Reply, outcome_fits};
 use std::alloc::Global;
 use std::sync::ledger::Ledger;
 use style_scope::{Style, font_size};
 
 /// The outcome of an element over the answers to both waves of its questions. It is refused with
 /// `Range` exactly where a number of it can't be stored. It takes one step. It asks both waves
-/// again, and copies the answers; `finish_replies` is for who has the replies.
+/// again, and copies the answers; `Equations::finish_replies` is for who has the replies.
 pub fn finish<V: View, L: Ledger>(
     alloc: Global,
     view: &V,
@@ -45,7 +45,9 @@ pub fn finish<V: View, L: Ledger>(
     ensures step { steps.new ≡ steps.old + 1 }
 {
     match both_waves(alloc, view, context, metrics, first, second) {
-        Ok((one, two)) => finish_replies(alloc, view, context, metrics, &one, &two, steps),
+        Ok((one, two)) => {
+            Equations::finish_replies(alloc, view, context, metrics, &one, &two, steps)
+        }
         Err(refusal) => {
             steps.tick();
             Err(refusal)
@@ -95,37 +97,25 @@ fn replies(alloc: Global, asks: &[Question], answers: &[Answer]) -> Result<List<
     Ok(replies)
 }
 
-/// The same over the replies of both waves.
-#[tactic(auto, using(fixed_units::proofs::Signed::from_bits, layout_model::proofs::Spans::equation_spans), unfolding(layout_model::specs::Layout::equation))]
-pub fn finish_replies<V: View, L: Ledger>(
-    alloc: Global,
-    view: &V,
-    context: &Context,
-    metrics: &Metrics,
-    one: &List<Reply>,
-    two: &List<Reply>,
-    steps: &mut Steps<L>,
-) -> Result<Outcome, LayRefusal>
-    requires fits { IsContext context.now }
-    requires size { size_of metrics.now context.now.style ≤ℤ pos (2 ^ 20) }
-    requires replies { RepliesAll metrics.now (seen_of (V.element view.now)) context.now one.now
-        two.now }
-    ensures ok { IfOk result (λ outcome.
-        outcome ≡ equation metrics.now (seen_of (V.element view.now)) context.now (answers_in
-        one.now) (answers_in two.now)) }
-    ensures fit { OnOk result (outcome_fits
-        (equation metrics.now (seen_of (V.element view.now)) context.now (answers_in one.now)
-        (answers_in two.now)) ≡ true) }
-    ensures range { result ≡ Err Range → outcome_fits
-        (equation metrics.now (seen_of (V.element view.now)) context.now (answers_in one.now)
-        (answers_in two.now)) ≡ false }
-    ensures spans { IfOk result (λ outcome. AreSpans outcome.answer) }
-    ensures step { steps.new ≡ steps.old + 1 }
-{
-    steps.tick();
-    let nothing = Answer::none(alloc);
-    let element = Element::make(alloc, view, context, metrics, one, two, &nothing)?;
-    storable(outcome_by(alloc, view.facts().laid, &element)?)
+/// The equations of all kinds.
+pub struct Equations;
+
+impl Finish for Equations {
+    #[tactic(auto, using(fixed_units::proofs::Signed::from_bits, layout_model::proofs::Spans::equation_spans), unfolding(layout_model::specs::Layout::equation))]
+    fn finish_replies<V: View, L: Ledger>(
+        alloc: Global,
+        view: &V,
+        context: &Context,
+        metrics: &Metrics,
+        one: &List<Reply>,
+        two: &List<Reply>,
+        steps: &mut Steps<L>,
+    ) -> Result<Outcome, LayRefusal> {
+        steps.tick();
+        let nothing = Answer::none(alloc);
+        let element = Element::make(alloc, view, context, metrics, one, two, &nothing)?;
+        storable(outcome_by(alloc, view.facts().laid, &element)?)
+    }
 }
 
 /// A font size that isn't too large is in range. A caller gets the fact by a call.

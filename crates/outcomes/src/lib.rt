@@ -1,8 +1,8 @@
 //! The outcome of one element, over the replies of its children: its box, where its children stand,
 //! and what it draws.
 //!
-//! `finish_replies` takes the replies of both waves; `finish` takes the answers alone, and asks
-//! again.
+//! `Equations::finish_replies` takes the replies of both waves, and is `Finish` of `layout_model` for
+//! who keeps layouts; `finish` takes the answers alone, and asks again.
 //! An `Element` is what an equation reads: the answer that counts of each child, the context, the
 //! metrics.
 //!
@@ -20,7 +20,7 @@ mod answers; // the answer that counts of each child
 mod corners; // the corners of a base and its scripts
 mod direction; // what stands in an element from right to left
 mod element; // Element
-mod finishing; // finish, finish_replies
+mod finishing; // finish, Equations
 mod fraction; // a fraction
 mod kinds; // one function a kind
 mod leaf; // tokens, operators and spaces
@@ -34,4 +34,4 @@ mod script; // scripts beside a base
 mod spanning; // what cells span, and the columns and rows of a table
 mod table; // tables and their rows
 
-pub use finishing::{finish, finish_replies};
+pub use finishing::{Equations, finish};

@@ -8,6 +8,7 @@ use crate::words::{Kept, OUT_OF_RANGE, REFUSED, add_kept, add_made, add_word};
 use case_format::Fault;
 use fixed_units::{LayRefusal, Steps};
 use memo_tree::MemoTree;
+use outcomes::Equations;
 use std::alloc::Global;
 use std::sync::ledger::Ledger;
 use tree_edits::{Command, CommandRefusal, Edit, EditRefusal, read_command};
@@ -119,7 +120,7 @@ fn edit_counted<L: Ledger>(
         Err(_) => return Ok((Outcome::Refused, 0)),
     };
     let before = laid.kept();
-    match laid.relay(alloc, steps) {
+    match laid.relay::<Equations, _>(alloc, steps) {
         Ok(()) => {
             let made = laid.kept().saturating_sub(before);
             laid.seal();

@@ -10,6 +10,7 @@ use case_format::{Case, Fault, Fields};
 use fixed_units::Steps;
 use math_tree::Tree;
 use memo_tree::MemoTree;
+use outcomes::Equations;
 use std::marker::Brand;
 use std::sync::ledger::{Blank, Ledger};
 
@@ -63,7 +64,7 @@ fn add_counted<L: Ledger>(
     requires changed { IsIn Changed laid.old }
 {
     let mut steps = Steps::<L>::new(blank);
-    match laid.relay(case.alloc, &mut steps) {
+    match laid.relay::<Equations, _>(case.alloc, &mut steps) {
         Ok(()) => {
             let made = laid.kept();
             laid.seal();
@@ -95,7 +96,7 @@ fn is_started<L: Ledger>(
 {
     let copied = tree.copy(case.alloc)?;
     match case.metrics(fields) {
-        Ok(metrics) => match MemoTree::start(case.alloc, copied, metrics, steps) {
+        Ok(metrics) => match MemoTree::start::<Equations, _>(case.alloc, copied, metrics, steps) {
             Ok(started) => {
                 let is_so = is_equal(case.alloc, laid, &started);
                 drop(started);

@@ -20,6 +20,7 @@ use fixed_units::Steps;
 use font_metrics::Metrics;
 use math_tree::Tree;
 use memo_tree::MemoTree;
+use outcomes::Equations;
 use serde_json::Value;
 use std::alloc::Global;
 use std::marker::Brand;
@@ -115,7 +116,12 @@ impl<'a> Script<'a> {
     ) -> Result<bool, Fault> {
         let tree = session.tree(self.case.alloc)?;
         match self.metrics() {
-            Ok(metrics) => match MemoTree::start(self.case.alloc, tree, metrics, steps) {
+            Ok(metrics) => match MemoTree::start::<Equations, _>(
+                self.case.alloc,
+                tree,
+                metrics,
+                steps,
+            ) {
                 Ok(laid) => {
                     let mut beside = Beside::over(laid);
                     let is_so = self.add_all(session, &mut beside, words, steps);

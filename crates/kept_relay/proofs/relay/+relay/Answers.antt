@@ -68,7 +68,7 @@ relay_all-relay_element-requires g t c κs within =
     let falls = kid_smaller q in
     let v = c.loop-index.invariant in
     let at = c.at_mut-below.ensures.value in
-    (omega arith, (search rules, (still_begun v.grows.only c.requires.begun, (kid_agrees q v.passes.agrees at, (kid_backed q v.grows.backed at, (kid_few q c.requires.few, kid_suits q))))))
+    (omega arith, (search rules, (search rules, (still_begun v.grows.only c.requires.begun, (kid_agrees q v.passes.agrees at, (kid_backed q v.grows.backed at, (kid_few q c.requires.few, kid_suits q)))))))
 
 pub relay_all-returns-in_err-answer-clause-passes : goal.relay_all-returns-in_err-answer-clause-passes
 relay_all-returns-in_err-answer-clause-passes g t c =
@@ -155,7 +155,7 @@ relay_element-kept_answer-requires g t c = record { backed = are_backed c.args.m
 pub relay_element-relay_anew-requires : goal.relay_element-relay_anew-requires
 relay_element-relay_anew-requires g t c κs within =
     let none = none_of c.in_ok-answer.field-0 _ c.in-None.is (c.in_ok-answer.ensures {u = tt}).none in
-    (omega arith, (search rules, (c.requires.begun, (c.requires.agrees, (c.requires.backed, (c.requires.few, (c.requires.context, none)))))))
+    (omega arith, (search rules, (search rules, (c.requires.begun, (c.requires.agrees, (c.requires.backed, (c.requires.few, (c.requires.context, none))))))))
 
 pub relay_element-returns-in_err-answer-clause-grows : goal.relay_element-returns-in_err-answer-clause-grows
 relay_element-returns-in_err-answer-clause-grows g t c = unchanged_store c.requires.backed
@@ -230,7 +230,7 @@ pub relay_anew-relay_all-requires : goal.relay_anew-relay_all-requires
 relay_anew-relay_all-requires g t c κs within =
     let o = (c.in_ok-one.ensures {u = tt}) in
     let w = ones_known c.requires.few c.requires.context (c.in_ok-view.ensures {u = tt}) o.ok o.styles in
-    (omega arith, (search rules, (w.shown_is, (c.requires.begun, (c.requires.agrees, (c.requires.backed, (c.requires.few, ones_suit w)))))))
+    (omega arith, (search rules, (search rules, (w.shown_is, (c.requires.begun, (c.requires.agrees, (c.requires.backed, (c.requires.few, ones_suit w))))))))
 
 pub relay_anew-returns-in_err-relay_all-clause-passes : goal.relay_anew-returns-in_err-relay_all-clause-passes
 relay_anew-returns-in_err-relay_all-clause-passes g t c =
@@ -274,7 +274,7 @@ relay_anew-relay_all-requires-2 g t c κs within =
     let one = (c.in_ok-relay_all.ensures {u = tt}) in
     let two = (c.in_ok-two.ensures {u = tt}) in
     let s = twos_known w one.ok one.fit two.value two.styles in
-    (omega arith, (search rules, (w.shown_is, (still_begun one.grown.only c.requires.begun, (one.passed.agrees, (one.grown.backed, (c.requires.few, twos_suit s)))))))
+    (omega arith, (search rules, (search rules, (w.shown_is, (still_begun one.grown.only c.requires.begun, (one.passed.agrees, (one.grown.backed, (c.requires.few, twos_suit s))))))))
 
 pub relay_anew-returns-in_err-relay_all-2-clause-passes : goal.relay_anew-returns-in_err-relay_all-2-clause-passes
 relay_anew-returns-in_err-relay_all-2-clause-passes g t c =
@@ -425,7 +425,7 @@ relay_again-relay_element-requires g t c κs within =
     let here = turn_of c.requires.agrees c.requires.before c.requires.few c.requires.context c.as_slice.result.now c.index-as_slice-before.result c.as_slice-2.result.now c.index-as_slice-place.result c.as_slice-3.result.now _
     c.as_slice.ensures c.index-as_slice-before.is c.as_slice-2.ensures c.index-as_slice-place.is c.of-view.ensures asked.ok asked.style c.as_slice-3.ensures c.index-as_slice-place-2.is c.at_mut-below.ensures.value in
     let falls = child_smaller here in
-    (omega arith, (search rules, (c.requires.begun, (child_agrees here, (child_backed here c.requires.backed, (child_few here, child_suits here))))))
+    (omega arith, (search rules, (search rules, (c.requires.begun, (child_agrees here, (child_backed here c.requires.backed, (child_few here, child_suits here)))))))
 
 pub relay_again-returns-in_err-answer : goal.relay_again-returns-in_err-answer
 relay_again-returns-in_err-answer g t c =

@@ -1,26 +1,18 @@
-use Rattle.std.proofs.Common.{◌∙◌, sym, ap, subst, ℕ, List}
-use Rattle.kept_edits.specs.Changed.{FitsMemo, changed_memo, taken_from}
-use Rattle.kept_edits.specs.Known.{IsKnownOn}
-use Rattle.kept_edits.specs.declared.change.Renewal.{Renewal}
-use Rattle.memo_tree.proofs.Followed.{fits_change}
-use Rattle.memo_tree.proofs.Undone.{followed}
+use Rattle.std.proofs.Common.{◌≡◌, ◌∙◌, sym, ap, ℕ, List, Some, is_some}
+use Rattle.math_tree.specs.declared.node.Node.{Node}
+use Rattle.tree_edits.specs.Paths.{node_at}
+use Rattle.kept_edits.specs.declared.way.Way.{Way}
+use Rattle.kept_edits.proofs.Followed.{has_place, leads}
 use Rattle.memo_tree.proofs.following.follow.Goals as goal
 
-pub change_memo-taken-requires-clause-fits : goal.change_memo-taken-requires-clause-fits
-change_memo-taken-requires-clause-fits c =
-    let splice = c.in_ok-splice.field-0.splice in
-    subst (λ (p : List ℕ). FitsMemo splice p c.args.memo.now) (sym c.as_slice.ensures)
-    (fits_change c.args.root.now c.args.memo.now c.args.way.now c.requires.before splice (c.in_ok-splice.ensures {u = tt}).splice)
+found : (root element : Node) (way : Way) (path : List ℕ) → path ≡ way.path → node_at path root ≡ Some element → node_at way.path root ≡ Some element
+found root element way path is at = sym (ap (λ (p : List ℕ). node_at p root) is) ∙ at
 
-pub returns-clause-followed : goal.returns-clause-followed
-returns-clause-followed c before =
-    let root = c.args.root.now in
-    let memo = c.args.memo.now in
-    let way = c.args.way.now in
-    let made = c.in_ok-splice.ensures {u = tt} in
-    let splice = c.in_ok-splice.field-0.splice in
-    let known : List Renewal = c.as_slice-2.result.now in
-    followed root memo c.change_memo-taken.new.memo way before splice c.inverse.result known c.change_memo-taken.result c.in_ok-splice.field-0.room made.splice
-    (subst (IsKnownOn way.path root memo) (sym c.as_slice-2.ensures) made.known) made.room
-    (c.change_memo-taken.ensures.memo ∙ ap (λ (p : List ℕ). changed_memo splice known p memo) c.as_slice.ensures)
-    (c.change_memo-taken.ensures.taken ∙ ap (λ (p : List ℕ). taken_from splice p memo) c.as_slice.ensures) c.inverse.ensures
+pub element_at-element-requires : goal.element_at-element-requires
+element_at-element-requires c =
+    ap is_some (ap (λ (p : List ℕ). node_at p c.args.root.now) c.as_slice-path.ensures ∙ leads c.args.root.now c.args.memo.now c.args.way.now c.requires)
+
+pub note_new-requires : goal.note_new-requires
+note_new-requires c =
+    let element = c.element_at-element.result.now in
+    has_place c.args.root.now c.args.memo.now c.args.way.now c.requires element (found c.args.root.now element c.args.way.now _ c.as_slice-path.ensures c.element_at-element.ensures)

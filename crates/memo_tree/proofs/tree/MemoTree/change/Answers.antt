@@ -5,7 +5,7 @@ use Rattle.memo_tree.specs.Marked.{EachStays, MarksPath, NewIsBlank}
 use Rattle.memo_tree.specs.Reversing.{ReversalValue, Reverses}
 use Rattle.memo_tree.specs.Trees.{IsLaidOut, MemoTreeValue}
 use Rattle.memo_tree.proofs.Changes.{before, changed_now, counted, each_stays, marks_path, new_blank, reverses, stays}
-use Rattle.memo_tree.proofs.Undone.{fewer_then}
+use Rattle.kept_edits.proofs.Undone.{fewer_then}
 use Rattle.memo_tree.proofs.tree.MemoTree.change.Goals as goal
 
 pub returns-in-Ok-clause-changed : goal.returns-in-Ok-clause-changed

@@ -18,8 +18,8 @@ use Rattle.tree_edits.proofs.Target.{found_at, found_nowhere}
 use Rattle.kept_edits.specs.Edited.{with_room}
 use Rattle.kept_edits.proofs.EditEnds.{own_brings, own_path, parent_brings, parent_path}
 use Rattle.kept_edits.proofs.EditedTrees.{own_edit_law, parent_edit_law}
-use Rattle.memo_tree.proofs.Elements.{ends_at}
-use Rattle.memo_tree.specs.Ways.{IsWay}
+use Rattle.kept_edits.proofs.Elements.{ends_at}
+use Rattle.kept_edits.specs.Ways.{IsWay}
 
 pub own_way : (tree : TreeValue) (edit : Edit) (path : List ℕ) (site : Site) → IsWhole tree → refusal_of tree edit ≡ None → IsOwn edit
     → (leads : LeadsTo (named edit) 1 tree.root path) → site ≡ site_of (splice_of (with_room (own_change edit tree.next_id) leads.element))

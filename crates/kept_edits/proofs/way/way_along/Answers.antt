@@ -1,8 +1,8 @@
 use Rattle.std.proofs.Common.{sym, subst}
 use Rattle.tree_edits.specs.Edits.{named}
 use Rattle.tree_edits.specs.Paths.{Finds, LeadsTo}
-use Rattle.memo_tree.proofs.Ways.{not_unknown}
-use Rattle.memo_tree.proofs.way.way_along.Goals as goal
+use Rattle.kept_edits.proofs.EditWays.{not_unknown}
+use Rattle.kept_edits.proofs.way.way_along.Goals as goal
 
 pub returns-in-None : goal.returns-in-None
 returns-in-None c = λ free.

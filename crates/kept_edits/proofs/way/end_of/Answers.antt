@@ -1,6 +1,6 @@
 use Rattle.std.proofs.Common.{arith}
-use Rattle.memo_tree.proofs.Ways.{attr_way, graft_way, insert_way, remove_way, removed_below, replace_way, replaced_below, swap_way, swapped_below, text_way}
-use Rattle.memo_tree.proofs.way.end_of.Goals as goal
+use Rattle.kept_edits.proofs.EditWays.{attr_way, graft_way, insert_way, remove_way, removed_below, replace_way, replaced_below, swap_way, swapped_below, text_way}
+use Rattle.kept_edits.proofs.way.end_of.Goals as goal
 
 pub returns-in-Text : goal.returns-in-Text
 returns-in-Text c = λ tree whole free leads. text_way tree c.args.edit.now _ _ c.args.path c.in-Text.is whole free leads

@@ -8,7 +8,7 @@ use Rattle.tree_edits.specs.declared.edit.Edit.{Edit}
 use Rattle.kept_edits.specs.ByIds.{BringsFree}
 use Rattle.kept_edits.specs.EditPaths.{IsEditPath}
 use Rattle.kept_edits.specs.Edited.{IsChangeOf}
-use Rattle.memo_tree.specs.declared.way.Way.{Way}
+use Rattle.kept_edits.specs.declared.way.Way.{Way}
 
 -- an edit of a tree is a change there, of the element that it names or of the one over that; what
 -- it puts in has free ids

@@ -20,7 +20,7 @@ use Rattle.kept_edits.specs.Changed.{FitsMemo, changed_memo, renewed, seen_anew,
 use Rattle.kept_edits.specs.Laws.{IsReadyFor}
 use Rattle.kept_edits.specs.declared.change.Renewal.{Renewal}
 use Rattle.kept_edits.proofs.Changing.{child_on, marked, marked_is, paired}
-use Rattle.memo_tree.specs.Rooms.{HasRoom}
+use Rattle.kept_edits.specs.Rooms.{HasRoom}
 
 -- ---- back again
 

@@ -27,11 +27,11 @@ use Rattle.kept_edits.proofs.Counting.{change_count_law}
 use Rattle.kept_edits.proofs.Needing.{stays_law}
 use Rattle.kept_edits.proofs.Runs.{change_own_runs_law, new_backed}
 use Rattle.kept_edits.proofs.Tidying.{blank_tidy, changed_is_tidy}
-use Rattle.memo_tree.specs.Followed.{IsBefore, IsFollowed, IsOfWay, IsSplicedAlong}
-use Rattle.memo_tree.specs.Rooms.{HasRoom}
-use Rattle.memo_tree.specs.declared.way.Way.{Way}
-use Rattle.memo_tree.proofs.Followed.{blank_alike, fits_change, same_change}
-use Rattle.memo_tree.proofs.Rooms.{back_fits}
+use Rattle.kept_edits.specs.Followed.{IsBefore, IsFollowed, IsOfWay, IsSplicedAlong}
+use Rattle.kept_edits.specs.Rooms.{HasRoom}
+use Rattle.kept_edits.specs.declared.way.Way.{Way}
+use Rattle.kept_edits.proofs.Followed.{blank_alike, fits_change, same_change}
+use Rattle.kept_edits.proofs.Rooms.{back_fits}
 
 module _ (path : List ℕ) (memo now : Memo) (other back : Splice Memo) (known : List Renewal) (taken : Option Memo) (room : ℕ) (site : Site)
     (is : now ≡ changed_memo other known path memo) (took : taken ≡ taken_from other path memo) (made : back ≡ inverse site taken room) (there : site_of other ≡ site)

@@ -25,10 +25,10 @@ use Rattle.kept_edits.specs.Laws.{IsReadyFor, IsSame}
 use Rattle.kept_edits.proofs.Changing.{paired}
 use Rattle.kept_edits.proofs.OnTheWay.{beside_law}
 use Rattle.kept_edits.proofs.Unlaid.{blank_law}
-use Rattle.memo_tree.specs.Followed.{HasPlace, IsBefore, IsOfWay}
-use Rattle.memo_tree.specs.Rooms.{HasRoom}
-use Rattle.memo_tree.specs.declared.way.Way.{Way}
-use Rattle.memo_tree.proofs.Rooms.{fits_beside}
+use Rattle.kept_edits.specs.Followed.{HasPlace, IsBefore, IsOfWay}
+use Rattle.kept_edits.specs.Rooms.{HasRoom}
+use Rattle.kept_edits.specs.declared.way.Way.{Way}
+use Rattle.kept_edits.proofs.Rooms.{fits_beside}
 
 -- ---- the element that was changed
 

@@ -3,7 +3,7 @@ ghost use Rattle.std.specs.Prelude.{◌≡◌, None as NoReason};
 ghost use Rattle.math_tree.specs.Trees.{IsWhole, TreeValue};
 ghost use Rattle.tree_edits.specs.Edits.{named, refusal_of};
 ghost use Rattle.tree_edits.specs.Paths.{Finds, LeadsTo};
-ghost use Rattle.memo_tree.specs.Ways.{HasWay};
+ghost use Rattle.kept_edits.specs.Ways.{HasWay};
 
 use math_tree::Tree;
 use splices::Site;

@@ -5,11 +5,11 @@ use Rattle.kept_edits.specs.Changed.{FitsMemo}
 use Rattle.kept_edits.specs.Known.{IsBeside}
 use Rattle.splices.specs.declared.splice.Splice.{Splice}
 use Rattle.kept_results.specs.declared.memo.Memo.{Memo}
-use Rattle.memo_tree.specs.Followed.{IsOfElement, IsOfWay}
-use Rattle.memo_tree.specs.Rooms.{HasRoom}
-use Rattle.memo_tree.specs.declared.way.Way.{Way}
-use Rattle.memo_tree.proofs.Followed.{fits_change, has_place, has_room, is_beside, leads}
-use Rattle.memo_tree.proofs.following.prepare.Goals as goal
+use Rattle.kept_edits.specs.Followed.{IsOfElement, IsOfWay}
+use Rattle.kept_edits.specs.Rooms.{HasRoom}
+use Rattle.kept_edits.specs.declared.way.Way.{Way}
+use Rattle.kept_edits.proofs.Followed.{fits_change, has_place, has_room, is_beside, leads}
+use Rattle.kept_edits.proofs.following.prepare.Goals as goal
 
 found : (root element : Node) (way : Way) (path : List ℕ) → path ≡ way.path → node_at path root ≡ Some element → node_at way.path root ≡ Some element
 found root element way path is at = sym (ap (λ (p : List ℕ). node_at p root) is) ∙ at
@@ -21,11 +21,6 @@ of_way root element way path splice is at h = record { element = element; at = f
 pub element_at-element-requires : goal.element_at-element-requires
 element_at-element-requires c =
     ap is_some (ap (λ (p : List ℕ). node_at p c.args.root.now) c.as_slice-path.ensures ∙ leads c.args.root.now c.args.memo.now c.args.way.now c.requires)
-
-pub note_new-requires : goal.note_new-requires
-note_new-requires c =
-    let element = c.element_at-element.result.now in
-    has_place c.args.root.now c.args.memo.now c.args.way.now c.requires element (found c.args.root.now element c.args.way.now _ c.as_slice-path.ensures c.element_at-element.ensures)
 
 pub memo_splice-requires : goal.memo_splice-requires
 memo_splice-requires c =

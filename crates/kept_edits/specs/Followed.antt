@@ -14,7 +14,7 @@ use Rattle.kept_edits.specs.Blank.{blank}
 use Rattle.kept_edits.specs.Changed.{FitsMemo, changed_memo, undone_memo}
 use Rattle.kept_edits.specs.Laws.{IsReadyFor, KnownOn}
 use Rattle.kept_edits.specs.declared.change.Renewal.{Renewal}
-use Rattle.memo_tree.specs.declared.way.Way.{Way}
+use Rattle.kept_edits.specs.declared.way.Way.{Way}
 
 -- ---- before
 
