@@ -19,7 +19,7 @@ use Rattle.queries.specs.Queries.{IsCause, answer_to}
 use Rattle.queries.specs.declared.query.Query.{Query}
 use Rattle.queries.specs.declared.query.QueryRefusal.{QueryRefusal}
 use Rattle.queries.specs.declared.query.QueryRefusal.TheVariants as refused_query
-use Rattle.commands.specs.Command.{Asked, Job, OverTree, Generates, Work, LaysOut, Edits, Checks, Asks, Remembers}
+use Rattle.command_words.specs.Command.{Asked, Job, OverTree, Generates, Work, LaysOut, Edits, Checks, Asks, Remembers}
 use Rattle.commands.specs.Answer.{Text, whole_text, content, answers_to, lines_of_page, answered, asked_of_page, of_answer, checked, laid_out, scripted, done, generates, told_of_edits, answer_over, answer_with, answer}
 use Rattle.line_replies.specs.Opening.{metrics_in, tree_in, ◌>>=◌, started, GivesOr}
 use Rattle.line_replies.specs.Refusals.{of_layout, of_query}

@@ -6,7 +6,7 @@ use Rattle.std.specs.List.{concat}
 use Rattle.std.specs.Io.KnownBytes.{Appends, IsAtEnd, Keeps}
 use Rattle.doc_io.specs.Causes.{Files, InputsTold, Rose, SinkTold}
 use Rattle.doc_io.proofs.Known.{appends_kept, kept_of_nothing}
-use Rattle.commands.specs.Command.{Asked, usage_line}
+use Rattle.command_words.specs.Command.{Asked, usage_line}
 use Rattle.line_replies.specs.Refusals.{status_of}
 use Rattle.commands.specs.Answer.{answer, Output, Text, output_of, output, parts_of, status_of_end}
 use Rattle.commands.specs.Ends.{LacksFile, HasReadCause, IsCut, IsCutShort, IsDelivered, IsJobInParts, Answers, Delivers, Breaks, AnsweredJob, Ends}

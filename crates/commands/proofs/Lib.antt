@@ -9,7 +9,4 @@ mod StepsTaken
 mod Parts
 mod Replying
 mod RepliesLaws
-mod CoordinateWords
-mod DigitWords
-mod Limits
 mod Worked

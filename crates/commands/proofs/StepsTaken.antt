@@ -12,7 +12,7 @@ use Rattle.font_metrics.specs.Metrics.{MetricsValue}
 use Rattle.math_tree.specs.Trees.{TreeValue}
 use Rattle.memo_tree.specs.Counted.{TakesVisits}
 use Rattle.edit_session.specs.Session.{SessionValue}
-use Rattle.commands.specs.Command.{Asked, Work}
+use Rattle.command_words.specs.Command.{Asked, Work}
 use Rattle.commands.specs.Answer.{content}
 use Rattle.line_replies.specs.Opening.{metrics_in, started, tree_in}
 use Rattle.commands.specs.Ends.{Answers, IsCut}

@@ -15,7 +15,7 @@ use Rattle.generator.specs.Summary.{lines_of as lines_of_summary}
 use Rattle.queries.specs.Queries.{answer_to}
 use Rattle.queries.specs.declared.query.Query.{Query}
 use Rattle.queries.specs.declared.query.QueryRefusal.{QueryRefusal}
-use Rattle.commands.specs.Command.{Asked, Job, OverTree, Generates, Work, LaysOut, Edits, Checks, Asks, usage_line, Remembers}
+use Rattle.command_words.specs.Command.{Asked, Job, OverTree, Generates, Work, LaysOut, Edits, Checks, Asks, usage_line, Remembers}
 use Rattle.commands.specs.Script.{within, is_within}
 use Rattle.line_replies.specs.Opening.{◌>>=◌, metrics_in, started, tree_in}
 use Rattle.line_replies.specs.Replies.{by_session}

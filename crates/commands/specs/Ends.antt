@@ -4,7 +4,7 @@ use Rattle.std.specs.List.{concat}
 use Rattle.std.specs.Io.KnownBytes.{Appends, IsAtEnd, Keeps}
 use Rattle.doc_io.specs.Causes.{Files, InputsTold, Rose, SinkTold}
 use Rattle.edit_session.specs.Session.{SessionValue}
-use Rattle.commands.specs.Command.{Asked, Job, OverTree, Generates, Work, LaysOut, Edits, Checks, Asks, usage_line, Remembers}
+use Rattle.command_words.specs.Command.{Asked, Job, OverTree, Generates, Work, LaysOut, Edits, Checks, Asks, usage_line, Remembers}
 use Rattle.commands.specs.Answer.{Text, content, output, output_of, parts_asked, parts_of}
 use Rattle.line_replies.specs.Opening.{◌>>=◌, GivesOr, metrics_in, started, tree_in}
 use Rattle.line_replies.specs.Status.{EndsBeforeTree, EndsUnlaid}

@@ -1,5 +1,3 @@
-pub mod Numerals
-pub mod Command
 pub mod Script
 pub mod Answer
 pub mod Ends

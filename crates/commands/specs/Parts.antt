@@ -13,7 +13,7 @@ use Rattle.math_tree.specs.Trees.{TreeValue}
 use Rattle.line_replies.specs.Responders.{Responder}
 use Rattle.commands.specs.Answer.{Text, content, replies_within, status_of_end}
 use Rattle.line_replies.specs.Opening.{started, tree_in}
-use Rattle.commands.specs.Command.{Job, OverTree, Generates, Work, LaysOut, Edits, Checks, Asks, Remembers}
+use Rattle.command_words.specs.Command.{Job, OverTree, Generates, Work, LaysOut, Edits, Checks, Asks, Remembers}
 use Rattle.commands.specs.Ends.{Breaks, Delivers, HasReadCause, IsCut}
 use Rattle.line_replies.specs.declared.refusal.Refusal.{Refusal}
 use Rattle.line_replies.specs.declared.refusal.Refusal.TheVariants.{ReadFault}

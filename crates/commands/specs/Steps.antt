@@ -9,7 +9,7 @@ use Rattle.math_tree.specs.Trees.{TreeValue}
 use Rattle.memo_tree.specs.Counted.{TakesVisits}
 use Rattle.edit_session.specs.Session.{SessionValue}
 use Rattle.generator.specs.Steps.{TakesForRun as TakesForGenerated}
-use Rattle.commands.specs.Command.{Asked, Job, OverTree, Generates, Work, LaysOut, Edits, Checks, Asks, Remembers}
+use Rattle.command_words.specs.Command.{Asked, Job, OverTree, Generates, Work, LaysOut, Edits, Checks, Asks, Remembers}
 use Rattle.line_replies.specs.EditSteps.{TakesForLine}
 use Rattle.line_replies.specs.HistorySteps.{TakesForKept, by_history, kept_at_first}
 use Rattle.commands.specs.Script.{within}

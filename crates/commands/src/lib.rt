@@ -5,22 +5,19 @@
 //! boxes, `edit` answers the lines of a script over a tree, `check` prints both files in their
 //! canonical form.
 //!
-//! - Models: words, lines, replies and statuses, which are own.
+//! - Models: lines, replies and statuses, which are own.
 //! - Proved: `run` ends as `Ends` says (`specs/Ends.antt`): with the bytes and the status of
 //!   `output` (`specs/Answer.antt`), or cut short for a cause. Of `edit` these bytes are `replies`
 //!   (`specs/Replies.antt` of `line_replies`), each over the tree as edited so far.
-//! - Knows nothing of: the system; how a metrics file, a tree or a line of a script is read, how a
-//!   tree is laid out, and what an edit makes of it.
+//! - Knows nothing of: the system; how words, a metrics file, a tree or a line of a script are
+//!   read, how a tree is laid out, and what an edit makes of it.
 //! - Change what is answered: `specs/Answer.antt`, then the file of `src/` below, then `rt check`;
-//!   to a line of a script: the crate `line_replies`.
+//!   to a line of a script: the crate `line_replies`; which words ask for it: `command_words`.
 #![tactic(auto)]
 
-mod command; // the words of the command line
 pub mod laws; // of all scripts
 mod load; // the files
-mod numerals; // numbers among the words
 mod program; // the top call
-mod query; // what is asked of a page
 mod replies; // the lines of a script, one after another
 mod responders; // what answers them: a session, and a ring of edits
 

@@ -3,7 +3,7 @@ use Rattle.std.specs.Prelude.{◌≡◌, Option}
 use Rattle.std.specs.Process.{exit_status}
 use Rattle.std.specs.declared.process.ExitCode.{ExitCode}
 use Rattle.doc_io.specs.Causes.{InputsTold, SinkTold}
-use Rattle.commands.specs.Command.{Asked}
+use Rattle.command_words.specs.Command.{Asked}
 use Rattle.commands.specs.Ends.{Ends}
 use Rattle.line_replies.specs.Status.{number_of}
 use Rattle.line_replies.specs.declared.status.Status.{Status}

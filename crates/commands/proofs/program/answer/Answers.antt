@@ -4,7 +4,7 @@ use Rattle.doc_io.specs.Causes.{InputsTold, SinkTold}
 use Rattle.font_metrics.specs.Metrics.{MetricsValue}
 use Rattle.commands.specs.Answer.{answer, answer_with, content}
 use Rattle.line_replies.specs.Opening.{metrics_in}
-use Rattle.commands.specs.Command.{Asked, IsInLimits, Job, asked_of, job_of, work_of}
+use Rattle.command_words.specs.Command.{Asked, IsInLimits, Job, asked_of, job_of, work_of}
 use Rattle.commands.specs.Ends.{Answers, AnsweredJob, IsJobInParts, JobStepsStand, LacksFile}
 use Rattle.commands.specs.Parts.{LacksNext}
 use Rattle.commands.specs.Steps.{TakesForJob}

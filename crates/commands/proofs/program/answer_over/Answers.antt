@@ -1,5 +1,5 @@
 use Rattle.std.proofs.Common.{inl, refl, Err}
-use Rattle.commands.specs.Command.{work_of}
+use Rattle.command_words.specs.Command.{work_of}
 use Rattle.commands.proofs.Answering.{without_tree, with_tree}
 use Rattle.commands.specs.Ends.{IsInParts}
 use Rattle.commands.proofs.Parts.{since}

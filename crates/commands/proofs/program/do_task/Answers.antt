@@ -1,7 +1,7 @@
 use Rattle.std.proofs.Common.{inl, refl, subst, sym, ap}
 use Rattle.std.specs.Option.{option_map}
 use Rattle.commands.specs.Answer.{done}
-use Rattle.commands.specs.Command.{IsWorkInLimits, Work, work_of}
+use Rattle.command_words.specs.Command.{IsWorkInLimits, Work, work_of}
 use Rattle.commands.specs.Ends.{Answered}
 use Rattle.commands.specs.Parts.{LacksScript}
 use Rattle.commands.specs.Steps.{TakesForWork}

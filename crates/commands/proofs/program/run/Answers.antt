@@ -1,10 +1,10 @@
 use Rattle.std.proofs.Common.{refl, subst, sym}
 use Rattle.std.specs.Prelude.{map, string_bytes}
-use Rattle.commands.specs.Command.{asked_of}
+use Rattle.command_words.specs.Command.{asked_of}
 use Rattle.commands.specs.Ends.{TakesNoSteps}
 use Rattle.commands.specs.Steps.{TakesForRun}
 use Rattle.commands.proofs.Ending.{answered_ends, usage_ends}
-use Rattle.commands.proofs.Limits.{asked_within}
+use Rattle.command_words.proofs.Limits.{asked_within}
 use Rattle.commands.proofs.program.run.Goals as goal
 
 pub answer-requires : goal.answer-requires

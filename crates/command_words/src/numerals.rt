@@ -2,7 +2,7 @@
 ghost use Rattle.std.specs.Prelude.{◌≡◌};
 ghost use Rattle.std.specs.Char.{is_ascii_digit};
 ghost use Rattle.std.specs.List.{list_all};
-ghost use Rattle.commands.specs.Numerals.{behind_minus, coordinate_in, count_in, id_in, is_short_numeral, number_in, seed_in, depth_in};
+ghost use Rattle.command_words.specs.Numerals.{behind_minus, coordinate_in, count_in, id_in, is_short_numeral, number_in, seed_in, depth_in};
 
 use math_tree::NodeId;
 

@@ -1,6 +1,6 @@
 ghost use Rattle.std.specs.Prelude.{◌≡◌, [], ◌∷◌, Some, None, IfOk, OnErr, map, string_bytes};
 ghost use Rattle.std.specs.Option.{option_map};
-ghost use Rattle.commands.specs.Command.{asked_by, asked_of, generation_of, job_named, job_of, remembering, work_named, work_of};
+ghost use Rattle.command_words.specs.Command.{asked_by, asked_of, generation_of, job_named, job_of, remembering, work_named, work_of};
 
 use crate::numerals::{count_of, depth_of, seed_of};
 use crate::query::query_of;
@@ -44,7 +44,9 @@ pub enum Job<'a> {
 /// A job, and the metrics file that it is done with.
 #[derive(Clone, Copy, Debug)]
 pub struct Request<'a> {
+    /// What is done.
     pub job: Job<'a>,
+    /// The name of the metrics file.
     pub metrics: &'a str,
 }
 

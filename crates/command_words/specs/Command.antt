@@ -4,12 +4,12 @@ use Rattle.std.specs.Option.{option_and_then, option_map}
 use Rattle.std.specs.Str.{bytes_eq}
 use Rattle.queries.specs.declared.query.Query.{Query}
 use Rattle.queries.specs.declared.query.Query.TheVariants.{Paint, Hit, Select}
-use Rattle.commands.specs.Numerals.{coordinate_in, count_in, depth_in, id_in, most_undone, seed_in}
-use Rattle.commands.specs.declared.command.Job.{Job as JobOfWords}
-use Rattle.commands.specs.declared.command.Job.TheVariants.{OverTree as WithTree, Generate}
-use Rattle.commands.specs.declared.command.Request.{Request}
-use Rattle.commands.specs.declared.command.Task.{Task}
-use Rattle.commands.specs.declared.command.Task.TheVariants.{Layout, Edit, Check, Ask, Remember}
+use Rattle.command_words.specs.Numerals.{coordinate_in, count_in, depth_in, id_in, most_undone, seed_in}
+use Rattle.command_words.specs.declared.command.Job.{Job as JobOfWords}
+use Rattle.command_words.specs.declared.command.Job.TheVariants.{OverTree as WithTree, Generate}
+use Rattle.command_words.specs.declared.command.Request.{Request}
+use Rattle.command_words.specs.declared.command.Task.{Task}
+use Rattle.command_words.specs.declared.command.Task.TheVariants.{Layout, Edit, Check, Ask, Remember}
 
 -- what is done with a metrics file and a tree file
 pub data Work : Type 0 where

@@ -1,7 +1,7 @@
 use Rattle.std.proofs.Common.{◌∙◌, sym, ap, subst, List, ℕ}
-use Rattle.commands.specs.Numerals.{is_short_numeral, number_in}
-use Rattle.commands.proofs.DigitWords.{no_number, parsed}
-use Rattle.commands.proofs.numerals.number_of.Goals as goal
+use Rattle.command_words.specs.Numerals.{is_short_numeral, number_in}
+use Rattle.command_words.proofs.DigitWords.{no_number, parsed}
+use Rattle.command_words.proofs.numerals.number_of.Goals as goal
 
 pub returns-then-is_short_numeral : goal.returns-then-is_short_numeral
 returns-then-is_short_numeral c =

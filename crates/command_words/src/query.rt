@@ -1,6 +1,6 @@
 //! What is asked of a page, by the words of the command line.
 ghost use Rattle.std.specs.Prelude.{◌≡◌};
-ghost use Rattle.commands.specs.Command.{ids_of, point_of, query_named};
+ghost use Rattle.command_words.specs.Command.{ids_of, point_of, query_named};
 
 use crate::numerals::{coordinate_of, id_of};
 use queries::Query;

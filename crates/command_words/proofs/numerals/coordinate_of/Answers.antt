@@ -1,7 +1,7 @@
 use Rattle.std.proofs.Common.{◌∙◌, sym, ap}
-use Rattle.commands.specs.Numerals.{behind_minus, is_short_numeral}
-use Rattle.commands.proofs.CoordinateWords.{coordinate_parsed, no_coordinate}
-use Rattle.commands.proofs.numerals.coordinate_of.Goals as goal
+use Rattle.command_words.specs.Numerals.{behind_minus, is_short_numeral}
+use Rattle.command_words.proofs.CoordinateWords.{coordinate_parsed, no_coordinate}
+use Rattle.command_words.proofs.numerals.coordinate_of.Goals as goal
 
 pub returns-then-is_short_numeral : goal.returns-then-is_short_numeral
 returns-then-is_short_numeral c =

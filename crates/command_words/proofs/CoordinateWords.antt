@@ -8,8 +8,8 @@ use Rattle.std.specs.Result.{OkIff, result_ok}
 use Rattle.std.specs.Str.Parse.{ParsesSigned, digits_value}
 use Rattle.std.proofs.lemmas.Bool.{and_parts, cases_lt, eqb-true, eqb-false, le-ltb, leb-true, lt-ltb}
 use Rattle.std.proofs.lemmas.Str.Parse.{IsNumeralModel, digits_value_short, numerals_by_value, parse_signed_digits, parse_signed_minus}
-use Rattle.commands.specs.Numerals.{behind_minus, coordinate_in, is_short_numeral, negated, number_in}
-use Rattle.commands.proofs.DigitWords.{by_tests, no_number}
+use Rattle.command_words.specs.Numerals.{behind_minus, coordinate_in, is_short_numeral, negated, number_in}
+use Rattle.command_words.proofs.DigitWords.{by_tests, no_number}
 
 own : IsNumeralModel (λ ds. list_all is_ascii_digit ds ≡ true) (digits_value 10)
 own = numerals_by_value (λ ds. list_all is_ascii_digit ds ≡ true) (search rules)

@@ -1,0 +1,4 @@
+mod CoordinateWords
+mod DigitWords
+pub mod Limits
+mod Worked
