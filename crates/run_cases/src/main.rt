@@ -8,18 +8,34 @@
 //! - Proved: that every input is gone through to its end, without undefined behaviour. What is
 //!   written is compared, so no function here has an `ensures`.
 //! - Knows nothing of: what the words mean, and how a run is written.
-//! - Add to what a run may be: `src/kinds/runs.rt`. Add a command over the values of a case:
-//!   `src/kinds/of_values.rt`. Add a kind of case: a file in `src/kinds/`, and its line in
-//!   `src/kinds.rt`.
+//! - Add to what a run may be, or a kind of case: the crate `run_kinds`.
 #![tactic(auto)]
 
-mod kinds; // the kinds of cases
+mod counted; // a run that counts its steps
 
 use case_format::carry_out;
-use kinds::OfRuns;
+use counted::run_once;
+use doc_io::{MemoryInputs, MemorySink};
+use run_kinds::{OfRuns, Program};
+use std::alloc::Global;
 use std::io;
 use std::process::ExitCode;
 
+/// The program whose runs are cases.
+struct Mathlay;
+
+impl Program for Mathlay {
+    fn run(
+        &self,
+        alloc: Global,
+        words: &[String],
+        inputs: &mut MemoryInputs,
+        out: &mut MemorySink,
+    ) -> u8 {
+        run_once(alloc, words, inputs, out).number()
+    }
+}
+
 fn main(rt: HostRuntime) -> io::Result<ExitCode> {
-    carry_out(&rt, &OfRuns)
+    carry_out(&rt, &OfRuns { program: Mathlay })
 }

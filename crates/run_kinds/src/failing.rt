@@ -1,18 +1,14 @@
 //! `failing_reads`, `failing_writes`: runs in which each call fails in turn.
 
-use crate::kinds::ends::{AMPLE, end_of_run};
-use crate::kinds::runs::{add_files, add_words};
+use crate::ends::{Program, end_of_run};
+use crate::given::{NO_CALL, add_files, add_words, failing_sink};
 use case_format::{Case, Ended, Fault, Fields};
-use doc_io::{MemoryInputs, MemorySink};
-use fixed_units::Memory;
-use std::alloc::{AllocError, Global};
+use doc_io::MemoryInputs;
+use std::alloc::AllocError;
 use std::fmt::Write;
 
 /// The most runs of a case.
 const MOST_RUNS: u64 = 10_000;
-
-/// The number of no call.
-const NO_CALL: u64 = 0;
 
 /// Whose calls fail.
 #[derive(Clone, Copy)]
@@ -39,13 +35,19 @@ enum Extent {
 /// Adds how the runs of the program end in which the first call of a side fails, then the second,
 /// and so on, up to the first run that ends as one without failing calls: the kinds `failing_reads`
 /// and `failing_writes`.
-pub fn add_failing(side: Side, case: Case, words: &mut String) -> Result<(), Fault> {
+pub fn add_failing<P: Program>(
+    program: &P,
+    side: Side,
+    case: Case,
+    words: &mut String,
+) -> Result<(), Fault> {
     let fields = Fields::of_value(case.value, &["words", "files", "cut"])?;
     let mut command = Vec::new(case.alloc);
-    add_failing_of(side, case, fields, &mut command, words)
+    add_failing_of(program, side, case, fields, &mut command, words)
 }
 
-fn add_failing_of(
+fn add_failing_of<P: Program>(
+    program: &P,
     side: Side,
     case: Case,
     fields: Fields,
@@ -54,6 +56,7 @@ fn add_failing_of(
 ) -> Result<(), Fault> {
     add_words(case.alloc, fields, command)?;
     let run = Run {
+        program,
         case,
         fields,
         command: command.as_slice(),
@@ -63,8 +66,9 @@ fn add_failing_of(
 }
 
 /// What is run again and again.
-#[derive(Clone, Copy)]
-struct Run<'a> {
+#[derive(Drop)]
+struct Run<'a, P: Program> {
+    program: &'a P,
     case: Case<'a>,
     fields: Fields<'a>,
     command: &'a [String],
@@ -72,16 +76,16 @@ struct Run<'a> {
     side: Side,
 }
 
-impl<'a> Run<'a> {
+impl<'a, P: Program> Run<'a, P> {
     /// Adds how the runs ended.
-    fn add_endings(self, words: &mut String) -> Result<(), Fault> {
+    fn add_endings(&self, words: &mut String) -> Result<(), Fault> {
         let whole = self.ended(NO_CALL)?;
         self.add_endings_until(&whole, words)
     }
 
     /// Adds how the runs ended, up to the first that ended as the whole one did: where several in a
     /// row ended in the same way, it is told once.
-    fn add_endings_until(self, whole: &Ended, words: &mut String) -> Result<(), Fault> {
+    fn add_endings_until(&self, whole: &Ended, words: &mut String) -> Result<(), Fault> {
         let mut last = None;
         for call in 1..=MOST_RUNS {
             let ending = self.ending(call, whole)?;
@@ -97,7 +101,7 @@ impl<'a> Run<'a> {
     }
 
     /// How the run ended in which this call fails.
-    fn ending(self, call: u64, whole: &Ended) -> Result<Ending, Fault> {
+    fn ending(&self, call: u64, whole: &Ended) -> Result<Ending, Fault> {
         let ended = self.ended(call)?;
         Ok(Ending {
             status: ended.status,
@@ -105,17 +109,24 @@ impl<'a> Run<'a> {
         })
     }
 
-    fn ended(self, call: u64) -> Result<Ended, Fault> {
+    fn ended(&self, call: u64) -> Result<Ended, Fault> {
         let mut inputs = MemoryInputs::make(self.case.alloc);
         self.ended_over(call, &mut inputs)
     }
 
-    fn ended_over(self, call: u64, inputs: &mut MemoryInputs) -> Result<Ended, Fault> {
+    fn ended_over(&self, call: u64, inputs: &mut MemoryInputs) -> Result<Ended, Fault> {
         let (read, write) = self.side.failing(call);
         add_files(self.case, self.fields, inputs)?;
         inputs.fail_at(read)?;
         let sink = failing_sink(self.case.alloc, write)?;
-        Ok(end_of_run(self.case.alloc, self.command, inputs, sink, false))
+        Ok(end_of_run(
+            self.program,
+            self.case.alloc,
+            self.command,
+            inputs,
+            sink,
+            false,
+        ))
     }
 }
 
@@ -127,13 +138,6 @@ impl Side {
             Side::Sink => (NO_CALL, call),
         }
     }
-}
-
-/// A sink with ample room of which this call fails.
-fn failing_sink(alloc: Global, call: u64) -> Result<MemorySink, Memory> {
-    let mut sink = MemorySink::make(alloc, AMPLE)?;
-    sink.fail_at(call)?;
-    Ok(sink)
 }
 
 impl Ending {

@@ -1,59 +1,42 @@
-//! `run`: a run over files in memory.
+//! The words, the inputs and the sink that a case gives.
 
-use crate::kinds::ends::{AMPLE, end_of_run};
-use case_format::{Case, Ended, Fault, Fields, count_in, text_in};
+use case_format::{Case, Fault, Fields, count_in, text_in};
 use doc_io::{MemoryInputs, MemorySink};
-use std::alloc::Global;
+use fixed_units::Memory;
+use std::alloc::{AllocError, Global};
 
-const KEYS: [&str; 7] = [
-    "words",
-    "files",
-    "cut",
-    "fail_read",
-    "fail_write",
-    "room",
-    "sum",
-];
+/// The room of a sink in bytes, where a case gives none: more than any run writes.
+const AMPLE: usize = 67_108_864;
 
-/// A run of the program with the words and over the files that a case names: the kind `run`.
-pub fn run_of(case: Case) -> Result<Ended, Fault> {
-    let fields = Fields::of_value(case.value, &KEYS)?;
-    let mut words = Vec::new(case.alloc);
-    let mut inputs = MemoryInputs::make(case.alloc);
-    run_with(case, fields, &mut words, &mut inputs)
-}
-
-/// What comes of a case's words over its files. It owns neither: a function that does drops them at
-/// each `?`, and each drop is proved.
-fn run_with(
-    case: Case,
-    fields: Fields,
-    words: &mut Vec<String>,
-    inputs: &mut MemoryInputs,
-) -> Result<Ended, Fault> {
-    add_words(case.alloc, fields, words)?;
-    add_files(case, fields, inputs)?;
-    set_failing(fields, inputs)?;
-    let summed = fields.flag_or_false("sum")?;
-    let sink = sink_of(case.alloc, fields)?;
-    Ok(end_of_run(case.alloc, words.as_slice(), inputs, sink, summed))
-}
+/// The number of no call.
+pub const NO_CALL: u64 = 0;
 
 /// Adds the words that a case gives.
 pub fn add_words(alloc: Global, fields: Fields, words: &mut Vec<String>) -> Result<(), Fault> {
     for word in fields.items("words")? {
-        words.push(String::from_str(alloc, text_in("words", word)?)?)?;
+        add_word(alloc, text_in("words", word)?, words)?;
     }
+    Ok(())
+}
+
+/// Adds a word.
+pub fn add_word(alloc: Global, word: &str, words: &mut Vec<String>) -> Result<(), Fault> {
+    words.push(String::from_str(alloc, word)?)?;
     Ok(())
 }
 
 /// Adds the files that a case names, and sets where reads stop.
 pub fn add_files(case: Case, fields: Fields, inputs: &mut MemoryInputs) -> Result<(), Fault> {
     for file in fields.items("files")? {
-        let name = text_in("files", file)?;
-        inputs.add_file(name, case.files.bytes(name)?)?;
+        add_known(case, text_in("files", file)?, inputs)?;
     }
     set_cuts(fields, inputs)
+}
+
+/// Adds a known file under its name.
+pub fn add_known(case: Case, name: &str, inputs: &mut MemoryInputs) -> Result<(), Fault> {
+    inputs.add_file(name, case.files.bytes(name)?)?;
+    Ok(())
 }
 
 /// Sets where reads stop.
@@ -65,7 +48,7 @@ fn set_cuts(fields: Fields, inputs: &mut MemoryInputs) -> Result<(), Fault> {
 }
 
 /// Sets which calls of the inputs fail.
-fn set_failing(fields: Fields, inputs: &mut MemoryInputs) -> Result<(), Fault> {
+pub fn set_failing(fields: Fields, inputs: &mut MemoryInputs) -> Result<(), Fault> {
     for call in fields.items_or_none("fail_read")? {
         inputs.fail_at(count_in("fail_read", call)?)?;
     }
@@ -73,7 +56,7 @@ fn set_failing(fields: Fields, inputs: &mut MemoryInputs) -> Result<(), Fault> {
 }
 
 /// A sink with the room and the failing calls that a case gives.
-fn sink_of(alloc: Global, fields: Fields) -> Result<MemorySink, Fault> {
+pub fn sink_of(alloc: Global, fields: Fields) -> Result<MemorySink, Fault> {
     let mut sink = MemorySink::make(alloc, room_in(fields)?)?;
     set_failures(fields, &mut sink)?;
     Ok(sink)
@@ -98,4 +81,16 @@ fn set_failures(fields: Fields, sink: &mut MemorySink) -> Result<(), Fault> {
         sink.fail_at(count_in("fail_write", call)?)?;
     }
     Ok(())
+}
+
+/// A sink with ample room.
+pub fn ample_sink(alloc: Global) -> Result<MemorySink, Memory> {
+    MemorySink::make(alloc, AMPLE)
+}
+
+/// A sink with ample room of which this call fails.
+pub fn failing_sink(alloc: Global, call: u64) -> Result<MemorySink, Memory> {
+    let mut sink = ample_sink(alloc)?;
+    sink.fail_at(call)?;
+    Ok(sink)
 }

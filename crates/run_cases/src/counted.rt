@@ -1,7 +1,6 @@
-//! How a run ends.
+//! A run that counts its steps.
 ghost use Rattle.std.specs.Prelude.{◌≡◌, ◌<◌};
 
-use case_format::Ended;
 use commands::{Status, run};
 use doc_io::{MemoryInputs, MemorySink};
 use fixed_units::Steps;
@@ -9,23 +8,14 @@ use std::alloc::Global;
 use std::marker::Brand;
 use std::sync::ledger::{Blank, Ledger};
 
-/// The room of a sink in bytes, where a case gives none: more than any run writes.
-pub const AMPLE: usize = 67_108_864;
-
-/// Runs the program with these words over the inputs and a sink, and says how it ended.
-pub fn end_of_run(
+/// Runs the program with these words over the inputs and a sink, on a ledger of its own.
+pub fn run_once(
     alloc: Global,
     words: &[String],
     inputs: &mut MemoryInputs,
-    mut sink: MemorySink,
-    summed: bool,
-) -> Ended {
-    let status = run_counted::<Brand>(alloc, words, inputs, &mut sink, Blank::new(1));
-    Ended {
-        status: status.number(),
-        written: sink,
-        summed,
-    }
+    out: &mut MemorySink,
+) -> Status {
+    run_counted::<Brand>(alloc, words, inputs, out, Blank::new(1))
 }
 
 /// Runs the program, which counts on the ledger `L`.

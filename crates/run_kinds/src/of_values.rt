@@ -1,8 +1,9 @@
 //! `layout`, `check`, `edit`: a command over a metrics file and values of a case.
 
-use crate::kinds::ends::{AMPLE, end_of_run};
+use crate::ends::{Program, end_of_run};
+use crate::given::{add_known, add_word, ample_sink};
 use case_format::{Case, Ended, Fault, Fields};
-use doc_io::{MemoryInputs, MemorySink};
+use doc_io::MemoryInputs;
 use fixed_units::List;
 use serde_json::Value;
 use std::alloc::Global;
@@ -13,23 +14,24 @@ const TREE: &str = "the tree";
 const SCRIPT: &str = "the script";
 
 /// The run of a command with a case's metrics file and its tree: the kinds `layout` and `check`.
-pub fn run_of_command(command: &str, case: Case) -> Result<Ended, Fault> {
+pub fn run_of_command<P: Program>(program: &P, command: &str, case: Case) -> Result<Ended, Fault> {
     let fields = Fields::of_value(case.value, &["metrics", "tree", "sum"])?;
     let mut words = Vec::new(case.alloc);
     let mut inputs = MemoryInputs::make(case.alloc);
-    run_over_two(command, case, fields, &mut words, &mut inputs)
+    run_over_two(program, command, case, fields, &mut words, &mut inputs)
 }
 
 /// The run of `edit` with a case's metrics file, its tree and its script: the kind `edit`.
-pub fn run_of_edit(case: Case) -> Result<Ended, Fault> {
+pub fn run_of_edit<P: Program>(program: &P, case: Case) -> Result<Ended, Fault> {
     let fields = Fields::of_value(case.value, &["metrics", "tree", "script", "sum"])?;
     let mut words = Vec::new(case.alloc);
     let mut inputs = MemoryInputs::make(case.alloc);
-    run_over_three(case, fields, &mut words, &mut inputs)
+    run_over_three(program, case, fields, &mut words, &mut inputs)
 }
 
 /// What comes of a command over the metrics file and the tree.
-fn run_over_two(
+fn run_over_two<P: Program>(
+    program: &P,
     command: &str,
     case: Case,
     fields: Fields,
@@ -38,11 +40,12 @@ fn run_over_two(
 ) -> Result<Ended, Fault> {
     add_command(case.alloc, command, fields, words)?;
     add_two(case, fields, inputs)?;
-    run_into(case.alloc, fields, words.as_slice(), inputs)
+    run_into(program, case.alloc, fields, words.as_slice(), inputs)
 }
 
 /// What comes of `edit` over the metrics file, the tree and the script.
-fn run_over_three(
+fn run_over_three<P: Program>(
+    program: &P,
     case: Case,
     fields: Fields,
     words: &mut Vec<String>,
@@ -52,7 +55,7 @@ fn run_over_three(
     add_word(case.alloc, SCRIPT, words)?;
     add_two(case, fields, inputs)?;
     add_script(case.alloc, fields, inputs)?;
-    run_into(case.alloc, fields, words.as_slice(), inputs)
+    run_into(program, case.alloc, fields, words.as_slice(), inputs)
 }
 
 /// Adds the words of a command with a case's metrics file and its tree.
@@ -68,15 +71,9 @@ fn add_command(
     Ok(())
 }
 
-fn add_word(alloc: Global, word: &str, words: &mut Vec<String>) -> Result<(), Fault> {
-    words.push(String::from_str(alloc, word)?)?;
-    Ok(())
-}
-
 /// Adds the metrics file, and a file with the tree's text.
 fn add_two(case: Case, fields: Fields, inputs: &mut MemoryInputs) -> Result<(), Fault> {
-    let name = fields.text("metrics")?;
-    inputs.add_file(name, case.files.bytes(name)?)?;
+    add_known(case, fields.text("metrics")?, inputs)?;
     let text = fields.value("tree")?.to_string(case.alloc)?;
     inputs.add_file(TREE, text.as_bytes())?;
     Ok(())
@@ -110,13 +107,14 @@ fn add_line(alloc: Global, value: &Value, script: &mut List<u8>) -> Result<(), F
 }
 
 /// What comes of these words over the inputs and a sink with ample room.
-fn run_into(
+fn run_into<P: Program>(
+    program: &P,
     alloc: Global,
     fields: Fields,
     words: &[String],
     inputs: &mut MemoryInputs,
 ) -> Result<Ended, Fault> {
     let summed = fields.flag_or_false("sum")?;
-    let sink = MemorySink::make(alloc, AMPLE)?;
-    Ok(end_of_run(alloc, words, inputs, sink, summed))
+    let sink = ample_sink(alloc)?;
+    Ok(end_of_run(program, alloc, words, inputs, sink, summed))
 }

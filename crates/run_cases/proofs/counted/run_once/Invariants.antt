@@ -1,4 +1,4 @@
-use Rattle.run_cases.proofs.kinds.ends.end_of_run.Given as goal
+use Rattle.run_cases.proofs.counted.run_once.Given as goal
 
 -- the ledger is the one that the blank opens
 abbrev pub ghosts-run_counted : goal.ghosts-run_counted
