@@ -10,9 +10,9 @@ found root element way path is at = sym (ap (λ (p : List ℕ). node_at p root) 
 
 pub element_at-element-requires : goal.element_at-element-requires
 element_at-element-requires c =
-    ap is_some (ap (λ (p : List ℕ). node_at p c.args.root.now) c.as_slice-path.ensures ∙ leads c.args.root.now c.args.memo.now c.args.way.now c.requires)
+    ap is_some (ap (λ (p : List ℕ). node_at p c.args.root.now) c.as_slice-path.ensures ∙ leads c.args.root.now c.args.memo.now c.args.way.now c.requires.before)
 
 pub note_new-requires : goal.note_new-requires
 note_new-requires c =
     let element = c.element_at-element.result.now in
-    has_place c.args.root.now c.args.memo.now c.args.way.now c.requires element (found c.args.root.now element c.args.way.now _ c.as_slice-path.ensures c.element_at-element.ensures)
+    has_place c.args.root.now c.args.memo.now c.args.way.now c.requires.before element (found c.args.root.now element c.args.way.now _ c.as_slice-path.ensures c.element_at-element.ensures)
