@@ -9,7 +9,8 @@ use Rattle.op_dictionary.specs.declared.operator.Axis.TheVariants.{Block}
 use Rattle.op_dictionary.specs.declared.operator.Form.TheVariants.{Prefix, Infix, Postfix}
 use Rattle.op_dictionary.specs.declared.text.OpText.{OpText}
 use Rattle.op_dictionary.specs.declared.text.OpText.TheVariants.{One}
-use Rattle.embellished.specs.Facts.{core_below, facts_over, form_of_word, is_space_like, truth_of_word}
+use Rattle.math_tree.specs.Attributes.{truth_of_word}
+use Rattle.embellished.specs.Facts.{core_below, facts_over, form_of_word, is_space_like}
 use Rattle.embellished.specs.Flow.{flow_by}
 use Rattle.embellished.specs.Forms.{fence_form, form_at, form_by_place, properties_at, stretch_axis}
 use Rattle.embellished.specs.Seen.{Kid, Seen}

@@ -4,7 +4,7 @@ use Rattle.std.specs.Prelude.{ℕ, Bool, true, false, not, ◌&&◌, ◌||◌, i
 use Rattle.std.specs.List.{list_all}
 use Rattle.std.specs.Option.{option_and_then}
 use Rattle.fixed_units.specs.Words.{is_word}
-use Rattle.math_tree.specs.Attributes.{value_of}
+use Rattle.math_tree.specs.Attributes.{truth_of_word, value_of}
 use Rattle.math_tree.specs.declared.attributes.Attribute.{Attribute}
 use Rattle.math_tree.specs.declared.kind.Kind.{Kind}
 use Rattle.math_tree.specs.declared.node.Head.{Head}
@@ -27,12 +27,6 @@ form_of_word value =
     if is_word value (codes "prefix") then Some Prefix
     else if is_word value (codes "infix") then Some Infix
     else if is_word value (codes "postfix") then Some Postfix
-    else None
-
-unfoldable pub truth_of_word : List ℕ → Option Bool
-truth_of_word value =
-    if is_word value (codes "true") then Some true
-    else if is_word value (codes "false") then Some false
     else None
 
 -- the form, or the truth value, that an attribute gives

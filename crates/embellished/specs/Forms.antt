@@ -9,8 +9,9 @@ use Rattle.op_dictionary.specs.declared.operator.Axis.{Axis}
 use Rattle.op_dictionary.specs.declared.operator.Form.{Form}
 use Rattle.op_dictionary.specs.declared.operator.Form.TheVariants.{Prefix, Infix, Postfix}
 use Rattle.op_dictionary.specs.declared.operator.Properties.{Properties}
+use Rattle.math_tree.specs.Kinds.{is_scripted}
 use Rattle.math_tree.specs.declared.kind.Kind.{Kind}
-use Rattle.embellished.specs.Kinds.{is_led_by_its_base, is_scripted, has_fences}
+use Rattle.embellished.specs.Kinds.{is_led_by_its_base, has_fences}
 use Rattle.embellished.specs.Seen.{Kid, Seen}
 use Rattle.embellished.specs.declared.facts.Core.{Core}
 use Rattle.embellished.specs.declared.facts.Facts.{Facts}

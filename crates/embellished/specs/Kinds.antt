@@ -1,5 +1,6 @@
 -- Groups of kinds of elements, as they are laid out (MathML Core 3).
 use Rattle.std.specs.Prelude.{Bool, true, false}
+use Rattle.math_tree.specs.Kinds.{is_scripted}
 use Rattle.math_tree.specs.declared.kind.Kind.{Kind}
 use Rattle.math_tree.specs.declared.kind.Kind.TheVariants.{Annotation, AnnotationXml, Maction, Math, Merror, Mfrac, Mi, Mmultiscripts, Mn, Mo, Mover, Mpadded, Mphantom, Mprescripts, Mrow, Ms, Mspace, Msqrt, Mstyle, Msub, Msubsup, Msup, Mtd, Mtext, Mtr, Munder, Munderover, Semantics, Unknown}
 
@@ -29,17 +30,6 @@ is_table_row other = false
 abbrev pub is_multiscripts : Kind → Bool
 is_multiscripts Mmultiscripts = true
 is_multiscripts other = false
-
--- the elements with scripts or limits (MathML Core 3.4)
-abbrev pub is_scripted : Kind → Bool
-is_scripted Msub = true
-is_scripted Msup = true
-is_scripted Msubsup = true
-is_scripted Munder = true
-is_scripted Mover = true
-is_scripted Munderover = true
-is_scripted Mmultiscripts = true
-is_scripted other = false
 
 -- the elements that are embellished where their first child is (MathML Core 3.2.4.1)
 abbrev pub is_led_by_its_base : Kind → Bool

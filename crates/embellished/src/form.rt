@@ -5,7 +5,7 @@ ghost use Rattle.embellished.specs.Seen.{seen_of};
 
 use crate::facts::Facts;
 use crate::fences::{Fences, fences_of};
-use crate::kinds::{has_fences, is_led_by_its_base, is_scripted};
+use crate::kinds::{has_fences, is_led_by_its_base};
 use crate::view::View;
 use math_tree::Kind;
 use op_dictionary::Form;
@@ -65,7 +65,7 @@ fn form_by_place<V: View>(parent: &V, laid: Kind, fences: Fences, index: usize) 
 {
     if has_fences(laid) {
         fence_form(parent, fences, index)
-    } else if is_scripted(laid) && 0 < index {
+    } else if laid.is_scripted() && 0 < index {
         Form::Postfix
     } else {
         Form::Infix

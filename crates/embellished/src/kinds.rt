@@ -17,27 +17,11 @@ pub fn is_prescripts_mark(kind: Kind) -> bool
     matches!(kind, Kind::Mprescripts)
 }
 
-/// An element with scripts or limits (MathML Core 3.4).
-pub fn is_scripted(kind: Kind) -> bool
-    ensures { result ≡ spec.is_scripted kind }
-{
-    matches!(
-        kind,
-        Kind::Msub
-            | Kind::Msup
-            | Kind::Msubsup
-            | Kind::Munder
-            | Kind::Mover
-            | Kind::Munderover
-            | Kind::Mmultiscripts
-    )
-}
-
 /// An element that is embellished where its first child is.
 pub fn is_led_by_its_base(kind: Kind) -> bool
     ensures { result ≡ spec.is_led_by_its_base kind }
 {
-    matches!(kind, Kind::Mfrac) || is_scripted(kind)
+    matches!(kind, Kind::Mfrac) || kind.is_scripted()
 }
 
 /// A grouping element: a row without an equation of its own, or `merror`.

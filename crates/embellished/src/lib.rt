@@ -32,7 +32,9 @@ mod view;
 
 pub use facts::{Core, Facts, facts_of};
 pub use fences::{Fences, fences_of};
+pub use flow::may_show;
 pub use form::{form_of, form_within};
+pub use kinds::is_led_by_its_base;
 pub use known::{Known, known_of};
 pub use node_view::NodeView;
 pub use operator::operator_properties;

@@ -1,11 +1,11 @@
 ghost use Rattle.std.specs.Prelude.{◌≡◌, IfOk};
-ghost use Rattle.embellished.specs.Facts.{form_of_word, truth_of_word, form_in, truth_in, core_of_operator};
+ghost use Rattle.embellished.specs.Facts.{form_of_word, form_in, truth_in, core_of_operator};
 ghost use Rattle.embellished.specs.Forms.{properties_at};
 
 use crate::facts::Core;
 use crate::texts::{op_text, shown_text};
 use fixed_units::{Memory, is_word};
-use math_tree::{Attributes, Head};
+use math_tree::{Attributes, Head, truth_of_word};
 use op_dictionary::{Extra, Form, Properties, category, properties};
 use std::alloc::Global;
 
@@ -69,19 +69,6 @@ fn form_of_word(value: &str) -> Option<Form>
         Some(Form::Infix)
     } else if is_word(value, "postfix") {
         Some(Form::Postfix)
-    } else {
-        None
-    }
-}
-
-#[tactic(auto, unfolding(crate::specs::Facts::truth_of_word))]
-fn truth_of_word(value: &str) -> Option<bool>
-    ensures { result ≡ truth_of_word value.now }
-{
-    if is_word(value, "true") {
-        Some(true)
-    } else if is_word(value, "false") {
-        Some(false)
     } else {
         None
     }

@@ -16,7 +16,8 @@ use Rattle.op_dictionary.specs.declared.operator.Form.TheVariants.{Prefix, Infix
 use Rattle.op_dictionary.specs.declared.operator.Properties.{Properties}
 use Rattle.embellished.specs.Fences.{fences_in}
 use Rattle.embellished.specs.Forms.{fence_form, form_at, form_by_place, leads, properties_at, stretch_axis}
-use Rattle.embellished.specs.Kinds.{has_fences, is_scripted}
+use Rattle.math_tree.specs.Kinds.{is_scripted}
+use Rattle.embellished.specs.Kinds.{has_fences}
 use Rattle.embellished.specs.Seen.{Kid, Seen}
 use Rattle.embellished.specs.declared.facts.Core.{Core}
 use Rattle.embellished.specs.declared.facts.Facts.{Facts}

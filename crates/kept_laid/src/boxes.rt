@@ -13,7 +13,7 @@ ghost use Rattle.kept_laid.specs.Laid.{IsBackedWithSome, kids_laid};
 use crate::ids::has_id;
 use crate::last::last_asked;
 use crate::lookup::kept_entry;
-use crate::places::may_show;
+use embellished::may_show;
 use fixed_units::MathBox;
 use kept_results::{Entry, Memo};
 use layout_model::Context;

@@ -19,10 +19,8 @@ mod last; // the last question to each child
 pub mod laws; // what holds of all kept layouts
 mod laid; // a tree of kept layouts
 mod lookup; // one entry of an element
-mod places; // which children may be in flow
 
 pub use amount::count_or_most;
 pub use boxes::box_of;
 pub use laid::{KeptLayout, kept_kids, laid_of};
 pub use lookup::{is_live, kept_entry, root_box};
-pub use places::may_show;

@@ -5,8 +5,7 @@ ghost use Rattle.embellished.specs.Seen.{HasChild, flow_children};
 ghost use Rattle.kept_results.specs.Looking.{own_facts};
 ghost use Rattle.kept_laid.specs.Places.{shown_before};
 
-use embellished::Facts;
-use kept_laid::may_show;
+use embellished::{Facts, may_show};
 use kept_results::Memo;
 use math_tree::Node;
 

@@ -60,3 +60,14 @@ is_text_kind Mo = true
 is_text_kind Ms = true
 is_text_kind Mtext = true
 is_text_kind other = false
+
+-- the elements with scripts or limits (MathML Core 3.4)
+abbrev pub is_scripted : Kind → Bool
+is_scripted Msub = true
+is_scripted Msup = true
+is_scripted Msubsup = true
+is_scripted Munder = true
+is_scripted Mover = true
+is_scripted Munderover = true
+is_scripted Mmultiscripts = true
+is_scripted other = false

@@ -3,12 +3,12 @@ ghost use Rattle.std.specs.Cmp.Lexicographic.{slice_cmp};
 ghost use Rattle.std.specs.List.Sorted.{IsBinarySearchResult, IsSearchInRange};
 ghost use Rattle.std.specs.Ordering.{nat_cmp};
 ghost use Rattle.serde_json.specs.View.{view, members_view};
-ghost use Rattle.math_tree.specs.Attributes.{IsInOrder, value_of, put, without};
+ghost use Rattle.math_tree.specs.Attributes.{IsInOrder, put, truth_of_word, value_of, without};
 ghost use Rattle.math_tree.specs.Elements.{attributes_held, attributes_of};
 ghost use Rattle.math_tree.specs.Keys.{IsSaid};
 
 use crate::element::{Keys, attributes_in, text_or_empty};
-use fixed_units::{List, Memory, Room, Txt};
+use fixed_units::{List, Memory, Room, Txt, is_word};
 use serde_json::{Map, Value};
 use std::alloc::Global;
 use std::cmp::Ordering;
@@ -191,4 +191,19 @@ fn value_of<'a>(items: &'a [Attribute], name: &str) -> Option<&'a str>
         }
     }
     None
+}
+
+/// The truth value that a word stands for, in any case of ASCII letters: what an attribute such as
+/// `displaystyle` or `stretchy` says (MathML Core 2.1.5).
+#[tactic(auto, unfolding(crate::specs::Attributes::truth_of_word))]
+pub fn truth_of_word(value: &str) -> Option<bool>
+    ensures { result ≡ truth_of_word value.now }
+{
+    if is_word(value, "true") {
+        Some(true)
+    } else if is_word(value, "false") {
+        Some(false)
+    } else {
+        None
+    }
 }

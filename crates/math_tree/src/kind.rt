@@ -1,5 +1,5 @@
 ghost use Rattle.std.specs.Prelude.{◌≡◌};
-ghost use Rattle.math_tree.specs.Kinds.{kind_of, kind_among, is_text_kind};
+ghost use Rattle.math_tree.specs.Kinds.{is_scripted, is_text_kind, kind_among, kind_of};
 
 /// The kind of an element, which its name decides once, when the element is made (MathML Core 2.1
 /// and 3). There is one for each known name.
@@ -89,6 +89,22 @@ impl Kind {
         matches!(
             self,
             Kind::Annotation | Kind::Mi | Kind::Mn | Kind::Mo | Kind::Ms | Kind::Mtext
+        )
+    }
+
+    /// Whether elements of this kind have scripts or limits (MathML Core 3.4).
+    pub fn is_scripted(self) -> bool
+        ensures { result ≡ is_scripted self }
+    {
+        matches!(
+            self,
+            Kind::Msub
+                | Kind::Msup
+                | Kind::Msubsup
+                | Kind::Munder
+                | Kind::Mover
+                | Kind::Munderover
+                | Kind::Mmultiscripts
         )
     }
 }

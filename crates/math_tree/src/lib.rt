@@ -33,7 +33,7 @@ mod read;
 mod refusal;
 mod tree;
 
-pub use attributes::{Attribute, Attributes};
+pub use attributes::{Attribute, Attributes, truth_of_word};
 pub use fault::TreeFault;
 pub use forms::{MOST_BYTES, MOST_ELEMENTS, MOST_LEVELS, is_name, is_short_enough};
 pub use kind::Kind;

@@ -1,7 +1,6 @@
 ghost use Rattle.std.specs.Prelude.{◌≡◌, ◌<◌, ◌≤◌, ◌^◌, pos, ◌≤ℤ◌, length, map, IfOk};
 ghost use Rattle.std.specs.List.{All};
 ghost use Rattle.fixed_units.specs.Boxes.{IsStored};
-ghost use Rattle.embellished.specs.Kinds as kinds;
 ghost use Rattle.embellished.specs.Seen.{seen_of};
 ghost use Rattle.row_stretch.specs.Equation.{IsKidStored};
 ghost use Rattle.style_scope.specs.Sizes.{size_of};
@@ -13,11 +12,11 @@ ghost use Rattle.outcomes.specs.Elements.{IsWhole, answered};
 
 use crate::answers::last_answers;
 use child_questions::style_of_kid;
-use embellished::{View, fences_of};
+use embellished::{View, fences_of, is_led_by_its_base};
 use fixed_units::{List, MathBox, Memory};
 use font_metrics::{Mark, Metrics};
 use layout_model::{Answer, Context, Offset, Outcome, Reply};
-use math_tree::{Attributes, Kind};
+use math_tree::Attributes;
 use row_stretch::{RowKid, RowKids};
 use span_tables::CellSpan;
 use std::alloc::Global;
@@ -283,23 +282,6 @@ impl<'a, V: View> Element<'a, V> {
         }
         fences_of(self.view).first
     }
-}
-
-/// Whether an element of this kind is embellished where its first child is.
-fn is_led_by_its_base(laid: Kind) -> bool
-    ensures { result ≡ kinds.is_led_by_its_base laid }
-{
-    matches!(
-        laid,
-        Kind::Mfrac
-            | Kind::Msub
-            | Kind::Msup
-            | Kind::Msubsup
-            | Kind::Munder
-            | Kind::Mover
-            | Kind::Munderover
-            | Kind::Mmultiscripts
-    )
 }
 
 /// The spaces round an element, in units.

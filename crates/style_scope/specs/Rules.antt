@@ -5,26 +5,16 @@ use Rattle.std.specs.Option.{option_and_then}
 use Rattle.fixed_units.specs.Lengths.{length_of, resolved}
 use Rattle.fixed_units.specs.declared.lengths.LengthText.{LengthText}
 use Rattle.font_metrics.specs.Metrics.{MetricsValue, ex_of}
-use Rattle.math_tree.specs.Attributes.{value_of}
+use Rattle.math_tree.specs.Attributes.{truth_of_word, value_of}
+use Rattle.math_tree.specs.Kinds.{is_scripted}
 use Rattle.math_tree.specs.declared.attributes.Attribute.{Attribute}
 use Rattle.math_tree.specs.declared.kind.Kind.{Kind}
-use Rattle.math_tree.specs.declared.kind.Kind.TheVariants.{Mfrac, Mmultiscripts, Mover, Mroot, Msqrt, Msub, Msubsup, Msup, Mtable, Munder, Munderover}
+use Rattle.math_tree.specs.declared.kind.Kind.TheVariants.{Mfrac, Mmultiscripts, Mover, Mroot, Msqrt, Msub, Msubsup, Mtable, Munder, Munderover}
 use Rattle.style_scope.specs.declared.style.Place.{Place}
 use Rattle.style_scope.specs.declared.style.Style.{Style}
-use Rattle.style_scope.specs.Words.{direction_of_word, truth_of_word, level_of}
+use Rattle.style_scope.specs.Words.{direction_of_word, level_of}
 
 -- ---- by place
-
--- the elements with scripts or limits, whose children after the first stand a level deeper
-abbrev pub is_scripted : Kind → Bool
-is_scripted Msub = true
-is_scripted Msup = true
-is_scripted Msubsup = true
-is_scripted Munder = true
-is_scripted Mover = true
-is_scripted Munderover = true
-is_scripted Mmultiscripts = true
-is_scripted other = false
 
 -- own choice: an accent below or above a base keeps the depth
 abbrev pub is_accent_of : Kind → Place → Bool

@@ -1,4 +1,4 @@
--- What the attributes of styles say: truth values, directions and levels.
+-- What the attributes of styles say: directions and levels.
 use Rattle.std.specs.Prelude.{ℕ, ◌+◌, ◌-◌, Bool, true, false, ◌&&◌, nat_eq, nat_le, if◌then◌else◌, List, [], ◌∷◌, length, codes, Option, Some, None}
 use Rattle.std.specs.Char.{is_ascii_digit}
 use Rattle.std.specs.List.{list_all}
@@ -6,12 +6,6 @@ use Rattle.std.specs.Option.{option_map}
 use Rattle.std.specs.Str.Parse.{digits_value}
 use Rattle.fixed_units.specs.Lengths.{plus, minus}
 use Rattle.fixed_units.specs.Words.{is_word}
-
-unfoldable pub truth_of_word : List ℕ → Option Bool
-truth_of_word value =
-    if is_word value (codes "true") then Some true
-    else if is_word value (codes "false") then Some false
-    else None
 
 -- whether a direction is from right to left
 unfoldable pub direction_of_word : List ℕ → Option Bool

@@ -4,12 +4,12 @@ ghost use Rattle.std.specs.List.{AllPass};
 ghost use Rattle.std.specs.Option.{option_and_then};
 ghost use Rattle.std.specs.Str.Parse.{digits_value};
 ghost use Rattle.fixed_units.specs.Numbers.{IsWithin};
-ghost use Rattle.math_tree.specs.Attributes.{value_of};
+ghost use Rattle.math_tree.specs.Attributes.{truth_of_word, value_of};
 ghost use Rattle.style_scope.specs.Rules.{size_written};
-ghost use Rattle.style_scope.specs.Words.{direction_of_word, truth_of_word, number_of, level_of};
+ghost use Rattle.style_scope.specs.Words.{direction_of_word, number_of, level_of};
 
 use fixed_units::{LengthText, is_word, read_length};
-use math_tree::Attributes;
+use math_tree::{Attributes, truth_of_word};
 
 /// The truth value that `displaystyle` gives.
 pub fn displaystyle(attributes: &Attributes) -> Option<bool>
@@ -17,19 +17,6 @@ pub fn displaystyle(attributes: &Attributes) -> Option<bool>
         (value_of (codes "displaystyle") attributes.now) }
 {
     truth_of_word(attributes.get("displaystyle")?)
-}
-
-#[tactic(auto, unfolding(crate::specs::Words::truth_of_word))]
-fn truth_of_word(value: &str) -> Option<bool>
-    ensures { result ≡ truth_of_word value.now }
-{
-    if is_word(value, "true") {
-        Some(true)
-    } else if is_word(value, "false") {
-        Some(false)
-    } else {
-        None
-    }
 }
 
 /// Whether `dir` says that an element is laid out from right to left.

@@ -10,22 +10,6 @@ use fixed_units::{LengthText, resolve};
 use font_metrics::Metrics;
 use math_tree::{Attributes, Kind};
 
-/// An element with scripts or limits.
-fn is_scripted(kind: Kind) -> bool
-    ensures { result ≡ rules.is_scripted kind }
-{
-    matches!(
-        kind,
-        Kind::Msub
-            | Kind::Msup
-            | Kind::Msubsup
-            | Kind::Munder
-            | Kind::Mover
-            | Kind::Munderover
-            | Kind::Mmultiscripts
-    )
-}
-
 /// Whether a child is an accent below or above its base. Own choice: such a child keeps the depth.
 fn is_accent(place: Place) -> bool
     ensures { result ≡ rules.is_accent_of place.parent place }
@@ -49,7 +33,7 @@ fn levels(place: Place, display: bool) -> u8
     match place.parent {
         Kind::Mfrac => u8::from(!display),
         Kind::Mroot => 2 * u8::from(place.index == 1),
-        _ => u8::from(is_scripted(place.parent) & (0 < place.index) & !is_accent(place)),
+        _ => u8::from(place.parent.is_scripted() & (0 < place.index) & !is_accent(place)),
     }
 }
 
@@ -61,7 +45,7 @@ fn is_compact(place: Place) -> bool
     match place.parent {
         Kind::Mfrac => true,
         Kind::Mroot => place.index == 1,
-        _ => is_scripted(place.parent) & (0 < place.index),
+        _ => place.parent.is_scripted() & (0 < place.index),
     }
 }
 
