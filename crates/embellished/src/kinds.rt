@@ -17,7 +17,7 @@ pub fn is_prescripts_mark(kind: Kind) -> bool
     matches!(kind, Kind::Mprescripts)
 }
 
-/// An element that is embellished where its first child is.
+/// Whether an element of this kind is embellished where its first child is.
 pub fn is_led_by_its_base(kind: Kind) -> bool
     ensures { result ≡ spec.is_led_by_its_base kind }
 {

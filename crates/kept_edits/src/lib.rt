@@ -2,8 +2,8 @@
 //!
 //! An edit changes one element at the end of a way. The memos on that way are marked, so that no
 //! layout that they keep counts, and get the facts of their elements as these are then; a memo is
-//! put in, taken out or put in the place of another where a child is. `way_along` finds the way of an
-//! edit, and `follow_way` has the memos follow the tree.
+//! put in, taken out or put in the place of another where a child is. `way_along` finds the way of
+//! an edit, and `follow_way` has the memos follow the tree.
 //!
 //! - Models: this project's own; MathML Core says nothing of it.
 //! - Proved: after the same change of both, memos agree with the tree again, and taking the change

@@ -16,8 +16,8 @@ use font_metrics::Metrics;
 use std::alloc::Global;
 use std::sync::ledger::Ledger;
 
-/// What computes the outcome of an element once its children have answered. Who keeps layouts takes
-/// it as a parameter, and knows no equation of a kind.
+/// What computes the outcome of an element once its children have answered. Kept layouts take it as
+/// a type parameter, and know no equation of a kind.
 pub trait Finish {
     /// The outcome of an element over the replies to both waves of its questions. It is refused
     /// with `Range` exactly where a number of it can't be stored. It takes one step.

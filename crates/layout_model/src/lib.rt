@@ -8,8 +8,7 @@
 //! - Models: MathML Core 3; one arm a kind, which names the equation of a crate below.
 //! - Proved: what holds of all elements and trees, whatever their kinds (`laws`); whether an
 //!   outcome can be stored (`outcome_fits`), exactly.
-//! - Knows nothing of: how a layout is computed, or kept. Who keeps layouts gets outcomes by
-//!   `Finish`.
+//! - Knows nothing of: how a layout is computed, or kept. Kept layouts get outcomes by `Finish`.
 //! - Change how a kind is laid out: its arm in `specs/Questions.antt` or `specs/Equations.antt`.
 #![tactic(auto)]
 

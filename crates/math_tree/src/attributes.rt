@@ -194,7 +194,7 @@ fn value_of<'a>(items: &'a [Attribute], name: &str) -> Option<&'a str>
 }
 
 /// The truth value that a word stands for, in any case of ASCII letters: what an attribute such as
-/// `displaystyle` or `stretchy` says (MathML Core 2.1.5).
+/// `displaystyle` or `stretchy` says (MathML Core 2.1.2).
 #[tactic(auto, unfolding(crate::specs::Attributes::truth_of_word))]
 pub fn truth_of_word(value: &str) -> Option<bool>
     ensures { result ≡ truth_of_word value.now }

@@ -19,7 +19,7 @@
 //!   the file of the same matter in `src/`, then `rt check`.
 #![tactic(auto)]
 
-mod attributes; // Attribute, Attributes
+mod attributes; // Attribute, Attributes, truth_of_word
 mod check; // the faults of an element
 mod element; // what a JSON value says of an element
 mod fault; // TreeFault, ElementFault

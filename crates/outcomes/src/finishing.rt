@@ -20,7 +20,8 @@ use style_scope::{Style, font_size};
 
 /// The outcome of an element over the answers to both waves of its questions. It is refused with
 /// `Range` exactly where a number of it can't be stored. It takes one step. It asks both waves
-/// again, and copies the answers; `Equations::finish_replies` is for who has the replies.
+/// again, and copies the answers; `Equations::finish_replies` is for a caller that has the
+/// replies.
 pub fn finish<V: View, L: Ledger>(
     alloc: Global,
     view: &V,
@@ -97,7 +98,7 @@ fn replies(alloc: Global, asks: &[Question], answers: &[Answer]) -> Result<List<
     Ok(replies)
 }
 
-/// The equations of all kinds.
+/// What computes outcomes: each kind by its equation.
 pub struct Equations;
 
 impl Finish for Equations {

@@ -1,8 +1,8 @@
 //! The outcome of one element, over the replies of its children: its box, where its children stand,
 //! and what it draws.
 //!
-//! `Equations::finish_replies` takes the replies of both waves, and is `Finish` of `layout_model` for
-//! who keeps layouts; `finish` takes the answers alone, and asks again.
+//! `Equations::finish_replies` takes the replies of both waves; kept layouts call it as `Finish` of
+//! `layout_model`. `finish` takes the answers alone, and asks again.
 //! An `Element` is what an equation reads: the answer that counts of each child, the context, the
 //! metrics.
 //!

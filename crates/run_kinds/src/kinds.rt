@@ -6,6 +6,7 @@ use case_format::{Answer, Case, Ended, Fault, Kinds};
 
 /// The kinds for whole runs of a program.
 pub struct OfRuns<P: Program> {
+    /// The program that is run.
     pub program: P,
 }
 
