@@ -1,6 +1,6 @@
 -- What an element is among operators: as what it is laid out, whether it is space-like, and the
 -- core of an embellished operator (MathML Core 3.2.4.1 and 3.2.5).
-use Rattle.std.specs.Prelude.{ℕ, Bool, true, false, not, ◌&&◌, ◌||◌, if◌then◌else◌, List, [], ◌∷◌, map, filter, chars, codes, Option, Some, None}
+use Rattle.std.specs.Prelude.{ℕ, Bool, not, ◌&&◌, ◌||◌, if◌then◌else◌, List, [], ◌∷◌, map, filter, chars, codes, Option, Some, None}
 use Rattle.std.specs.List.{list_all}
 use Rattle.std.specs.Option.{option_and_then}
 use Rattle.fixed_units.specs.Words.{is_word}

@@ -2,7 +2,7 @@
 use Rattle.std.specs.Prelude.{Bool, true, false}
 use Rattle.math_tree.specs.Kinds.{is_scripted}
 use Rattle.math_tree.specs.declared.kind.Kind.{Kind}
-use Rattle.math_tree.specs.declared.kind.Kind.TheVariants.{Annotation, AnnotationXml, Maction, Math, Merror, Mfrac, Mi, Mmultiscripts, Mn, Mo, Mover, Mpadded, Mphantom, Mprescripts, Mrow, Ms, Mspace, Msqrt, Mstyle, Msub, Msubsup, Msup, Mtd, Mtext, Mtr, Munder, Munderover, Semantics, Unknown}
+use Rattle.math_tree.specs.declared.kind.Kind.TheVariants.{Annotation, AnnotationXml, Maction, Math, Merror, Mfrac, Mi, Mmultiscripts, Mn, Mo, Mpadded, Mphantom, Mprescripts, Mrow, Ms, Mspace, Msqrt, Mstyle, Mtd, Mtext, Mtr, Semantics, Unknown}
 
 -- an annotation is never in flow
 abbrev pub is_annotation : Kind → Bool

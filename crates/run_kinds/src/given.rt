@@ -3,7 +3,7 @@
 use case_format::{Case, Fault, Fields, count_in, text_in};
 use doc_io::{MemoryInputs, MemorySink};
 use fixed_units::Memory;
-use std::alloc::{AllocError, Global};
+use std::alloc::Global;
 
 /// The room of a sink in bytes, where a case gives none: more than any run writes.
 const AMPLE: usize = 67_108_864;
