@@ -18,8 +18,10 @@
 
 mod keys; // keys, and what stands under them
 mod line; // a line token by token
+mod moves; // to undo and to redo
 mod number; // whole numbers
 mod reader; // CommandReader
 mod said; // what a line says
 
+pub use moves::{Move, move_in};
 pub use reader::CommandReader;

@@ -5,8 +5,8 @@ use Rattle.std.specs.Option.{option_and_then, option_map}
 use Rattle.std.specs.Str.{bytes_eq}
 use Rattle.std.proofs.lemmas.Bool.{and_parts, leb-true}
 use Rattle.std.proofs.lemmas.Option.{same_Some}
-use Rattle.queries.specs.declared.query.Query.{Query}
-use Rattle.queries.specs.declared.query.Query.TheVariants.{Paint}
+use Rattle.page_queries.specs.declared.query.Query.{Query}
+use Rattle.page_queries.specs.declared.query.Query.TheVariants.{Paint}
 use Rattle.command_words.specs.Command.{Asked, Job, OverTree, Generates, Work, LaysOut, Edits, Checks, Asks, Remembers, IsInLimits, IsWorkInLimits, asked_by, generation_of, job_named, query_named, remembering, work_named}
 use Rattle.command_words.specs.Numerals.{count_in, depth_in, if_depth, is_depth, most_undone, number_in, seed_in}
 

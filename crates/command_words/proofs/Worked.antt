@@ -1,6 +1,6 @@
 -- Worked words: what they ask for, computed from the bytes of each.
 use Rattle.std.proofs.Common.{◌≡◌, ℕ, pos, negsuc, List, [], ◌∷◌, codes, Option, Some, None, refl}
-use Rattle.queries.specs.declared.query.Query.TheVariants.{Hit, Select}
+use Rattle.page_queries.specs.declared.query.Query.TheVariants.{Hit, Select}
 use Rattle.command_words.specs.Numerals.{coordinate_in, number_in as numeral_in}
 use Rattle.command_words.specs.Command.{asked_by, Asked, OverTree, Generates, Edits, Checks, Asks}
 

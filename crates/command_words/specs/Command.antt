@@ -2,8 +2,8 @@
 use Rattle.std.specs.Prelude.{ℕ, ◌≤◌, List, [], ◌∷◌, ◌++◌, codes, if◌then◌else◌, Option, Some, None}
 use Rattle.std.specs.Option.{option_and_then, option_map}
 use Rattle.std.specs.Str.{bytes_eq}
-use Rattle.queries.specs.declared.query.Query.{Query}
-use Rattle.queries.specs.declared.query.Query.TheVariants.{Paint, Hit, Select}
+use Rattle.page_queries.specs.declared.query.Query.{Query}
+use Rattle.page_queries.specs.declared.query.Query.TheVariants.{Paint, Hit, Select}
 use Rattle.command_words.specs.Numerals.{coordinate_in, count_in, depth_in, id_in, most_undone, seed_in}
 use Rattle.command_words.specs.declared.command.Job.{Job as JobOfWords}
 use Rattle.command_words.specs.declared.command.Job.TheVariants.{OverTree as WithTree, Generate}

@@ -4,7 +4,7 @@ ghost use Rattle.command_words.specs.Command.{asked_by, asked_of, generation_of,
 
 use crate::numerals::{count_of, depth_of, seed_of};
 use crate::query::query_of;
-use queries::Query;
+use page_queries::Query;
 use thiserror::Error;
 
 /// What the user is told whose words are no command.

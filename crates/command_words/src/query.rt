@@ -3,7 +3,7 @@ ghost use Rattle.std.specs.Prelude.{◌≡◌};
 ghost use Rattle.command_words.specs.Command.{ids_of, point_of, query_named};
 
 use crate::numerals::{coordinate_of, id_of};
-use queries::Query;
+use page_queries::Query;
 
 /// What a word asks, by the two words behind the two files.
 pub fn query_of(word: &str, first: &str, second: &str) -> Option<Query>

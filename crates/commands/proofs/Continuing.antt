@@ -17,7 +17,7 @@ use Rattle.commands.specs.Answer.{Text, replies_within, status_of_end}
 use Rattle.commands.specs.Ends.{Breaks, Delivers}
 use Rattle.commands.specs.declared.replies.Stop.{Stop}
 use Rattle.commands.specs.declared.replies.Stop.TheVariants as stop
-use Rattle.line_replies.specs.declared.status.Status.TheVariants.{ReadFault, WriteFault}
+use Rattle.input_files.specs.declared.status.Status.TheVariants.{ReadFault, WriteFault}
 
 -- ---- limits
 

@@ -14,13 +14,13 @@ use Rattle.math_tree.specs.Reading.{tree_of}
 use Rattle.math_tree.specs.declared.fault.TreeFault.{TreeFault}
 use Rattle.serde_json.specs.Data.{Data}
 use Rattle.serde_json.specs.Read.{read}
-use Rattle.line_replies.specs.Refusals.{of_reading}
+use Rattle.input_files.specs.Refusals.{of_reading}
 use Rattle.tree_edits.specs.Commands.{json_in}
 use Rattle.commands.specs.Answer.{content}
-use Rattle.line_replies.specs.Opening.{tree_limit, of_metrics_file, metrics_in, of_tree_file, tree_of_json, tree_in, GivesOr}
+use Rattle.input_files.specs.Files.{tree_limit, of_metrics_file, metrics_in, of_tree_file, tree_of_json, tree_in, GivesOr}
 use Rattle.commands.specs.Ends.{IsCut, Answers}
-use Rattle.line_replies.specs.declared.refusal.Refusal.{Refusal}
-use Rattle.line_replies.specs.declared.refusal.Refusal.TheVariants.{MetricsLong, TreeLong, TreeJson, ReadFault, Memory}
+use Rattle.input_files.specs.declared.refusal.Refusal.{Refusal}
+use Rattle.input_files.specs.declared.refusal.Refusal.TheVariants.{MetricsLong, TreeLong, TreeJson, ReadFault, Memory}
 
 -- ---- a file's bytes
 

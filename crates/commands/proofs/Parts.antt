@@ -6,9 +6,9 @@ use Rattle.doc_io.specs.LineReader.{ReaderValue}
 use Rattle.commands.specs.Answer.{Text, status_of_end}
 use Rattle.commands.specs.Ends.{Breaks, Delivers, IsDelivered}
 use Rattle.commands.specs.Parts.{OpensScript, SelectsScript}
-use Rattle.line_replies.specs.declared.refusal.Refusal.{Refusal}
-use Rattle.line_replies.specs.declared.refusal.Refusal.TheVariants.{ReadFault, Memory}
-use Rattle.line_replies.specs.declared.status.Status.{Status}
+use Rattle.input_files.specs.declared.refusal.Refusal.{Refusal}
+use Rattle.input_files.specs.declared.refusal.Refusal.TheVariants.{ReadFault, Memory}
+use Rattle.input_files.specs.declared.status.Status.{Status}
 
 -- the replies to a script may be cut short, also where a read failed since
 pub in_parts : (text : Text) (before mid after : InputsTold) (old new : SinkTold) (status : Status) → before.faults ≤ mid.faults

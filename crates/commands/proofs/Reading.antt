@@ -17,8 +17,8 @@ use Rattle.commands.specs.Answer.{Text, replies_within, status_of_end}
 use Rattle.commands.specs.Parts.{AnswersEach, AnswersLines, AnswersNext, ComesToLine, Tells, replies_left, status_of_stop, told_line}
 use Rattle.commands.specs.declared.replies.Stop.{Stop}
 use Rattle.commands.specs.declared.replies.Stop.TheVariants as stop
-use Rattle.line_replies.specs.declared.status.Status.{Status}
-use Rattle.line_replies.specs.declared.status.Status.TheVariants as status
+use Rattle.input_files.specs.declared.status.Status.{Status}
+use Rattle.input_files.specs.declared.status.Status.TheVariants as status
 use Rattle.commands.proofs.Continuing.{Continues, appends_nothing, breaks_at_read, closes, more_replies, no_replies, stopped_replies, stops}
 
 -- one part more behind others

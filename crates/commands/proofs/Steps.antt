@@ -7,14 +7,14 @@ use Rattle.fixed_units.specs.declared.refusal.LayRefusal.{LayRefusal}
 use Rattle.fixed_units.specs.declared.refusal.LayRefusal.TheVariants as layout
 use Rattle.commands.specs.Answer.{Text, status_of_end}
 use Rattle.commands.specs.Ends.{Breaks, Delivers, IsCut}
-use Rattle.line_replies.specs.Status.{EndsBeforeTree, EndsUnlaid}
-use Rattle.queries.specs.declared.query.QueryRefusal.{QueryRefusal}
-use Rattle.queries.specs.declared.query.QueryRefusal.TheVariants as query
-use Rattle.line_replies.specs.Refusals.{of_layout, of_query, status_of}
-use Rattle.line_replies.specs.declared.refusal.Refusal.{Refusal}
-use Rattle.line_replies.specs.declared.refusal.Refusal.TheVariants as refusal
-use Rattle.line_replies.specs.declared.status.Status.{Status}
-use Rattle.line_replies.specs.declared.status.Status.TheVariants.{Done, Usage, Metrics, Tree, ReadFault, WriteFault, Memory, Range, ScriptLimit, Node, Paint}
+use Rattle.input_files.specs.Status.{EndsBeforeTree, EndsUnlaid}
+use Rattle.page_queries.specs.declared.query.QueryRefusal.{QueryRefusal}
+use Rattle.page_queries.specs.declared.query.QueryRefusal.TheVariants as query
+use Rattle.input_files.specs.Refusals.{of_layout, of_query, status_of}
+use Rattle.input_files.specs.declared.refusal.Refusal.{Refusal}
+use Rattle.input_files.specs.declared.refusal.Refusal.TheVariants as refusal
+use Rattle.input_files.specs.declared.status.Status.{Status}
+use Rattle.input_files.specs.declared.status.Status.TheVariants.{Done, Usage, Metrics, Tree, ReadFault, WriteFault, Memory, Range, ScriptLimit, Node, Paint}
 
 -- what was delivered with a status of a tree that was laid out, or failed to be written
 pub late : (text : List ℕ) (wanted s : Status) (old new : SinkTold) → ¬ EndsUnlaid wanted → Delivers text wanted old new s → ¬ EndsUnlaid s

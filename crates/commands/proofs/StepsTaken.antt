@@ -14,13 +14,14 @@ use Rattle.memo_tree.specs.Counted.{TakesVisits}
 use Rattle.edit_session.specs.Session.{SessionValue}
 use Rattle.command_words.specs.Command.{Asked, Work}
 use Rattle.commands.specs.Answer.{content}
-use Rattle.line_replies.specs.Opening.{metrics_in, started, tree_in}
+use Rattle.input_files.specs.Files.{metrics_in, tree_in}
+use Rattle.line_replies.specs.Opening.{started}
 use Rattle.commands.specs.Ends.{Answers, IsCut}
 use Rattle.commands.specs.Parts.{OpensScript}
 use Rattle.line_replies.specs.Responders.{LineSteps, Responder, TakesForLines, after_all}
 use Rattle.commands.specs.Script.{within}
 use Rattle.commands.specs.Steps.{TakesBehindStart, TakesForEdits, TakesForJob, TakesForNext, TakesForRun, TakesForScript, TakesForWork, TakesOverMetrics, lines_left, script_lines}
-use Rattle.line_replies.specs.declared.refusal.Refusal.{Refusal}
+use Rattle.input_files.specs.declared.refusal.Refusal.{Refusal}
 use Rattle.commands.specs.declared.replies.Stop.{Stop}
 use Rattle.commands.proofs.TwoParts.{ok_is_not_cut}
 use Rattle.commands.proofs.Continuing.{within_more}

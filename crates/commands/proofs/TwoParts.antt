@@ -3,10 +3,11 @@ use Rattle.std.proofs.Common.{◌≡◌, ◌⊎◌, inl, inr, refl, ap, sym, ◌
 use Rattle.std.specs.Prelude.{Result, Ok, Err, IsErrOf, IsSomeAnd, IsNone}
 use Rattle.std.specs.Option.{option_map}
 use Rattle.doc_io.specs.Causes.{Files, InputsTold}
-use Rattle.line_replies.specs.Opening.{◌>>=◌, GivesOr}
+use Rattle.input_files.specs.Files.{GivesOr}
+use Rattle.line_replies.specs.Opening.{◌>>=◌}
 use Rattle.commands.specs.Ends.{HasReadCause, IsCut, Answers}
-use Rattle.line_replies.specs.declared.refusal.Refusal.{Refusal}
-use Rattle.line_replies.specs.declared.refusal.Refusal.TheVariants.{ReadFault}
+use Rattle.input_files.specs.declared.refusal.Refusal.{Refusal}
+use Rattle.input_files.specs.declared.refusal.Refusal.TheVariants.{ReadFault}
 
 -- the same refusal, of another type of answer
 pub cut_again : {A B : Type 0} (r : Refusal) → IsCut {V = A} (Err r) → IsCut {V = B} (Err r)

@@ -38,12 +38,12 @@ use Rattle.line_replies.specs.EditSteps.{TakesForEdit, TakesForLine, accepted_by
 use Rattle.command_words.specs.Command.{asked_by}
 use Rattle.line_replies.specs.Responders.{TakesForLines}
 use Rattle.commands.specs.Answer.{output_of, output}
-use Rattle.line_replies.specs.Opening.{metrics_in, tree_of_json, tree_in}
+use Rattle.input_files.specs.Files.{metrics_in, tree_of_json, tree_in}
 use Rattle.commands.proofs.Loading.{tree_short}
 use Rattle.commands.proofs.Answering.{refused_by_metrics}
 use Rattle.commands.proofs.RepliesLaws.{unchanged}
-use Rattle.line_replies.specs.declared.status.Status.TheVariants.{Usage, Metrics as MetricsStatus}
-use Rattle.line_replies.specs.declared.refusal.Refusal.TheVariants.{Metrics, Tree, TreeJson}
+use Rattle.input_files.specs.declared.status.Status.TheVariants.{Usage, Metrics as MetricsStatus}
+use Rattle.input_files.specs.declared.refusal.Refusal.TheVariants.{Metrics, Tree, TreeJson}
 
 -- what the definitions are computed by, from literals
 unfoldable on_literals : ⊤

@@ -13,18 +13,19 @@ use Rattle.generator.specs.Generated.{generated}
 use Rattle.generator.specs.Start.{start_tree}
 use Rattle.generator.specs.Summary.{lines_of as lines_of_summary}
 use Rattle.queries.specs.Queries.{answer_to}
-use Rattle.queries.specs.declared.query.Query.{Query}
-use Rattle.queries.specs.declared.query.QueryRefusal.{QueryRefusal}
+use Rattle.page_queries.specs.declared.query.Query.{Query}
+use Rattle.page_queries.specs.declared.query.QueryRefusal.{QueryRefusal}
 use Rattle.command_words.specs.Command.{Asked, Job, OverTree, Generates, Work, LaysOut, Edits, Checks, Asks, usage_line, Remembers}
 use Rattle.commands.specs.Script.{within, is_within}
-use Rattle.line_replies.specs.Opening.{◌>>=◌, metrics_in, started, tree_in}
+use Rattle.input_files.specs.Files.{metrics_in, tree_in}
+use Rattle.line_replies.specs.Opening.{◌>>=◌, started}
 use Rattle.line_replies.specs.Replies.{by_session}
-use Rattle.line_replies.specs.Refusals.{line_of, of_query, status_of}
+use Rattle.input_files.specs.Refusals.{line_of, of_query, status_of}
 use Rattle.line_replies.specs.Responders.{Responder, all_replies, each_reply}
 use Rattle.line_replies.specs.HistorySteps.{by_history, kept_at_first}
-use Rattle.line_replies.specs.declared.status.Status.{Status}
-use Rattle.line_replies.specs.declared.status.Status.TheVariants.{Done, Usage, ScriptLimit}
-use Rattle.line_replies.specs.declared.refusal.Refusal.{Refusal}
+use Rattle.input_files.specs.declared.status.Status.{Status}
+use Rattle.input_files.specs.declared.status.Status.TheVariants.{Done, Usage, ScriptLimit}
+use Rattle.input_files.specs.declared.refusal.Refusal.{Refusal}
 
 -- a file that isn't there counts as empty
 abbrev pub content : Files → List ℕ → List ℕ

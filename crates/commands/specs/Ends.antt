@@ -6,12 +6,13 @@ use Rattle.doc_io.specs.Causes.{Files, InputsTold, Rose, SinkTold}
 use Rattle.edit_session.specs.Session.{SessionValue}
 use Rattle.command_words.specs.Command.{Asked, Job, OverTree, Generates, Work, LaysOut, Edits, Checks, Asks, usage_line, Remembers}
 use Rattle.commands.specs.Answer.{Text, content, output, output_of, parts_asked, parts_of}
-use Rattle.line_replies.specs.Opening.{◌>>=◌, GivesOr, metrics_in, started, tree_in}
-use Rattle.line_replies.specs.Status.{EndsBeforeTree, EndsUnlaid}
-use Rattle.line_replies.specs.declared.status.Status.{Status}
-use Rattle.line_replies.specs.declared.status.Status.TheVariants.{Done, Usage, ReadFault, WriteFault, Memory}
-use Rattle.line_replies.specs.declared.refusal.Refusal.{Refusal}
-use Rattle.line_replies.specs.declared.refusal.Refusal.TheVariants as refusal
+use Rattle.input_files.specs.Files.{GivesOr, metrics_in, tree_in}
+use Rattle.line_replies.specs.Opening.{◌>>=◌, started}
+use Rattle.input_files.specs.Status.{EndsBeforeTree, EndsUnlaid}
+use Rattle.input_files.specs.declared.status.Status.{Status}
+use Rattle.input_files.specs.declared.status.Status.TheVariants.{Done, Usage, ReadFault, WriteFault, Memory}
+use Rattle.input_files.specs.declared.refusal.Refusal.{Refusal}
+use Rattle.input_files.specs.declared.refusal.Refusal.TheVariants as refusal
 
 -- ---- which files are reached
 

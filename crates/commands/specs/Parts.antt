@@ -12,15 +12,16 @@ use Rattle.font_metrics.specs.Metrics.{MetricsValue}
 use Rattle.math_tree.specs.Trees.{TreeValue}
 use Rattle.line_replies.specs.Responders.{Responder}
 use Rattle.commands.specs.Answer.{Text, content, replies_within, status_of_end}
-use Rattle.line_replies.specs.Opening.{started, tree_in}
+use Rattle.input_files.specs.Files.{tree_in}
+use Rattle.line_replies.specs.Opening.{started}
 use Rattle.command_words.specs.Command.{Job, OverTree, Generates, Work, LaysOut, Edits, Checks, Asks, Remembers}
 use Rattle.commands.specs.Ends.{Breaks, Delivers, HasReadCause, IsCut}
-use Rattle.line_replies.specs.declared.refusal.Refusal.{Refusal}
-use Rattle.line_replies.specs.declared.refusal.Refusal.TheVariants.{ReadFault}
+use Rattle.input_files.specs.declared.refusal.Refusal.{Refusal}
+use Rattle.input_files.specs.declared.refusal.Refusal.TheVariants.{ReadFault}
 use Rattle.commands.specs.declared.replies.Stop.{Stop}
 use Rattle.commands.specs.declared.replies.Stop.TheVariants as stop
-use Rattle.line_replies.specs.declared.status.Status.{Status}
-use Rattle.line_replies.specs.declared.status.Status.TheVariants as ending
+use Rattle.input_files.specs.declared.status.Status.{Status}
+use Rattle.input_files.specs.declared.status.Status.TheVariants as ending
 
 -- ---- files that aren't there
 

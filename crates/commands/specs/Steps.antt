@@ -16,8 +16,9 @@ use Rattle.commands.specs.Script.{within}
 use Rattle.line_replies.specs.Responders.{LineSteps, Responder, TakesForLines}
 use Rattle.line_replies.specs.Replies.{by_session}
 use Rattle.commands.specs.Answer.{content}
-use Rattle.line_replies.specs.Opening.{metrics_in, started, tree_in}
-use Rattle.line_replies.specs.declared.refusal.Refusal.{Refusal}
+use Rattle.input_files.specs.Files.{metrics_in, tree_in}
+use Rattle.line_replies.specs.Opening.{started}
+use Rattle.input_files.specs.declared.refusal.Refusal.{Refusal}
 use Rattle.commands.specs.declared.replies.Stop.{Stop}
 
 -- the steps of the next line that a reader gives, if it gives one

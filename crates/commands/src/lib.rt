@@ -21,5 +21,5 @@ mod program; // the top call
 mod replies; // the lines of a script, one after another
 mod responders; // what answers them: a session, and a ring of edits
 
-pub use line_replies::Status;
+pub use input_files::Status;
 pub use program::run;

@@ -1,13 +1,13 @@
 ghost use Rattle.std.specs.Prelude.{◌≡◌, None};
 ghost use Rattle.std.specs.Option.{option_map};
 ghost use Rattle.commands.specs.Answer.{content};
-ghost use Rattle.line_replies.specs.Opening.{metrics_in, tree_in};
+ghost use Rattle.input_files.specs.Files.{metrics_in, tree_in};
 ghost use Rattle.commands.specs.Ends.{Answers};
 ghost use Rattle.commands.specs.Parts.{OpensScript, SelectsScript};
 
 use doc_io::{Inputs, LineReader, read_all};
 use font_metrics::Metrics;
-use line_replies::{Refusal, TREE_LIMIT, metrics_of, tree_of};
+use input_files::{Refusal, TREE_LIMIT, metrics_of, tree_of};
 use math_tree::Tree;
 use metrics_file::MOST_FILE_BYTES;
 use std::alloc::Global;

@@ -6,7 +6,7 @@ ghost use Rattle.commands.specs.Steps.{TakesForNext, TakesForScript, lines_left}
 use command_reader::CommandReader;
 use doc_io::{Inputs, Line, LineReader, LineRefusal, Sink, WriteFault};
 use fixed_units::{Memory, Steps};
-use line_replies::Status;
+use input_files::Status;
 use std::alloc::Global;
 use std::sync::ledger::Ledger;
 

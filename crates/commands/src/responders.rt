@@ -3,10 +3,9 @@ use crate::replies::{Respond, Stop};
 use command_reader::CommandReader;
 use doc_io::Sink;
 use edit_ring::Ring;
-use edit_session::Session;
+use edit_session::{Session, Undoable};
 use fixed_units::Steps;
 use line_replies::{history, reply_to};
-use session_ring::Undoable;
 use std::alloc::Global;
 use std::sync::ledger::Ledger;
 

@@ -1,3 +1,5 @@
 pub mod Refusals
 pub mod Session
 pub mod Sweeping
+pub mod Undoable
+pub mod ByElements

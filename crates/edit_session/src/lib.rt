@@ -24,6 +24,8 @@
 
 mod refusal; // SessionRefusal
 mod session; // Session
+mod undoable; // a session that a ring can undo
 
 pub use refusal::SessionRefusal;
 pub use session::Session;
+pub use undoable::Undoable;

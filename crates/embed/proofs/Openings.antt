@@ -3,8 +3,9 @@ use Rattle.std.proofs.Common.{◌≡◌, ◌≢◌, ◌∙◌, sym, ap, ℕ, Lis
 use Rattle.std.specs.Prelude.{Result, Ok}
 use Rattle.std.proofs.lemmas.Option.{none-some}
 use Rattle.font_metrics.specs.Metrics.{MetricsValue}
-use Rattle.line_replies.specs.Opening.{◌>>=◌, metrics_in, opened, opened_over}
-use Rattle.line_replies.specs.declared.refusal.Refusal.{Refusal}
+use Rattle.input_files.specs.Files.{metrics_in}
+use Rattle.line_replies.specs.Opening.{◌>>=◌, opened, opened_over}
+use Rattle.input_files.specs.declared.refusal.Refusal.{Refusal}
 use Rattle.embed.specs.Calls.{Opens, Seen, Starts}
 use Rattle.embed.specs.Desks.{DeskValue}
 use Rattle.embed.specs.Laws.{StartedLaw}

@@ -15,10 +15,10 @@ use Rattle.edit_ring.specs.declared.ring.RingRefusal.{RingRefusal}
 use Rattle.edit_ring.specs.declared.ring.RingRefusal.TheVariants.{Nothing as HoldsNone, Memory as LacksMemory}
 use Rattle.queries.specs.Queries.{IsCause, answer_to, bytes_of}
 use Rattle.queries.specs.declared.answers.Answer.{Answer}
-use Rattle.queries.specs.declared.query.Query.{Query}
-use Rattle.queries.specs.declared.query.QueryRefusal.{QueryRefusal}
-use Rattle.session_ring.specs.Undoable.{told}
-use Rattle.session_ring.specs.declared.moves.Move.TheVariants.{Other}
+use Rattle.page_queries.specs.declared.query.Query.{Query}
+use Rattle.page_queries.specs.declared.query.QueryRefusal.{QueryRefusal}
+use Rattle.edit_session.specs.Undoable.{told}
+use Rattle.command_reader.specs.declared.moves.Move.TheVariants.{Other}
 use Rattle.line_replies.specs.History.{reply_by_move, reply_to, session_in}
 use Rattle.line_replies.specs.HistoryParts.{Makes, kept_after_move}
 use Rattle.line_replies.specs.HistorySteps.{kept_after, kept_by}

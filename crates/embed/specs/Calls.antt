@@ -6,12 +6,13 @@ use Rattle.edit_ring.specs.declared.ring.RingRefusal.{RingRefusal}
 use Rattle.edit_ring.specs.declared.ring.RingRefusal.TheVariants.{Nothing as HoldsNone, Memory as LacksMemory}
 use Rattle.edit_session.specs.Session.{root_box}
 use Rattle.queries.specs.Queries.{IsCause, answer_to}
-use Rattle.queries.specs.declared.query.Query.{Query}
-use Rattle.queries.specs.declared.query.QueryRefusal.{QueryRefusal}
-use Rattle.line_replies.specs.Opening.{metrics_in, opened, opened_over}
+use Rattle.page_queries.specs.declared.query.Query.{Query}
+use Rattle.page_queries.specs.declared.query.QueryRefusal.{QueryRefusal}
+use Rattle.input_files.specs.Files.{metrics_in}
+use Rattle.line_replies.specs.Opening.{opened, opened_over}
 use Rattle.line_replies.specs.History.{session_in}
-use Rattle.line_replies.specs.Refusals.{line_of, of_query}
-use Rattle.line_replies.specs.declared.refusal.Refusal.TheVariants.{NoNode, Memory as NoMemory}
+use Rattle.input_files.specs.Refusals.{line_of, of_query}
+use Rattle.input_files.specs.declared.refusal.Refusal.TheVariants.{NoNode, Memory as NoMemory}
 use Rattle.embed.specs.Desks.{DeskValue, IsAnswered, IsOpened, IsStarted, after, element_at, shown}
 use Rattle.embed.specs.Frames.{frame_of}
 use Rattle.embed.specs.Kept.{Becomes, Keeps}

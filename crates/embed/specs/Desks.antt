@@ -7,8 +7,8 @@ use Rattle.edit_ring.specs.Rings.{History, RingValue, after_redo, after_undo}
 use Rattle.edit_session.specs.Session.{SessionValue, page}
 use Rattle.hit_test.specs.Hits.{holding, id_of_box, last_of}
 use Rattle.queries.specs.Queries.{IsWritable, answer_to, bytes_of}
-use Rattle.queries.specs.declared.query.Query.{Query}
-use Rattle.session_ring.specs.declared.undoable.Undoable.{Undoable}
+use Rattle.page_queries.specs.declared.query.Query.{Query}
+use Rattle.edit_session.specs.declared.undoable.Undoable.{Undoable}
 use Rattle.line_replies.specs.Opening.{opened, opened_over}
 use Rattle.line_replies.specs.History.{Remembered, after_line, remembered, session_in, told_of}
 use Rattle.line_replies.specs.HistorySteps.{kept_by, ring_of}

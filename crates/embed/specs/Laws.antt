@@ -1,7 +1,7 @@
 -- What holds of all files.
 use Rattle.std.specs.Prelude.{◌≡◌, ◌↔◌, ℕ, List, Some, Ok}
 use Rattle.font_metrics.specs.Metrics.{MetricsValue}
-use Rattle.line_replies.specs.Opening.{metrics_in}
+use Rattle.input_files.specs.Files.{metrics_in}
 use Rattle.embed.specs.Calls.{Opens, Seen, Starts}
 use Rattle.embed.specs.Desks.{DeskValue}
 use Rattle.embed.specs.declared.answer.Answer.{Answer}

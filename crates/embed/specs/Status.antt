@@ -1,8 +1,8 @@
 -- The numbers that the calls answer.
 use Rattle.std.specs.Prelude.{ℕ}
-use Rattle.line_replies.specs.Refusals.{status_of}
-use Rattle.line_replies.specs.Status.{number_of as number_of_run}
-use Rattle.line_replies.specs.declared.status.Status.TheVariants.{Done as RunDone, ScriptLimit, Memory as RunMemory}
+use Rattle.input_files.specs.Refusals.{status_of}
+use Rattle.input_files.specs.Status.{number_of as number_of_run}
+use Rattle.input_files.specs.declared.status.Status.TheVariants.{Done as RunDone, ScriptLimit, Memory as RunMemory}
 use Rattle.embed.specs.declared.answer.Answer.{Answer}
 use Rattle.embed.specs.declared.answer.Answer.TheVariants.{Done, Refused, LineLong, Memory, Open, Closed, Short, Nothing}
 

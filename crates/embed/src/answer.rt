@@ -1,7 +1,7 @@
 ghost use Rattle.std.specs.Prelude.{◌≡◌};
 ghost use Rattle.embed.specs.Status.{number_of};
 
-use line_replies::{Refusal, Status};
+use input_files::{Refusal, Status};
 
 /// What a call answers.
 #[derive(Clone, Copy, Debug, PartialEq, Eq)]

@@ -1,8 +1,9 @@
 ghost use Rattle.std.specs.Prelude.{◌≡◌, ◌≢◌, true, false, None, Some, IfOk, IfErr, Err, Ok};
-ghost use Rattle.line_replies.specs.Opening.{opened as opened_session, GivesOr};
+ghost use Rattle.input_files.specs.Files.{GivesOr};
+ghost use Rattle.line_replies.specs.Opening.{opened as opened_session};
 ghost use Rattle.embed.specs.Calls.{Asks, Goes, Hits, Lines, Measures, Misses, Opens, Shows, Tells, answer_of_query, answer_of_step, seen};
 ghost use Rattle.embed.specs.Desks.{IsOpened, redone, undone};
-ghost use Rattle.queries.specs.declared.query.Query.TheVariants.{Paint, Select};
+ghost use Rattle.page_queries.specs.declared.query.Query.TheVariants.{Paint, Select};
 
 use crate::answer::Answer;
 use crate::copying::copy_to;
@@ -11,9 +12,9 @@ use crate::frame::Frame;
 use crate::handle::Handle;
 use edit_ring::RingRefusal;
 use fixed_units::Memory;
-use line_replies::Refusal;
+use input_files::Refusal;
 use math_tree::NodeId;
-use queries::{Query, QueryRefusal};
+use page_queries::{Query, QueryRefusal};
 use std::alloc::Global;
 
 /// The most bytes that a line may have: 1 MiB.

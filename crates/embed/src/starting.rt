@@ -1,5 +1,6 @@
 ghost use Rattle.std.specs.Prelude.{◌≡◌, ◌≢◌, true, false, None, Some, Err, Ok, IfOk, IfErr};
-ghost use Rattle.line_replies.specs.Opening.{metrics_in as metrics_of, opened_over, GivesOr};
+ghost use Rattle.input_files.specs.Files.{metrics_in as metrics_of, GivesOr};
+ghost use Rattle.line_replies.specs.Opening.{opened_over};
 ghost use Rattle.embed.specs.Calls.{Reads, Starts, seen};
 ghost use Rattle.embed.specs.Desks.{IsStarted};
 
@@ -11,7 +12,7 @@ use crate::desk::Desk;
 use crate::font::Font;
 use crate::handle::Handle;
 use font_metrics::Metrics;
-use line_replies::{Refusal, metrics_in};
+use input_files::{Refusal, metrics_in};
 use std::alloc::Global;
 
 /// Reads the bytes of a metrics file into a closed handle of metrics.

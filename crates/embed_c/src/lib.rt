@@ -10,7 +10,7 @@
 #![tactic(auto)]
 
 ghost use Rattle.std.specs.Prelude.{◌≡◌, None};
-ghost use Rattle.queries.specs.declared.query.Query.TheVariants.{Paint, Select};
+ghost use Rattle.page_queries.specs.declared.query.Query.TheVariants.{Paint, Select};
 ghost use Rattle.embed.specs.Calls.{Answers, Asks, Goes, Hits, Lines, Measures, Misses, Opens, Reads, Shows, Starts, Tells, seen};
 ghost use Rattle.embed.specs.Desks.{redone, undone};
 

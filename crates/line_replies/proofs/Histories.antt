@@ -27,11 +27,11 @@ use Rattle.edit_ring.specs.declared.ground.GroundRefusal.{GroundRefusal}
 use Rattle.edit_ring.specs.declared.ground.GroundRefusal.TheVariants.{Edit as Refuses, Range as PassesRange, Memory as LacksMemory}
 use Rattle.edit_ring.specs.declared.ring.RingRefusal.{RingRefusal}
 use Rattle.edit_ring.specs.declared.ring.RingRefusal.TheVariants.{Nothing as HoldsNone, Memory as HasNoMemory}
-use Rattle.session_ring.proofs.Commands.{no_move}
-use Rattle.session_ring.specs.Moves.{move_in}
-use Rattle.session_ring.specs.Undoable.{told}
-use Rattle.session_ring.specs.declared.moves.Move.{Move}
-use Rattle.session_ring.specs.declared.moves.Move.TheVariants.{Undo, Redo, Other}
+use Rattle.command_reader.proofs.Commands.{no_move}
+use Rattle.command_reader.specs.Moves.{move_in}
+use Rattle.edit_session.specs.Undoable.{told}
+use Rattle.command_reader.specs.declared.moves.Move.{Move}
+use Rattle.command_reader.specs.declared.moves.Move.TheVariants.{Undo, Redo, Other}
 use Rattle.line_replies.specs.EditSteps.{accepted_by}
 use Rattle.line_replies.specs.History.{Remembered, after_command, after_line, after_move, after_reply, moved_to, reply_by_move, reply_to, reply_to_move, session_in}
 use Rattle.line_replies.specs.HistoryParts.{Makes, TellsEdit, TellsMove, kept_after_move}

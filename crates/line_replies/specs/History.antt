@@ -10,9 +10,9 @@ use Rattle.tree_edits.specs.declared.command.Command.TheVariants.{Show, Change}
 use Rattle.tree_edits.specs.declared.edit.Edit.{Edit}
 use Rattle.edit_session.specs.Session.{SessionValue}
 use Rattle.edit_ring.specs.Rings.{History, after_edit, after_redo, after_undo}
-use Rattle.session_ring.specs.Moves.{move_in}
-use Rattle.session_ring.specs.declared.moves.Move.{Move}
-use Rattle.session_ring.specs.declared.moves.Move.TheVariants.{Undo, Redo, Other}
+use Rattle.command_reader.specs.Moves.{move_in}
+use Rattle.command_reader.specs.declared.moves.Move.{Move}
+use Rattle.command_reader.specs.declared.moves.Move.TheVariants.{Undo, Redo, Other}
 use Rattle.line_replies.specs.Replies.{reply_to_command, reply_to_edit, text_of_reply}
 use Rattle.line_replies.specs.declared.reply.Cause.TheVariants.{NoneHeld}
 use Rattle.line_replies.specs.declared.reply.Reply.{Reply}

@@ -6,7 +6,7 @@ use Rattle.edit_ring.specs.declared.ground.GroundRefusal.{GroundRefusal}
 use Rattle.edit_ring.specs.declared.ground.GroundRefusal.TheVariants.{Edit as Refuses, Range as PassesRange, Memory as LacksMemory}
 use Rattle.edit_ring.specs.declared.ring.RingRefusal.{RingRefusal}
 use Rattle.edit_ring.specs.declared.ring.RingRefusal.TheVariants.{Nothing as HoldsNone, Memory as HasNoMemory}
-use Rattle.session_ring.specs.declared.moves.Move.{Move}
+use Rattle.command_reader.specs.declared.moves.Move.{Move}
 use Rattle.line_replies.specs.History.{after_move}
 use Rattle.line_replies.specs.HistorySteps.{Kept, kept_by, ring_after_move}
 use Rattle.line_replies.specs.Replies.{IsReplyOfFont}

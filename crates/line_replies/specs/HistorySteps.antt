@@ -11,11 +11,11 @@ use Rattle.kept_edits.specs.ByIds.{TakesNeeded}
 use Rattle.edit_session.specs.Session.{SessionValue}
 use Rattle.edit_ring.specs.Grounds.{with_tree}
 use Rattle.edit_ring.specs.Rings.{RingState, RingValue, TakesMove, history_of, redone, state_of, undone}
-use Rattle.session_ring.specs.Moves.{move_in}
-use Rattle.session_ring.specs.Undoable.{told}
-use Rattle.session_ring.specs.declared.moves.Move.{Move}
-use Rattle.session_ring.specs.declared.moves.Move.TheVariants.{Undo, Redo, Other}
-use Rattle.session_ring.specs.declared.undoable.Undoable.{Undoable}
+use Rattle.command_reader.specs.Moves.{move_in}
+use Rattle.edit_session.specs.Undoable.{told}
+use Rattle.command_reader.specs.declared.moves.Move.{Move}
+use Rattle.command_reader.specs.declared.moves.Move.TheVariants.{Undo, Redo, Other}
+use Rattle.edit_session.specs.declared.undoable.Undoable.{Undoable}
 use Rattle.line_replies.specs.EditSteps.{TakesForEdit, accepted_by}
 use Rattle.line_replies.specs.History.{Remembered, after_line, remembered, told_of}
 use Rattle.line_replies.specs.Replies.{reply_to_edit}

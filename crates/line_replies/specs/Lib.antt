@@ -1,5 +1,3 @@
-pub mod Status
-pub mod Refusals
 pub mod Responders
 pub mod Replies
 pub mod EditSteps

@@ -15,16 +15,10 @@
 //!   session: `specs/Refusals.antt`; then the file of `src/` below.
 #![tactic(auto)]
 
-mod files; // metrics and trees, by the bytes of their files
 pub mod history; // replies to lines whose edits can be undone
 mod opening; // a session of two files' bytes
-mod refusal; // why there is no session, or no answer
 mod reply; // to one line
 mod script; // white space
-mod status; // how a run ends
 
-pub use files::{TREE_LIMIT, metrics_of, tree_of};
-pub use opening::{metrics_in, open, open_tree, start};
-pub use refusal::Refusal;
+pub use opening::{open, open_tree, start};
 pub use reply::{Cause, Reply, reply_to};
-pub use status::Status;

@@ -1,17 +1,16 @@
 //! The session with which work begins, by the bytes of two files.
 ghost use Rattle.std.specs.Prelude.{◌≡◌, Ok, Err, IfOk, IfErr};
 ghost use Rattle.memo_tree.specs.Counted.{TakesVisits};
-ghost use Rattle.line_replies.specs.Opening.{metrics_in, opened, opened_over, started, tree_in, GivesOr};
-ghost use Rattle.line_replies.specs.Status.{EndsUnlaid};
-ghost use Rattle.line_replies.specs.Refusals.{status_of};
+ghost use Rattle.input_files.specs.Files.{GivesOr};
+ghost use Rattle.input_files.specs.Refusals.{status_of};
+ghost use Rattle.input_files.specs.Status.{EndsUnlaid};
+ghost use Rattle.line_replies.specs.Opening.{opened, opened_over, started};
 
-use crate::files::{TREE_LIMIT, metrics_of, tree_of};
-use crate::refusal::Refusal;
 use edit_session::Session;
 use fixed_units::Steps;
 use font_metrics::Metrics;
+use input_files::{Refusal, metrics_in, tree_in};
 use math_tree::Tree;
-use metrics_file::MOST_FILE_BYTES;
 use std::alloc::Global;
 use std::sync::ledger::Ledger;
 
@@ -29,17 +28,6 @@ pub fn open<L: Ledger>(
 {
     let metrics = metrics_in(alloc, metrics)?;
     open_tree(alloc, metrics, tree, steps)
-}
-
-/// The metrics of a file's bytes, which may be too many.
-#[tactic(auto, unfolding(crate::specs::Opening::metrics_in))]
-pub fn metrics_in(alloc: Global, bytes: &[u8]) -> Result<Metrics, Refusal>
-    ensures { GivesOr (metrics_in bytes.now) result }
-{
-    if bytes.len() > MOST_FILE_BYTES {
-        return Err(Refusal::MetricsLong);
-    }
-    metrics_of(alloc, bytes)
 }
 
 /// The session of a tree file's bytes with these metrics.
@@ -61,17 +49,6 @@ pub fn open_tree<L: Ledger>(
             Err(refusal)
         }
     }
-}
-
-/// The tree of a file's bytes, which may be too many.
-#[tactic(auto, unfolding(crate::specs::Opening::tree_in))]
-fn tree_in(alloc: Global, bytes: &[u8]) -> Result<Tree, Refusal>
-    ensures { GivesOr (tree_in bytes.now) result }
-{
-    if bytes.len() > TREE_LIMIT {
-        return Err(Refusal::TreeLong);
-    }
-    tree_of(alloc, bytes)
 }
 
 /// The session of a tree that is laid out.

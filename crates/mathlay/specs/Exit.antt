@@ -5,8 +5,8 @@ use Rattle.std.specs.declared.process.ExitCode.{ExitCode}
 use Rattle.doc_io.specs.Causes.{InputsTold, SinkTold}
 use Rattle.command_words.specs.Command.{Asked}
 use Rattle.commands.specs.Ends.{Ends}
-use Rattle.line_replies.specs.Status.{number_of}
-use Rattle.line_replies.specs.declared.status.Status.{Status}
+use Rattle.input_files.specs.Status.{number_of}
+use Rattle.input_files.specs.declared.status.Status.{Status}
 
 -- a run that was asked for this ended, and the program ends with the number of its status
 pub record Exits (asked : Option Asked) (before after : InputsTold)

@@ -15,7 +15,7 @@
 ghost use Rattle.std.specs.Prelude.{◌≡◌, ◌≢◌, ◌<◌, None, IfOk, IfErr, map, string_bytes};
 ghost use Rattle.std.specs.Process.{exit_status};
 ghost use Rattle.command_words.specs.Command.{asked_by};
-ghost use Rattle.line_replies.specs.Status.{number_of};
+ghost use Rattle.input_files.specs.Status.{number_of};
 ghost use Rattle.mathlay.specs.Exit.{Exits};
 
 use commands::{Status, run};

@@ -11,8 +11,8 @@ use Rattle.hit_test.specs.declared.areas.Area.{Area}
 use Rattle.edit_session.specs.Session.{SessionValue, page, root_box}
 use Rattle.queries.specs.Lines.{lines_of_areas}
 use Rattle.queries.specs.Queries.{painted_page, unless_missing}
-use Rattle.queries.specs.declared.query.QueryRefusal.{QueryRefusal}
-use Rattle.queries.specs.declared.query.QueryRefusal.TheVariants.{NoNode, TooMany}
+use Rattle.page_queries.specs.declared.query.QueryRefusal.{QueryRefusal}
+use Rattle.page_queries.specs.declared.query.QueryRefusal.TheVariants.{NoNode, TooMany}
 
 -- the paint list of a session's page
 abbrev pub paints_of_page : SessionValue → List Paint

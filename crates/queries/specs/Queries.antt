@@ -14,10 +14,10 @@ use Rattle.edit_session.specs.Session.{SessionValue, page, root_box}
 use Rattle.queries.specs.Lines.{hit_line, lines_of_areas}
 use Rattle.queries.specs.declared.answers.Answer.{Answer}
 use Rattle.queries.specs.declared.answers.Answer.TheVariants.{Picture, Hit as Found, Areas}
-use Rattle.queries.specs.declared.query.Query.{Query}
-use Rattle.queries.specs.declared.query.Query.TheVariants.{Paint, Hit, Select}
-use Rattle.queries.specs.declared.query.QueryRefusal.{QueryRefusal}
-use Rattle.queries.specs.declared.query.QueryRefusal.TheVariants.{NoNode, TooMany, Memory}
+use Rattle.page_queries.specs.declared.query.Query.{Query}
+use Rattle.page_queries.specs.declared.query.Query.TheVariants.{Paint, Hit, Select}
+use Rattle.page_queries.specs.declared.query.QueryRefusal.{QueryRefusal}
+use Rattle.page_queries.specs.declared.query.QueryRefusal.TheVariants.{NoNode, TooMany, Memory}
 
 -- the elements of the tree that are in flow
 abbrev pub flow_of : SessionValue → Node

@@ -4,7 +4,6 @@ ghost use Rattle.edit_session.specs.Session.{page};
 ghost use Rattle.queries.specs.Queries.{IsCause, IsWritable, answer_to, bytes_of, hit_on, painted_page, selected_on};
 
 use crate::answers::Answer;
-use crate::query::{Query, QueryRefusal};
 use box_writer::Placed;
 use edit_session::Session;
 use hit_test::{SelectRefusal, hit, selection};

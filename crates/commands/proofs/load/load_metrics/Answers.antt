@@ -1,7 +1,7 @@
 use Rattle.std.proofs.Common.{◌≡◌}
-use Rattle.line_replies.specs.Opening.{metrics_in}
+use Rattle.input_files.specs.Files.{metrics_in}
 use Rattle.metrics_file.specs.Reading.{most_file_bytes}
-use Rattle.line_replies.specs.declared.refusal.Refusal.TheVariants.{MetricsLong, ReadFault}
+use Rattle.input_files.specs.declared.refusal.Refusal.TheVariants.{MetricsLong, ReadFault}
 use Rattle.commands.proofs.Loading.{metrics_read, metrics_long, not_read}
 use Rattle.commands.proofs.load.load_metrics.Goals as goal
 

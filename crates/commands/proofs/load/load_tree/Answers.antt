@@ -1,6 +1,6 @@
 use Rattle.std.proofs.Common.{◌≡◌}
-use Rattle.line_replies.specs.Opening.{tree_limit, tree_in}
-use Rattle.line_replies.specs.declared.refusal.Refusal.TheVariants.{TreeLong, ReadFault}
+use Rattle.input_files.specs.Files.{tree_limit, tree_in}
+use Rattle.input_files.specs.declared.refusal.Refusal.TheVariants.{TreeLong, ReadFault}
 use Rattle.commands.proofs.Loading.{tree_read, tree_long, not_read}
 use Rattle.commands.proofs.load.load_tree.Goals as goal
 

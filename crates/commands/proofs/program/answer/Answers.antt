@@ -3,12 +3,12 @@ use Rattle.std.specs.Option.{option_map}
 use Rattle.doc_io.specs.Causes.{InputsTold, SinkTold}
 use Rattle.font_metrics.specs.Metrics.{MetricsValue}
 use Rattle.commands.specs.Answer.{answer, answer_with, content}
-use Rattle.line_replies.specs.Opening.{metrics_in}
+use Rattle.input_files.specs.Files.{metrics_in}
 use Rattle.command_words.specs.Command.{Asked, IsInLimits, Job, asked_of, job_of, work_of}
 use Rattle.commands.specs.Ends.{Answers, AnsweredJob, IsJobInParts, JobStepsStand, LacksFile}
 use Rattle.commands.specs.Parts.{LacksNext}
 use Rattle.commands.specs.Steps.{TakesForJob}
-use Rattle.line_replies.specs.declared.status.Status.{Status}
+use Rattle.input_files.specs.declared.status.Status.{Status}
 use Rattle.commands.proofs.Answering.{generated_answers, over_tree_answers, with_metrics, without_metrics}
 use Rattle.commands.proofs.Ending.{told_not_done}
 use Rattle.commands.proofs.Parts.{since}

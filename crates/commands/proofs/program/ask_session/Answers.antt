@@ -2,10 +2,10 @@ use Rattle.std.proofs.Common.{◌≡◌, ◌∙◌, inr, sym, ap, subst, Ok, Err
 use Rattle.queries.specs.Queries.{IsWritable, answer_to, bytes_of}
 use Rattle.commands.specs.Answer.{answered, of_answer, whole_text}
 use Rattle.commands.specs.Ends.{Delivers}
-use Rattle.line_replies.specs.Status.{EndsUnlaid}
-use Rattle.line_replies.specs.Opening.{GivesOr}
-use Rattle.line_replies.specs.Refusals.{status_of}
-use Rattle.line_replies.specs.declared.status.Status.TheVariants.{Done}
+use Rattle.input_files.specs.Status.{EndsUnlaid}
+use Rattle.input_files.specs.Files.{GivesOr}
+use Rattle.input_files.specs.Refusals.{status_of}
+use Rattle.input_files.specs.declared.status.Status.TheVariants.{Done}
 use Rattle.commands.proofs.Answering.{not_answered}
 use Rattle.commands.proofs.Steps.{late, query_late}
 use Rattle.commands.proofs.program.ask_session.Goals as goal

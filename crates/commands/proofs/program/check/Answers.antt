@@ -1,8 +1,8 @@
 use Rattle.std.proofs.Common.{refl, inl, inr, subst, ◌∙◌, Ok, Err}
 use Rattle.commands.specs.Answer.{checked, whole_text}
 use Rattle.commands.specs.Ends.{Delivers}
-use Rattle.line_replies.specs.declared.status.Status.TheVariants.{Done}
-use Rattle.line_replies.specs.declared.refusal.Refusal.TheVariants.{Memory}
+use Rattle.input_files.specs.declared.status.Status.TheVariants.{Done}
+use Rattle.input_files.specs.declared.refusal.Refusal.TheVariants.{Memory}
 use Rattle.commands.proofs.program.check.Goals as goal
 
 pub returns-in-Ok : goal.returns-in-Ok

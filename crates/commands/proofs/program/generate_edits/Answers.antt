@@ -1,6 +1,6 @@
 use Rattle.std.proofs.Common.{ap, subst, sym, Err}
 use Rattle.commands.specs.Answer.{generates}
-use Rattle.line_replies.specs.Opening.{GivesOr}
+use Rattle.input_files.specs.Files.{GivesOr}
 use Rattle.commands.proofs.Answering.{generates_told, not_generated}
 use Rattle.commands.proofs.program.generate_edits.Goals as goal
 

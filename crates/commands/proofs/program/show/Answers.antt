@@ -2,8 +2,8 @@ use Rattle.std.proofs.Common.{◌≡◌, ◌∙◌, inl, inr, refl, subst, ap, O
 use Rattle.box_writer.specs.Lines.{text_of}
 use Rattle.commands.specs.Answer.{lines_of_page, whole_text}
 use Rattle.commands.specs.Ends.{Delivers}
-use Rattle.line_replies.specs.declared.refusal.Refusal.TheVariants.{Memory}
-use Rattle.line_replies.specs.declared.status.Status.TheVariants.{Done}
+use Rattle.input_files.specs.declared.refusal.Refusal.TheVariants.{Memory}
+use Rattle.input_files.specs.declared.status.Status.TheVariants.{Done}
 use Rattle.commands.proofs.program.show.Goals as goal
 
 pub returns-in-Ok-clause-written : goal.returns-in-Ok-clause-written

@@ -1,6 +1,6 @@
 use Rattle.std.proofs.Common.{◌≡◌, ◌∙◌, refl, sym, None}
-use Rattle.session_ring.specs.Moves.{move_in}
-use Rattle.session_ring.specs.declared.moves.Move.TheVariants.{Undo, Redo, Other}
+use Rattle.command_reader.specs.Moves.{move_in}
+use Rattle.command_reader.specs.declared.moves.Move.TheVariants.{Undo, Redo, Other}
 use Rattle.line_replies.specs.HistorySteps.{ring_of}
 use Rattle.line_replies.proofs.Histories.{none_for_move, nothing_asked, way_makes, way_takes}
 use Rattle.line_replies.proofs.history.go.Goals as goal

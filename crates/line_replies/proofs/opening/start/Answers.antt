@@ -1,5 +1,6 @@
 use Rattle.std.proofs.Common.{ap, subst, sym, Err}
-use Rattle.line_replies.specs.Opening.{started, GivesOr}
+use Rattle.input_files.specs.Files.{GivesOr}
+use Rattle.line_replies.specs.Opening.{started}
 use Rattle.line_replies.proofs.Starting.{in_range_started, refused_start}
 use Rattle.line_replies.proofs.opening.start.Goals as goal
 

@@ -1,7 +1,0 @@
-use Rattle.std.proofs.Common.{subst, sym}
-use Rattle.line_replies.specs.Opening.{tree_of_json, GivesOr}
-use Rattle.line_replies.proofs.files.tree_by_value.Goals as goal
-
-pub returns : goal.returns
-returns c =
-    subst (λ j. GivesOr (tree_of_json j) c.tree_of_value.result) (sym (c.in_ok-value.ensures {u = tt}).read) c.tree_of_value.ensures

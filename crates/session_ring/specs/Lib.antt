@@ -1,3 +1,0 @@
-pub mod Undoable
-pub mod Moves
-pub mod ByElements
