@@ -20,15 +20,17 @@ use Rattle.page_queries.specs.declared.query.Query.{Query}
 use Rattle.page_queries.specs.declared.query.QueryRefusal.{QueryRefusal}
 use Rattle.page_queries.specs.declared.query.QueryRefusal.TheVariants as refused_query
 use Rattle.command_words.specs.Command.{Asked, Job, OverTree, Generates, Work, LaysOut, Edits, Checks, Asks, Remembers}
-use Rattle.commands.specs.Answer.{Text, whole_text, content, answers_to, lines_of_page, answered, asked_of_page, of_answer, checked, laid_out, scripted, done, generates, told_of_edits, answer_over, answer_with, answer}
+use Rattle.script_answers.specs.Texts.{Text, whole_text, answers_to}
+use Rattle.commands.specs.Answer.{content, lines_of_page, answered, asked_of_page, of_answer, checked, laid_out, scripted, done, generates, told_of_edits, answer_over, answer_with, answer}
 use Rattle.input_files.specs.Files.{metrics_in, tree_in, GivesOr}
 use Rattle.line_replies.specs.Opening.{◌>>=◌, started}
 use Rattle.input_files.specs.Refusals.{of_layout, of_query}
 use Rattle.commands.specs.Ends.{LacksFile, IsCut, Answers, IsReachedNext, IsScript, start_of}
-use Rattle.line_replies.specs.Responders.{Responder}
+use Rattle.script_answers.specs.Responders.{Responder}
 use Rattle.line_replies.specs.Replies.{by_session}
 use Rattle.line_replies.specs.HistorySteps.{by_history, kept_at_first}
-use Rattle.commands.specs.Parts.{AnswersLines, LacksNext, LacksScript, LacksTree, OpensScript, replies_left}
+use Rattle.script_answers.specs.Lines.{AnswersLines, replies_left}
+use Rattle.commands.specs.Parts.{LacksNext, LacksScript, LacksTree, OpensScript}
 use Rattle.input_files.specs.declared.status.Status.{Status}
 use Rattle.input_files.specs.declared.refusal.Refusal.{Refusal}
 use Rattle.input_files.specs.declared.refusal.Refusal.TheVariants.{ReadFault, Range, Memory}

@@ -8,8 +8,10 @@ use Rattle.doc_io.specs.Causes.{Files, InputsTold, Rose, SinkTold}
 use Rattle.doc_io.proofs.Known.{appends_kept, kept_of_nothing}
 use Rattle.command_words.specs.Command.{Asked, usage_line}
 use Rattle.input_files.specs.Refusals.{status_of}
-use Rattle.commands.specs.Answer.{answer, Output, Text, output_of, output, parts_of, status_of_end}
-use Rattle.commands.specs.Ends.{LacksFile, HasReadCause, IsCut, IsCutShort, IsDelivered, IsJobInParts, Answers, Delivers, Breaks, AnsweredJob, Ends}
+use Rattle.script_answers.specs.Texts.{Text, status_of_end}
+use Rattle.commands.specs.Answer.{answer, Output, output_of, output, parts_of}
+use Rattle.script_answers.specs.Delivering.{Delivers, Breaks}
+use Rattle.commands.specs.Ends.{LacksFile, HasReadCause, IsCut, IsCutShort, IsDelivered, IsJobInParts, Answers, AnsweredJob, Ends}
 use Rattle.input_files.specs.declared.status.Status.{Status}
 use Rattle.input_files.specs.declared.status.Status.TheVariants as status
 use Rattle.input_files.specs.declared.refusal.Refusal.{Refusal}

@@ -3,8 +3,6 @@ pub mod Loading
 mod TwoParts
 pub mod Answering
 pub mod Steps
-mod Continuing
-mod Reading
 mod StepsTaken
 mod Parts
 mod Replying

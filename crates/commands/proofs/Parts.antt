@@ -3,8 +3,9 @@ use Rattle.std.proofs.Common.{◌≡◌, ◌⊎◌, inl, inr, ℕ, List, [], ref
 use Rattle.std.specs.Prelude.{Result, Ok, Err, IsNone, IsSomeAnd}
 use Rattle.doc_io.specs.Causes.{Files, InputsTold, Rose, Selects, SinkTold}
 use Rattle.doc_io.specs.LineReader.{ReaderValue}
-use Rattle.commands.specs.Answer.{Text, status_of_end}
-use Rattle.commands.specs.Ends.{Breaks, Delivers, IsDelivered}
+use Rattle.script_answers.specs.Texts.{Text, status_of_end}
+use Rattle.script_answers.specs.Delivering.{Breaks, Delivers}
+use Rattle.commands.specs.Ends.{IsDelivered}
 use Rattle.commands.specs.Parts.{OpensScript, SelectsScript}
 use Rattle.input_files.specs.declared.refusal.Refusal.{Refusal}
 use Rattle.input_files.specs.declared.refusal.Refusal.TheVariants.{ReadFault, Memory}

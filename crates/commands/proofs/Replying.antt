@@ -11,10 +11,10 @@ use Rattle.tree_edits.specs.declared.command.Command.TheVariants.{Show, Change}
 use Rattle.math_tree.specs.Forms.{is_white_space}
 use Rattle.edit_session.specs.Session.{SessionValue}
 use Rattle.line_replies.specs.Replies.{after_command, after_line, after_reply, reply_to_edit}
-use Rattle.commands.specs.Parts.{Tells}
+use Rattle.script_answers.specs.Lines.{Tells}
 use Rattle.line_replies.specs.declared.reply.Reply.{Reply}
 use Rattle.line_replies.specs.declared.reply.Reply.TheVariants.{Nothing, Accepted, Refused, Shown}
-use Rattle.commands.specs.declared.replies.Stop.TheVariants as stop
+use Rattle.script_answers.specs.declared.stop.Stop.TheVariants as stop
 
 -- ---- a reply
 

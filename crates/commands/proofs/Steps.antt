@@ -5,8 +5,9 @@ use Rattle.doc_io.specs.Causes.{InputsTold, SinkTold}
 use Rattle.doc_io.specs.LineReader.{ReaderValue}
 use Rattle.fixed_units.specs.declared.refusal.LayRefusal.{LayRefusal}
 use Rattle.fixed_units.specs.declared.refusal.LayRefusal.TheVariants as layout
-use Rattle.commands.specs.Answer.{Text, status_of_end}
-use Rattle.commands.specs.Ends.{Breaks, Delivers, IsCut}
+use Rattle.script_answers.specs.Texts.{Text, status_of_end}
+use Rattle.script_answers.specs.Delivering.{Breaks, Delivers}
+use Rattle.commands.specs.Ends.{IsCut}
 use Rattle.input_files.specs.Status.{EndsBeforeTree, EndsUnlaid}
 use Rattle.page_queries.specs.declared.query.QueryRefusal.{QueryRefusal}
 use Rattle.page_queries.specs.declared.query.QueryRefusal.TheVariants as query

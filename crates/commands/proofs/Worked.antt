@@ -30,13 +30,13 @@ use Rattle.tree_edits.specs.declared.edit.EditRefusal.TheVariants.{RootFixed}
 use Rattle.tree_edits.proofs.Frames.{listed_out}
 use Rattle.edit_session.specs.Session.{SessionValue}
 use Rattle.doc_io.specs.LineReader.{is_short}
-use Rattle.commands.specs.Script.{within, is_within}
+use Rattle.script_answers.specs.Script.{within, is_within}
 use Rattle.line_replies.specs.Replies.{after_line, by_session, is_edited_in_range, replies, reply_by, reply_to, reply_to_command, reply_to_edit, text_of_reply, told_of}
 use Rattle.line_replies.specs.declared.reply.Cause.TheVariants.{NoCommand, Unmade}
 use Rattle.line_replies.specs.declared.reply.Reply.TheVariants.{Nothing, Refused}
 use Rattle.line_replies.specs.EditSteps.{TakesForEdit, TakesForLine, accepted_by, accepted_in, unless_refused}
 use Rattle.command_words.specs.Command.{asked_by}
-use Rattle.line_replies.specs.Responders.{TakesForLines}
+use Rattle.script_answers.specs.Responders.{TakesForLines}
 use Rattle.commands.specs.Answer.{output_of, output}
 use Rattle.input_files.specs.Files.{metrics_in, tree_of_json, tree_in}
 use Rattle.commands.proofs.Loading.{tree_short}

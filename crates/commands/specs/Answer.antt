@@ -1,10 +1,8 @@
 -- What the program answers to a command, where the files are told: the table of its endings.
-use Rattle.std.specs.Prelude.{ℕ, Bool, true, false, List, [], ◌∷◌, ◌++◌, Option, Some, None, Result, Ok, Err, unwrap_or}
+use Rattle.std.specs.Prelude.{ℕ, List, [], ◌∷◌, ◌++◌, Option, Some, None, Result, Ok, Err, unwrap_or}
 use Rattle.doc_io.specs.Causes.{Files}
-use Rattle.doc_io.specs.LineReader.{most_lines, lines_of}
 use Rattle.font_metrics.specs.Metrics.{MetricsValue}
 use Rattle.metrics_file.specs.Print.{print_of as metrics_print}
-use Rattle.metrics_file.specs.Reads.{told}
 use Rattle.math_tree.specs.Print.{print_of as tree_print}
 use Rattle.math_tree.specs.Trees.{TreeValue}
 use Rattle.box_writer.specs.Lines.{text_of}
@@ -16,45 +14,19 @@ use Rattle.queries.specs.Queries.{answer_to}
 use Rattle.page_queries.specs.declared.query.Query.{Query}
 use Rattle.page_queries.specs.declared.query.QueryRefusal.{QueryRefusal}
 use Rattle.command_words.specs.Command.{Asked, Job, OverTree, Generates, Work, LaysOut, Edits, Checks, Asks, usage_line, Remembers}
-use Rattle.commands.specs.Script.{within, is_within}
 use Rattle.input_files.specs.Files.{metrics_in, tree_in}
 use Rattle.line_replies.specs.Opening.{◌>>=◌, started}
 use Rattle.line_replies.specs.Replies.{by_session}
 use Rattle.input_files.specs.Refusals.{line_of, of_query, status_of}
-use Rattle.line_replies.specs.Responders.{Responder, all_replies, each_reply}
+use Rattle.script_answers.specs.Responders.{Responder}
 use Rattle.line_replies.specs.HistorySteps.{by_history, kept_at_first}
 use Rattle.input_files.specs.declared.status.Status.{Status}
-use Rattle.input_files.specs.declared.status.Status.TheVariants.{Done, Usage, ScriptLimit}
+use Rattle.input_files.specs.declared.status.Status.TheVariants.{Usage}
 use Rattle.input_files.specs.declared.refusal.Refusal.{Refusal}
 
 -- a file that isn't there counts as empty
 abbrev pub content : Files → List ℕ → List ℕ
 content files name = unwrap_or (files name) []
-
--- ---- the text of an answer
-
-pub record Text : Type 0 where
-  pub bytes : List ℕ
-  -- the parts in which it is written, one behind the other; none, where it is written at once
-  pub parts : List (List ℕ)
-  -- whether it is all that was asked for: not, where a script passes a limit
-  pub whole : Bool
-
-abbrev pub whole_text : List ℕ → Text
-whole_text bytes = record { bytes = bytes; parts = []; whole = true }
-
--- the replies to lines, or to those before the first line that passes a limit, where at most so
--- many are answered
-abbrev pub replies_within : (R : Responder) → ℕ → R.Known → List (List ℕ) → Text
-replies_within R most known lines = record {
-  bytes = all_replies R known (within most lines);
-  parts = each_reply R known (within most lines);
-  whole = is_within most lines;
-}
-
--- the replies to the lines of a script
-abbrev pub answers_to : (R : Responder) → R.Known → List ℕ → Text
-answers_to R known script = replies_within R most_lines known (lines_of script)
 
 -- ---- the answer
 
@@ -144,10 +116,6 @@ parts_asked (Some asked) files = parts_of (answer asked files)
 pub record Output : Type 0 where
   pub bytes : List ℕ
   pub status : Status
-
-abbrev pub status_of_end : Bool → Status
-status_of_end true = Done
-status_of_end false = ScriptLimit
 
 abbrev pub output_of_text : Text → Output
 output_of_text text = record { bytes = text.bytes; status = status_of_end text.whole }

@@ -1,11 +1,12 @@
 -- How a run ends, and why.
-use Rattle.std.specs.Prelude.{◌≡◌, ◌⊎◌, ℕ, ◌≤◌, List, [], take, Option, Some, None, IsNone, IfSome, IsSomeAnd, Result, IsOk, IsErrOf}
+use Rattle.std.specs.Prelude.{◌≡◌, ◌⊎◌, ℕ, ◌≤◌, List, take, Option, Some, None, IsNone, IfSome, IsSomeAnd, Result, IsOk, IsErrOf}
 use Rattle.std.specs.List.{concat}
 use Rattle.std.specs.Io.KnownBytes.{Appends, IsAtEnd, Keeps}
 use Rattle.doc_io.specs.Causes.{Files, InputsTold, Rose, SinkTold}
 use Rattle.edit_session.specs.Session.{SessionValue}
 use Rattle.command_words.specs.Command.{Asked, Job, OverTree, Generates, Work, LaysOut, Edits, Checks, Asks, usage_line, Remembers}
-use Rattle.commands.specs.Answer.{Text, content, output, output_of, parts_asked, parts_of}
+use Rattle.script_answers.specs.Texts.{Text}
+use Rattle.commands.specs.Answer.{content, output, output_of, parts_asked, parts_of}
 use Rattle.input_files.specs.Files.{GivesOr, metrics_in, tree_in}
 use Rattle.line_replies.specs.Opening.{◌>>=◌, started}
 use Rattle.input_files.specs.Status.{EndsBeforeTree, EndsUnlaid}
@@ -73,24 +74,6 @@ pub record Answers {V : Type 0} (wanted : Option (Result V Refusal)) (lacks : Fi
   pub files : after.files ≡ before.files
   pub faults : before.faults ≤ after.faults
   pub missing : before.missing ≤ after.missing
-
--- the text was written and the status is the wanted one, or a write failed
-pub record Delivers (text : List ℕ) (wanted : Status) (old new : SinkTold)
-    (status : Status) : Type 0 where
-  pub whole : (status ≡ WriteFault) ⊎ ((status ≡ wanted) × Appends old.written new.written text)
-  pub front : (n : ℕ) × Appends old.written new.written (take n text)
-  pub fault : status ≡ WriteFault → Rose old.faults new.faults
-  pub later : old.faults ≤ new.faults
-  pub silent : text ≡ [] → (status ≡ wanted) × Keeps old.written new.written
-
--- a read failed or memory was refused on the way, and a front of the text was written
-pub record Breaks (text : List ℕ) (parts : List (List ℕ)) (before after : InputsTold)
-    (old new : SinkTold) (status : Status) : Type 0 where
-  pub cause : (status ≡ Memory) ⊎ ((status ≡ ReadFault) × Rose before.faults after.faults)
-  pub front : (n : ℕ) × Appends old.written new.written (take n text)
-  -- between two parts
-  pub between : (n : ℕ) × Appends old.written new.written (concat (take n parts))
-  pub later : old.faults ≤ new.faults
 
 -- only the replies to a script are written while there is more to do
 abbrev pub IsInParts : Work → Type 0

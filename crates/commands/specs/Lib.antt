@@ -1,4 +1,3 @@
-pub mod Script
 pub mod Answer
 pub mod Ends
 pub mod Parts

@@ -1,9 +1,8 @@
 -- How many steps a run takes: those of the first layout, and those of each line of a script.
-use Rattle.std.specs.Prelude.{◌≡◌, ◌⊎◌, ℕ, ◌-◌, Bool, true, false, List, take, Option, Some, None, IfSome, Result, Ok, Err, IfErr}
+use Rattle.std.specs.Prelude.{◌≡◌, ◌⊎◌, ℕ, List, Option, Some, None, IfSome, Result, Ok, Err}
 use Rattle.std.specs.Option.{option_map}
-use Rattle.doc_io.specs.Causes.{Files, InputsTold}
-use Rattle.doc_io.specs.LineReader.{GivesLine, ReaderValue, left_of, lines_of, most_lines}
-use Rattle.doc_io.specs.declared.line_reader.Line.TheVariants.{Whole}
+use Rattle.doc_io.specs.Causes.{Files}
+use Rattle.doc_io.specs.LineReader.{lines_of, most_lines}
 use Rattle.font_metrics.specs.Metrics.{MetricsValue}
 use Rattle.math_tree.specs.Trees.{TreeValue}
 use Rattle.memo_tree.specs.Counted.{TakesVisits}
@@ -12,39 +11,13 @@ use Rattle.generator.specs.Steps.{TakesForRun as TakesForGenerated}
 use Rattle.command_words.specs.Command.{Asked, Job, OverTree, Generates, Work, LaysOut, Edits, Checks, Asks, Remembers}
 use Rattle.line_replies.specs.EditSteps.{TakesForLine}
 use Rattle.line_replies.specs.HistorySteps.{TakesForKept, by_history, kept_at_first}
-use Rattle.commands.specs.Script.{within}
-use Rattle.line_replies.specs.Responders.{LineSteps, Responder, TakesForLines}
+use Rattle.script_answers.specs.Script.{within}
+use Rattle.script_answers.specs.Responders.{LineSteps, Responder}
 use Rattle.line_replies.specs.Replies.{by_session}
 use Rattle.commands.specs.Answer.{content}
 use Rattle.input_files.specs.Files.{metrics_in, tree_in}
 use Rattle.line_replies.specs.Opening.{started}
 use Rattle.input_files.specs.declared.refusal.Refusal.{Refusal}
-use Rattle.commands.specs.declared.replies.Stop.{Stop}
-
--- the steps of the next line that a reader gives, if it gives one
-pub record TakesForNext (R : Responder) (Takes : LineSteps R) (known : R.Known)
-    (reader reader' : ReaderValue) (before after : InputsTold) (from to : ℕ)
-    (result : Result Bool Stop) : Type 0 where
-  pub line : result ≡ Ok true → Takes known reader'.line from to
-  pub end : result ≡ Ok false → to ≡ from
-  pub stop : IfErr result (λ why.
-      (to ≡ from)
-      ⊎ (GivesLine reader reader' before after (Ok Whole) × Takes known reader'.line from to))
-
--- ---- all lines
-
--- the steps of the lines that were answered: where the script is told, a front of its lines
-pub record TakesForScript (R : Responder) (Takes : LineSteps R) (known : R.Known)
-    (script : Option (List (List ℕ))) (from to : ℕ) : Type 0 where
-  pub lines : List (List ℕ)
-  pub front : IfSome script (λ all. (n : ℕ) × (lines ≡ take n all))
-  pub steps : TakesForLines R Takes known lines from to
-
--- the lines within their limits that are left to a reader, where they are told
-abbrev pub lines_left : ReaderValue → InputsTold → Option (List (List ℕ))
-lines_left reader inputs =
-    option_map (λ bytes. within (most_lines - reader.given) (lines_of bytes))
-    (left_of reader inputs)
 
 -- the lines within their limits of a file, where the files are told
 abbrev pub script_lines : List ℕ → Option Files → Option (List (List ℕ))

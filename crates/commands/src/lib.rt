@@ -18,7 +18,6 @@
 pub mod laws; // of all scripts
 mod load; // the files
 mod program; // the top call
-mod replies; // the lines of a script, one after another
 mod responders; // what answers them: a session, and a ring of edits
 
 pub use input_files::Status;

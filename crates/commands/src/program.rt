@@ -7,13 +7,16 @@ ghost use Rattle.queries.specs.Queries.{IsWritable, bytes_of};
 ghost use Rattle.generator.specs.Steps.{TakesForRun as TakesForGenerated};
 ghost use Rattle.generator.specs.Summary.{lines_of};
 ghost use Rattle.command_words.specs.Command.{IsInLimits, IsWorkInLimits, asked_by, asked_of, work_of, Edits, Remembers};
-ghost use Rattle.commands.specs.Answer.{answer, answer_over, answered, asked_of_page, checked, done, generates, laid_out, lines_of_page, scripted, whole_text};
+ghost use Rattle.script_answers.specs.Texts.{whole_text};
+ghost use Rattle.commands.specs.Answer.{answer, answer_over, answered, asked_of_page, checked, done, generates, laid_out, lines_of_page, scripted};
 ghost use Rattle.input_files.specs.Files.{GivesOr};
 ghost use Rattle.line_replies.specs.Opening.{started};
-ghost use Rattle.commands.specs.Ends.{Answered, AnsweredJob, Delivers, Ends, IsJobInParts, JobStepsStand, LacksFile, StepsStand, TakesNoSteps, Written};
+ghost use Rattle.script_answers.specs.Delivering.{Delivers};
+ghost use Rattle.commands.specs.Ends.{Answered, AnsweredJob, Ends, IsJobInParts, JobStepsStand, LacksFile, StepsStand, TakesNoSteps, Written};
 ghost use Rattle.input_files.specs.Status.{EndsBeforeTree, EndsUnlaid};
 ghost use Rattle.commands.specs.Parts.{LacksScript, LacksTree};
-ghost use Rattle.commands.specs.Steps.{TakesForEdits, TakesForRun, TakesForScript, TakesForWork, TakesOverMetrics, script_lines};
+ghost use Rattle.script_answers.specs.Steps.{TakesForScript};
+ghost use Rattle.commands.specs.Steps.{TakesForEdits, TakesForRun, TakesForWork, TakesOverMetrics, script_lines};
 ghost use Rattle.line_replies.specs.EditSteps.{TakesForLine};
 ghost use Rattle.line_replies.specs.HistorySteps.{TakesForKept, by_history, kept_at_first, new_ring, ring_of};
 ghost use Rattle.line_replies.specs.Replies.{by_session};
@@ -21,7 +24,7 @@ ghost use Rattle.input_files.specs.Refusals.{line_of, status_of};
 ghost use Rattle.edit_session.specs.Session.{SessionValue};
 
 use crate::load::{load_metrics, load_tree, open_script};
-use crate::replies::{Respond, answer_lines};
+use crate::responders::{ByHistory, BySession};
 use box_writer::{Placed, write_placed};
 use command_words::{Job, NoCommand, Request, Task, USAGE};
 use doc_io::{Inputs, Sink, write_all};
@@ -36,6 +39,7 @@ use math_tree::Tree;
 use metrics_file::print_metrics;
 use page_queries::Query;
 use queries::{Answer, answer_query};
+use script_answers::{Respond, answer_lines};
 use std::alloc::Global;
 use std::sync::ledger::Ledger;
 
@@ -272,9 +276,10 @@ fn edit<I: Inputs, O: Sink, L: Ledger>(
         (script_lines script.now (I.told inputs.old).files) steps.old steps.new }
 {
     match start(alloc, metrics, tree, steps) {
-        Ok(mut session) => {
-            let status = answer_script(alloc, &mut session, script, inputs, out, steps);
-            drop(session);
+        Ok(session) => {
+            let mut answerer = BySession { session };
+            let status = answer_script(alloc, &mut answerer, script, inputs, out, steps);
+            drop(answerer);
             status
         }
         Err(refusal) => tell(out, refusal),
@@ -305,9 +310,10 @@ fn remember<I: Inputs, O: Sink, L: Ledger>(
         (script_lines script.now (I.told inputs.old).files) steps.old steps.new }
 {
     match start_ring(alloc, metrics, tree, depth, steps) {
-        Ok(mut ring) => {
-            let status = answer_script(alloc, &mut ring, script, inputs, out, steps);
-            drop(ring);
+        Ok(ring) => {
+            let mut answerer = ByHistory { ring };
+            let status = answer_script(alloc, &mut answerer, script, inputs, out, steps);
+            drop(answerer);
             status
         }
         Err(refusal) => tell(out, refusal),

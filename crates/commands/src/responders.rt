@@ -1,15 +1,21 @@
 //! What answers the lines of a script: a session, and a ring of which edits can be undone.
-use crate::replies::{Respond, Stop};
 use command_reader::CommandReader;
 use doc_io::Sink;
 use edit_ring::Ring;
 use edit_session::{Session, Undoable};
 use fixed_units::Steps;
 use line_replies::{history, reply_to};
+use script_answers::{Respond, Stop};
 use std::alloc::Global;
 use std::sync::ledger::Ledger;
 
-impl Respond for Session {
+/// A session that answers.
+#[derive(Drop)]
+pub struct BySession {
+    pub session: Session,
+}
+
+impl Respond for BySession {
     ghost use Rattle.line_replies.specs.Replies.{by_session};
     ghost use Rattle.line_replies.specs.EditSteps.{TakesForLine};
 
@@ -17,7 +23,7 @@ impl Respond for Session {
 
     ghost takes = { TakesForLine };
 
-    ghost known = { λ session. session.held };
+    ghost known = { λ answerer. answerer.session.held };
 
     fn answer_line<O: Sink, L: Ledger>(
         &mut self,
@@ -27,20 +33,26 @@ impl Respond for Session {
         out: &mut O,
         steps: &mut Steps<L>,
     ) -> Result<(), Stop> {
-        let reply = reply_to(alloc, self, commands, line, steps)?;
-        reply.write(out, self.metrics())?;
+        let reply = reply_to(alloc, &mut self.session, commands, line, steps)?;
+        reply.write(out, self.session.metrics())?;
         Ok(())
     }
 }
 
-impl Respond for Ring<Undoable> {
+/// A ring of edits that answers.
+#[derive(Drop)]
+pub struct ByHistory {
+    pub ring: Ring<Undoable>,
+}
+
+impl Respond for ByHistory {
     ghost use Rattle.line_replies.specs.HistorySteps.{TakesForKept, by_history, kept_by, ring_of};
 
     ghost responder = { by_history };
 
     ghost takes = { TakesForKept };
 
-    ghost known = { λ ring. kept_by (ring_of ring) };
+    ghost known = { λ answerer. kept_by (ring_of answerer.ring) };
 
     fn answer_line<O: Sink, L: Ledger>(
         &mut self,
@@ -50,8 +62,8 @@ impl Respond for Ring<Undoable> {
         out: &mut O,
         steps: &mut Steps<L>,
     ) -> Result<(), Stop> {
-        let reply = history::reply_to(alloc, self, commands, line, steps)?;
-        reply.write(out, self.metrics())?;
+        let reply = history::reply_to(alloc, &mut self.ring, commands, line, steps)?;
+        reply.write(out, self.ring.metrics())?;
         Ok(())
     }
 }

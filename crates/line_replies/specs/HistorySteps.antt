@@ -19,7 +19,7 @@ use Rattle.edit_session.specs.declared.undoable.Undoable.{Undoable}
 use Rattle.line_replies.specs.EditSteps.{TakesForEdit, accepted_by}
 use Rattle.line_replies.specs.History.{Remembered, after_line, remembered, told_of}
 use Rattle.line_replies.specs.Replies.{reply_to_edit}
-use Rattle.line_replies.specs.Responders.{LineSteps, Responder}
+use Rattle.script_answers.specs.Responders.{LineSteps, Responder}
 use Rattle.line_replies.specs.declared.reply.Reply.{Reply}
 use Rattle.line_replies.specs.declared.reply.Reply.TheVariants.{Accepted}
 

@@ -1,4 +1,3 @@
-pub mod Responders
 pub mod Replies
 pub mod EditSteps
 pub mod History

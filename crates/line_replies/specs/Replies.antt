@@ -15,7 +15,7 @@ use Rattle.box_writer.specs.Items.{IsOfFont}
 use Rattle.box_writer.specs.Lines.{text_of}
 use Rattle.box_writer.specs.declared.placed.PlacedItem.{PlacedItem}
 use Rattle.edit_session.specs.Session.{SessionValue, edited_session, page}
-use Rattle.line_replies.specs.Responders.{Responder, all_replies}
+use Rattle.script_answers.specs.Responders.{Responder, all_replies}
 use Rattle.line_replies.specs.declared.reply.Cause.{Cause}
 use Rattle.line_replies.specs.declared.reply.Cause.TheVariants.{NoCommand, Unmade, OutOfRange, NoneHeld}
 use Rattle.line_replies.specs.declared.reply.Reply.{Reply}

@@ -3,7 +3,8 @@ use Rattle.commands.proofs.Answering.{with_script, without_script}
 use Rattle.commands.proofs.Parts.{in_parts}
 use Rattle.commands.proofs.Ending.{told_not_done}
 use Rattle.commands.proofs.Steps.{later, replied_later, script_late}
-use Rattle.commands.proofs.StepsTaken.{for_file, for_no_lines}
+use Rattle.script_answers.proofs.StepsTaken.{for_no_lines}
+use Rattle.commands.proofs.StepsTaken.{for_file}
 use Rattle.commands.proofs.program.answer_script.Goals as goal
 
 pub returns-in-Ok-clause-answered : goal.returns-in-Ok-clause-answered

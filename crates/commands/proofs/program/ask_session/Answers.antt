@@ -1,7 +1,8 @@
 use Rattle.std.proofs.Common.{◌≡◌, ◌∙◌, inr, sym, ap, subst, Ok, Err}
 use Rattle.queries.specs.Queries.{IsWritable, answer_to, bytes_of}
-use Rattle.commands.specs.Answer.{answered, of_answer, whole_text}
-use Rattle.commands.specs.Ends.{Delivers}
+use Rattle.script_answers.specs.Texts.{whole_text}
+use Rattle.commands.specs.Answer.{answered, of_answer}
+use Rattle.script_answers.specs.Delivering.{Delivers}
 use Rattle.input_files.specs.Status.{EndsUnlaid}
 use Rattle.input_files.specs.Files.{GivesOr}
 use Rattle.input_files.specs.Refusals.{status_of}

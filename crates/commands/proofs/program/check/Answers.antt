@@ -1,6 +1,7 @@
 use Rattle.std.proofs.Common.{refl, inl, inr, subst, ◌∙◌, Ok, Err}
-use Rattle.commands.specs.Answer.{checked, whole_text}
-use Rattle.commands.specs.Ends.{Delivers}
+use Rattle.script_answers.specs.Texts.{whole_text}
+use Rattle.commands.specs.Answer.{checked}
+use Rattle.script_answers.specs.Delivering.{Delivers}
 use Rattle.input_files.specs.declared.status.Status.TheVariants.{Done}
 use Rattle.input_files.specs.declared.refusal.Refusal.TheVariants.{Memory}
 use Rattle.commands.proofs.program.check.Goals as goal

@@ -1,7 +1,8 @@
 use Rattle.std.proofs.Common.{◌≡◌, ◌∙◌, inl, inr, refl, subst, ap, Ok, Err}
 use Rattle.box_writer.specs.Lines.{text_of}
-use Rattle.commands.specs.Answer.{lines_of_page, whole_text}
-use Rattle.commands.specs.Ends.{Delivers}
+use Rattle.script_answers.specs.Texts.{whole_text}
+use Rattle.commands.specs.Answer.{lines_of_page}
+use Rattle.script_answers.specs.Delivering.{Delivers}
 use Rattle.input_files.specs.declared.refusal.Refusal.TheVariants.{Memory}
 use Rattle.input_files.specs.declared.status.Status.TheVariants.{Done}
 use Rattle.commands.proofs.program.show.Goals as goal

@@ -1,7 +1,7 @@
 use Rattle.std.proofs.Common.{◌∙◌, refl, inl, inr, subst, Ok, Err}
 use Rattle.generator.specs.Summary.{lines_of}
-use Rattle.commands.specs.Answer.{whole_text}
-use Rattle.commands.specs.Ends.{Delivers}
+use Rattle.script_answers.specs.Texts.{whole_text}
+use Rattle.script_answers.specs.Delivering.{Delivers}
 use Rattle.input_files.specs.declared.refusal.Refusal.TheVariants.{Memory}
 use Rattle.input_files.specs.declared.status.Status.TheVariants.{Done}
 use Rattle.commands.proofs.program.write_summary.Goals as goal

@@ -1,9 +1,9 @@
-use Rattle.std.proofs.Common.{◌≡◌, ◌∙◌, ap, inl, inr, true, false, refl, sym, subst, rules, tests}
+use Rattle.std.proofs.Common.{◌≡◌, ◌∙◌, ap, inl, inr, true, false, refl, subst, rules, tests}
 use Rattle.std.specs.Prelude.{Err, Ok}
-use Rattle.commands.specs.Parts.{Tells}
-use Rattle.commands.proofs.Reading.{came, ended, stopped_next}
-use Rattle.commands.proofs.StepsTaken.{for_cut_next, for_no_next}
-use Rattle.commands.proofs.replies.answer_next.Goals as goal
+use Rattle.script_answers.specs.Lines.{Tells}
+use Rattle.script_answers.proofs.Reading.{came, ended, stopped_next}
+use Rattle.script_answers.proofs.StepsTaken.{for_cut_next, for_no_next}
+use Rattle.script_answers.proofs.answering.answer_next.Goals as goal
 
 pub returns-in_err-next_line-clause-answers : goal.returns-in_err-next_line-clause-answers
 returns-in_err-next_line-clause-answers g c =

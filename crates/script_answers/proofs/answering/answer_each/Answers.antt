@@ -1,8 +1,8 @@
 use Rattle.std.proofs.Common.{◌≡◌, ap, true, false, rules, tests}
 use Rattle.std.specs.Prelude.{Ok}
-use Rattle.commands.proofs.Reading.{fewer, goes_no_further, goes_on, goes_wrong_as, stands_first}
-use Rattle.commands.proofs.StepsTaken.{takes_last, takes_no_more, takes_on, took_none}
-use Rattle.commands.proofs.replies.answer_each.Goals as goal
+use Rattle.script_answers.proofs.Reading.{goes_no_further, goes_on, goes_wrong_as, stands_first}
+use Rattle.script_answers.proofs.StepsTaken.{takes_last, takes_no_more, takes_on, took_none}
+use Rattle.script_answers.proofs.answering.answer_each.Goals as goal
 
 pub loop-init : goal.loop-init
 loop-init g c = (stands_first g.A.Respond.responder _ _ _ _, took_none g.A.Respond.responder g.A.Respond.takes _ _ _ _)

@@ -9,14 +9,14 @@ use Rattle.std.proofs.lemmas.Bool.Decides.{nat_tests}
 use Rattle.std.specs.Io.KnownBytes.{Appends}
 use Rattle.doc_io.specs.Causes.{InputsTold, Rose, SinkTold}
 use Rattle.doc_io.proofs.Known.{appends_both, kept_of_nothing}
-use Rattle.line_replies.specs.Responders.{Responder, all_replies, each_reply}
+use Rattle.script_answers.specs.Responders.{Responder, all_replies, each_reply}
 use Rattle.doc_io.specs.LineReader.{is_short}
-use Rattle.commands.specs.Script.{within, is_within}
-use Rattle.commands.specs.Parts.{Tells, status_of_stop}
-use Rattle.commands.specs.Answer.{Text, replies_within, status_of_end}
-use Rattle.commands.specs.Ends.{Breaks, Delivers}
-use Rattle.commands.specs.declared.replies.Stop.{Stop}
-use Rattle.commands.specs.declared.replies.Stop.TheVariants as stop
+use Rattle.script_answers.specs.Script.{within, is_within}
+use Rattle.script_answers.specs.Lines.{Tells, status_of_stop}
+use Rattle.script_answers.specs.Texts.{Text, replies_within, status_of_end}
+use Rattle.script_answers.specs.Delivering.{Breaks, Delivers}
+use Rattle.script_answers.specs.declared.stop.Stop.{Stop}
+use Rattle.script_answers.specs.declared.stop.Stop.TheVariants as stop
 use Rattle.input_files.specs.declared.status.Status.TheVariants.{ReadFault, WriteFault}
 
 -- ---- limits

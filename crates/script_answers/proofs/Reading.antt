@@ -12,14 +12,14 @@ use Rattle.doc_io.specs.declared.line_reader.LineRefusal.{LineRefusal}
 use Rattle.doc_io.specs.declared.line_reader.LineRefusal.TheVariants as reading
 use Rattle.doc_io.proofs.Known.{appends_both}
 use Rattle.doc_io.proofs.LineLaws.{given_end, given_line, no_lines, refused_line, short_line}
-use Rattle.line_replies.specs.Responders.{Responder}
-use Rattle.commands.specs.Answer.{Text, replies_within, status_of_end}
-use Rattle.commands.specs.Parts.{AnswersEach, AnswersLines, AnswersNext, ComesToLine, Tells, replies_left, status_of_stop, told_line}
-use Rattle.commands.specs.declared.replies.Stop.{Stop}
-use Rattle.commands.specs.declared.replies.Stop.TheVariants as stop
+use Rattle.script_answers.specs.Responders.{Responder}
+use Rattle.script_answers.specs.Texts.{Text, replies_within, status_of_end}
+use Rattle.script_answers.specs.Lines.{AnswersEach, AnswersLines, AnswersNext, ComesToLine, Tells, replies_left, status_of_stop, told_line}
+use Rattle.script_answers.specs.declared.stop.Stop.{Stop}
+use Rattle.script_answers.specs.declared.stop.Stop.TheVariants as stop
 use Rattle.input_files.specs.declared.status.Status.{Status}
 use Rattle.input_files.specs.declared.status.Status.TheVariants as status
-use Rattle.commands.proofs.Continuing.{Continues, appends_nothing, breaks_at_read, closes, more_replies, no_replies, stopped_replies, stops}
+use Rattle.script_answers.proofs.Continuing.{Continues, appends_nothing, breaks_at_read, closes, more_replies, no_replies, stopped_replies, stops}
 
 -- one part more behind others
 concat_more : (parts : List (List ℕ)) (part : List ℕ) → concat (parts ++ part ∷ []) ≡ concat parts ++ part

@@ -1,27 +1,16 @@
+//! The lines of a script, each answered before the next is read.
 ghost use Rattle.std.specs.Prelude.{◌≡◌, OnOk};
-ghost use Rattle.commands.specs.Parts.{AnswersEach, AnswersLines, AnswersNext, ComesToLine, Tells, status_of_stop, stop_of};
-ghost use Rattle.line_replies.specs.Responders.{LineSteps, Responder};
-ghost use Rattle.commands.specs.Steps.{TakesForNext, TakesForScript, lines_left};
+ghost use Rattle.script_answers.specs.Lines.{AnswersEach, AnswersLines, AnswersNext, ComesToLine, Tells};
+ghost use Rattle.script_answers.specs.Responders.{LineSteps, Responder};
+ghost use Rattle.script_answers.specs.Steps.{TakesForNext, TakesForScript, lines_left};
 
+use crate::stop::Stop;
 use command_reader::CommandReader;
-use doc_io::{Inputs, Line, LineReader, LineRefusal, Sink, WriteFault};
-use fixed_units::{Memory, Steps};
+use doc_io::{Inputs, Line, LineReader, Sink};
+use fixed_units::Steps;
 use input_files::Status;
 use std::alloc::Global;
 use std::sync::ledger::Ledger;
-
-/// Why the lines of a script aren't answered to their end.
-#[derive(Clone, Copy, Debug, PartialEq, Eq)]
-pub enum Stop {
-    /// A read failed.
-    ReadFault,
-    /// A line or the number of lines passes its limit.
-    ScriptLimit,
-    /// A write failed.
-    WriteFault,
-    /// Memory was refused.
-    Memory,
-}
 
 /// What answers the lines of a script.
 pub trait Respond {
@@ -123,51 +112,5 @@ fn next_line<I: Inputs>(reader: &mut LineReader, inputs: &mut I) -> Result<bool,
     match reader.next_line(inputs) {
         Ok(line) => Ok(line == Line::Whole),
         Err(refusal) => Err(Stop::of_reading(refusal)),
-    }
-}
-
-impl Stop {
-    /// Why no line was read.
-    fn of_reading(refusal: LineRefusal) -> Stop
-        ensures { result ≡ stop_of refusal }
-    {
-        match refusal {
-            LineRefusal::ReadFault => Stop::ReadFault,
-            LineRefusal::LineLong | LineRefusal::LinesSpent => Stop::ScriptLimit,
-        }
-    }
-
-    /// The status with which the run ends.
-    fn status(self) -> Status
-        ensures { result ≡ status_of_stop self }
-    {
-        match self {
-            Stop::ReadFault => Status::ReadFault,
-            Stop::ScriptLimit => Status::ScriptLimit,
-            Stop::WriteFault => Status::WriteFault,
-            Stop::Memory => Status::Memory,
-        }
-    }
-}
-
-impl From<WriteFault> for Stop {
-    ghost use Rattle.std.specs.Prelude.{◌≡◌};
-    ghost use Rattle.commands.specs.declared.replies.Stop.TheVariants.{WriteFault as NotWritten};
-
-    ghost from_gives = { λ _ stop. stop ≡ NotWritten };
-
-    fn from(_: WriteFault) -> Self {
-        Stop::WriteFault
-    }
-}
-
-impl From<Memory> for Stop {
-    ghost use Rattle.std.specs.Prelude.{◌≡◌};
-    ghost use Rattle.commands.specs.declared.replies.Stop.TheVariants.{Memory as NoMemory};
-
-    ghost from_gives = { λ _ stop. stop ≡ NoMemory };
-
-    fn from(_: Memory) -> Self {
-        Stop::Memory
     }
 }

@@ -1,8 +1,8 @@
 use Rattle.std.proofs.Common.{◌-◌}
 use Rattle.doc_io.specs.LineReader.{most_lines}
-use Rattle.commands.proofs.Reading.{Stands}
-use Rattle.commands.proofs.StepsTaken.{Took}
-use Rattle.commands.proofs.replies.answer_each.Given as goal
+use Rattle.script_answers.proofs.Reading.{Stands}
+use Rattle.script_answers.proofs.StepsTaken.{Took}
+use Rattle.script_answers.proofs.answering.answer_each.Given as goal
 
 -- what was written and the replies to what is left are all replies: each line that was given has
 -- its reply written; and the steps are those of the lines that were given

@@ -1,0 +1,3 @@
+pub mod Continuing
+mod Reading
+pub mod StepsTaken

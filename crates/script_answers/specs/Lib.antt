@@ -1,0 +1,6 @@
+pub mod Script
+pub mod Responders
+pub mod Texts
+pub mod Delivering
+pub mod Lines
+pub mod Steps
