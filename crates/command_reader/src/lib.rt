@@ -4,13 +4,14 @@
 //! its memory from line to line. A line of `show`, `text`, `attr` or `remove` is read member by
 //! member as its tokens come, and only the texts that its edit keeps take memory. Any other is left
 //! to `read_command`: one that brings an element, has a key twice or one that isn't its command's,
-//! or is refused.
+//! or is refused. `move_in` says whether a line asks for an undo or a redo.
 //!
 //! - Models: a reader that is made once and lent each line. The kit's `json` wants 16 KiB of
 //!   cleared memory for a text, which `serde_json` takes anew each time.
 //! - Proved: a line gives the command of `command_in` and is refused exactly where it has none
 //!   (`tree_edits/specs/Commands.antt`); what the members of a line say is the value that
-//!   `serde_json` reads (`line_of`), and the command that is made of them is that value's.
+//!   `serde_json` reads (`line_of`), and the command that is made of them is that value's; which
+//!   lines undo and redo (`specs/Moves.antt`).
 //! - Knows nothing of: what a command does.
 //! - Change a line's form: `tree_edits`, `specs/Commands.antt`, then `src/read.rt`; then here, for
 //!   these four commands: `specs/Said.antt`, `src/keys.rt` and `src/said.rt`.

@@ -12,7 +12,8 @@
 //! - Knows nothing of: the system; how words, a metrics file, a tree or a line of a script are
 //!   read, how a tree is laid out, and what an edit makes of it.
 //! - Change what is answered: `specs/Answer.antt`, then the file of `src/` below, then `rt check`;
-//!   to a line of a script: the crate `line_replies`; which words ask for it: `command_words`.
+//!   to a line of a script: the crate `line_replies`; between a line and the next:
+//!   `script_answers`; which words ask for it: `command_words`.
 #![tactic(auto)]
 
 pub mod laws; // of all scripts

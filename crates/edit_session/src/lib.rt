@@ -4,7 +4,7 @@
 //! carries an edit out and makes the layouts that the edited tree needs and that aren't kept; where
 //! one of them is refused, the tree and what is kept of it are the old ones again. `show` says
 //! where the boxes and marks stand, and drops the layouts that nothing needs any more. So does an
-//! edit, before all else, where much is kept.
+//! edit, before all else, where much is kept. `Undoable` is a session whose edits a ring undoes.
 //!
 //! - Models: the order of refusals is this project's own: first the reasons that the tree gives,
 //!   then sizes that are out of range.
@@ -15,11 +15,13 @@
 //!   `kept_edits`); when an edit drops layouts first, how many layouts and cells there are at most,
 //!   and that a layout which stays needed keeps its run (`specs/Sweeping.antt`); `show` gives the
 //!   boxes and marks of exactly this tree, and keeps just the layouts that it needs. What is
-//!   answered is told by the tree and the metrics alone.
+//!   answered is told by the tree and the metrics alone. A session is a ground of `edit_ring`: its
+//!   good trees are those in range, their boxes are those of its page (`specs/Undoable.antt`).
 //! - Knows nothing of: scripts and their lines, how a tree is laid out, how layouts are kept, and
 //!   what is written of it.
 //! - Change what an edit makes of a tree, or why it is refused: `tree_edits`. Change when layouts
-//!   are dropped: `specs/Sweeping.antt`, then `src/session.rt`; what is kept: `memo_tree`.
+//!   are dropped: `specs/Sweeping.antt`, then `src/session.rt`; what is kept: `memo_tree`; what a
+//!   ring is told: `specs/Undoable.antt`.
 #![tactic(auto)]
 
 mod refusal; // SessionRefusal
