@@ -8,8 +8,8 @@
 //!   want of memory; the line and the status of a refusal are those of `specs/Refusals.antt`, and
 //!   the number of a status that of `specs/Status.antt`.
 //! - Knows nothing of: where the bytes come from, layout, and sessions.
-//! - Change what is told of a file: `specs/Refusals.antt`, then `src/refusal.rt`; how a run can end:
-//!   `specs/Status.antt`, then `src/status.rt`.
+//! - Change what is told of a file: `specs/Refusals.antt`, then `src/refusal.rt`; how a run can
+//!   end: `specs/Status.antt`, then `src/status.rt`.
 #![tactic(auto)]
 
 mod files; // metrics and trees, by the bytes of their files

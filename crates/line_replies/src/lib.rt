@@ -11,8 +11,8 @@
 //!   exactly, and the session is then `after_line`; where memory is refused, it is as before; which
 //!   steps a line takes (`specs/EditSteps.antt`, `specs/HistorySteps.antt`).
 //! - Knows nothing of: the words of the command line, and how files and scripts are read.
-//! - Change what is answered to a line: `specs/Replies.antt`, then the file of `src/` below; what is
-//!   told of a file that gives no session: `input_files`.
+//! - Change what is answered to a line: `specs/Replies.antt`, then the file of `src/` below; what
+//!   is told of a file that gives no session: `input_files`.
 #![tactic(auto)]
 
 pub mod history; // replies to lines whose edits can be undone
