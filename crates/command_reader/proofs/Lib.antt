@@ -3,5 +3,5 @@ mod Puts
 mod More
 -- and the command that it means
 mod Meant
-mod Keys
+mod MoveKeys
 pub mod Commands

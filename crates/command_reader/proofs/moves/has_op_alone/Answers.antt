@@ -3,7 +3,7 @@ use Rattle.std.proofs.lemmas.Iterator.Consumers.{YieldsList-from_rest}
 use Rattle.std.proofs.lemmas.Iterator.Search.{all_from_yields_List}
 use Rattle.std.specs.BTreeMap.{keys}
 use Rattle.command_reader.specs.Moves.{is_op}
-use Rattle.command_reader.proofs.Keys.{no_other_keys}
+use Rattle.command_reader.proofs.MoveKeys.{no_other_keys}
 use Rattle.command_reader.proofs.moves.has_op_alone.Goals as goal
 
 pub returns-in-Object : goal.returns-in-Object

@@ -3,7 +3,7 @@ use Rattle.std.specs.Option.{option_map_or}
 use Rattle.serde_json.specs.Errors.{IsMemory}
 use Rattle.command_reader.specs.Moves.{move_of}
 use Rattle.command_reader.specs.declared.moves.Move.TheVariants.{Other}
-use Rattle.command_reader.proofs.Keys.{json_of_text, no_json}
+use Rattle.command_reader.proofs.MoveKeys.{json_of_text, no_json}
 use Rattle.command_reader.proofs.moves.move_in.Goals as goal
 
 pub returns-in-Ok : goal.returns-in-Ok
