@@ -12,9 +12,9 @@ use Rattle.math_tree.specs.Trees.{TreeValue}
 use Rattle.layout_model.specs.Layout.{is_tree_in_range}
 use Rattle.edit_session.specs.Session.{SessionValue}
 use Rattle.generator.specs.Generated.{generated}
-use Rattle.generator.specs.Start.{start_tree}
-use Rattle.generator.specs.Summary.{lines_of as lines_of_summary}
-use Rattle.generator.specs.declared.summary.Summary.{Summary}
+use Rattle.seeded_edits.specs.Start.{start_tree}
+use Rattle.seeded_edits.specs.Summary.{lines_of as lines_of_summary}
+use Rattle.seeded_edits.specs.declared.summary.Summary.{Summary}
 use Rattle.queries.specs.Queries.{IsCause, answer_to}
 use Rattle.page_queries.specs.declared.query.Query.{Query}
 use Rattle.page_queries.specs.declared.query.QueryRefusal.{QueryRefusal}

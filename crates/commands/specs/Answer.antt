@@ -8,8 +8,8 @@ use Rattle.math_tree.specs.Trees.{TreeValue}
 use Rattle.box_writer.specs.Lines.{text_of}
 use Rattle.edit_session.specs.Session.{SessionValue, page}
 use Rattle.generator.specs.Generated.{generated}
-use Rattle.generator.specs.Start.{start_tree}
-use Rattle.generator.specs.Summary.{lines_of as lines_of_summary}
+use Rattle.seeded_edits.specs.Start.{start_tree}
+use Rattle.seeded_edits.specs.Summary.{lines_of as lines_of_summary}
 use Rattle.queries.specs.Queries.{answer_to}
 use Rattle.page_queries.specs.declared.query.Query.{Query}
 use Rattle.page_queries.specs.declared.query.QueryRefusal.{QueryRefusal}

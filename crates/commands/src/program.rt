@@ -5,7 +5,7 @@ ghost use Rattle.box_writer.specs.Items.{IsOfFont};
 ghost use Rattle.box_writer.specs.Lines.{text_of};
 ghost use Rattle.queries.specs.Queries.{IsWritable, bytes_of};
 ghost use Rattle.generator.specs.Steps.{TakesForRun as TakesForGenerated};
-ghost use Rattle.generator.specs.Summary.{lines_of};
+ghost use Rattle.seeded_edits.specs.Summary.{lines_of};
 ghost use Rattle.command_words.specs.Command.{IsInLimits, IsWorkInLimits, asked_by, asked_of, work_of, Edits, Remembers};
 ghost use Rattle.script_answers.specs.Texts.{whole_text};
 ghost use Rattle.commands.specs.Answer.{answer, answer_over, answered, asked_of_page, checked, done, generates, laid_out, lines_of_page, scripted};

@@ -2,7 +2,7 @@
 use Rattle.std.proofs.Common.{◌≡◌, refl, ap, subst, arith, ℕ, suc, ◌+◌, ◌-◌, ◌<◌, ◌≤◌, List, [], ◌∷◌, Bool, true, false, cond}
 use Rattle.tree_edits.specs.declared.edit.Edit.{Edit}
 use Rattle.edit_session.specs.Session.{SessionValue}
-use Rattle.generator.specs.Edits.{after_draws, drawn_edit, drawn_edits}
+use Rattle.seeded_edits.specs.Edits.{after_draws, drawn_edit, drawn_edits}
 use Rattle.generator.specs.Folded.{accepted_count, after_edit, after_edits, is_accepted}
 use Rattle.generator.specs.Steps.{TakesForEdit, TakesForEdits, TakesForSome}
 

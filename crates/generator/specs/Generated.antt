@@ -3,11 +3,11 @@ use Rattle.std.specs.Prelude.{ℕ, List}
 use Rattle.font_metrics.specs.Metrics.{MetricsValue}
 use Rattle.tree_edits.specs.declared.edit.Edit.{Edit}
 use Rattle.edit_session.specs.Session.{SessionValue, page, root_box}
-use Rattle.generator.specs.Edits.{drawn_edits}
+use Rattle.seeded_edits.specs.Edits.{drawn_edits}
 use Rattle.generator.specs.Folded.{accepted_count, after_edits}
-use Rattle.generator.specs.Start.{start_tree}
-use Rattle.generator.specs.Summary.{box_count}
-use Rattle.generator.specs.declared.summary.Summary.{Summary}
+use Rattle.seeded_edits.specs.Start.{start_tree}
+use Rattle.seeded_edits.specs.Summary.{box_count}
+use Rattle.seeded_edits.specs.declared.summary.Summary.{Summary}
 
 -- the session with which they begin
 abbrev pub first_session : MetricsValue → SessionValue

@@ -6,9 +6,9 @@ use Rattle.tree_edits.specs.declared.edit.Edit.{Edit}
 use Rattle.kept_edits.specs.ByIds.{TakesNeeded}
 use Rattle.memo_tree.specs.Counted.{TakesVisits}
 use Rattle.edit_session.specs.Session.{SessionValue}
-use Rattle.generator.specs.Edits.{drawn_edits}
+use Rattle.seeded_edits.specs.Edits.{drawn_edits}
 use Rattle.generator.specs.Folded.{after_edit}
-use Rattle.generator.specs.Start.{start_tree}
+use Rattle.seeded_edits.specs.Start.{start_tree}
 use Rattle.generator.specs.Generated.{first_session}
 
 -- the steps of an edit: none where the tree refuses it, and else layouts that it needs, none twice

@@ -1,20 +1,17 @@
 ghost use Rattle.std.specs.Prelude.{◌≡◌, true, false, Err, IfOk, OnOk};
 ghost use Rattle.fixed_units.specs.declared.refusal.LayRefusal.TheVariants.{Range};
 ghost use Rattle.layout_model.specs.Layout.{is_tree_in_range};
-ghost use Rattle.generator.specs.Edits.{after_draws, drawn_edit, drawn_edits};
+ghost use Rattle.seeded_edits.specs.Edits.{after_draws, drawn_edit, drawn_edits};
 ghost use Rattle.generator.specs.Folded.{accepted_count, after_edit, after_edits, is_accepted};
 ghost use Rattle.generator.specs.Generated.{generated, told_of};
-ghost use Rattle.generator.specs.Start.{start_tree};
+ghost use Rattle.seeded_edits.specs.Start.{start_tree};
 ghost use Rattle.generator.specs.Steps.{TakesForEdit, TakesForRun, TakesForSome};
 
-use crate::draws::Draws;
-use crate::edits::draw_edit;
-use crate::start::start_tree;
-use crate::summary::{Summary, count_boxes};
 use edit_session::{Session, SessionRefusal};
 use fixed_units::{LayRefusal, Memory, Steps};
 use font_metrics::Metrics;
 use math_tree::Tree;
+use seeded_edits::{Draws, Summary, count_boxes, draw_edit, start_tree};
 use std::alloc::Global;
 use std::sync::ledger::Ledger;
 

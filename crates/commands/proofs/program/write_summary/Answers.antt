@@ -1,5 +1,5 @@
 use Rattle.std.proofs.Common.{◌∙◌, refl, inl, inr, subst, Ok, Err}
-use Rattle.generator.specs.Summary.{lines_of}
+use Rattle.seeded_edits.specs.Summary.{lines_of}
 use Rattle.script_answers.specs.Texts.{whole_text}
 use Rattle.script_answers.specs.Delivering.{Delivers}
 use Rattle.input_files.specs.declared.refusal.Refusal.TheVariants.{Memory}

@@ -1,5 +1,5 @@
 use Rattle.std.proofs.Common.{arith, []}
-use Rattle.generator.specs.Edits.{drawn_edits}
+use Rattle.seeded_edits.specs.Edits.{drawn_edits}
 use Rattle.generator.specs.Generated.{first_session}
 use Rattle.generator.proofs.Counting.{none_taken}
 use Rattle.generator.proofs.run.generate.Goals as goal

@@ -1,7 +1,7 @@
 use Rattle.std.proofs.Common.{subst}
 use Rattle.math_tree.specs.Trees.{TreeValue}
 use Rattle.memo_tree.specs.Counted.{TakesVisits}
-use Rattle.generator.specs.Edits.{drawn_edits}
+use Rattle.seeded_edits.specs.Edits.{drawn_edits}
 use Rattle.generator.specs.Generated.{first_session}
 use Rattle.generator.proofs.Counting.{none_taken}
 use Rattle.generator.proofs.run.generate_over.Goals as goal

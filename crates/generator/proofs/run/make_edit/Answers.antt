@@ -3,7 +3,7 @@ use Rattle.tree_edits.specs.Applying.{IsProperEdit}
 use Rattle.edit_session.specs.declared.refusal.SessionRefusal.TheVariants.{Memory}
 use Rattle.generator.specs.Folded.{after_edit, is_accepted}
 use Rattle.generator.proofs.Accepting.{after_made, after_unmade, made, unmade}
-use Rattle.generator.proofs.Proper.{drawn_proper}
+use Rattle.seeded_edits.proofs.Proper.{drawn_proper}
 use Rattle.generator.proofs.run.make_edit.Goals as goal
 
 pub edit-requires : goal.edit-requires

@@ -1,7 +1,7 @@
 use Rattle.std.proofs.Common.{◌≡◌, sym, subst, arith, ℕ, ◌+◌, ◌-◌, ◌≤◌, List, cond}
 use Rattle.tree_edits.specs.declared.edit.Edit.{Edit}
 use Rattle.edit_session.specs.Session.{SessionValue}
-use Rattle.generator.specs.Edits.{after_draws, drawn_edit, drawn_edits}
+use Rattle.seeded_edits.specs.Edits.{after_draws, drawn_edit, drawn_edits}
 use Rattle.generator.proofs.Counting.{Continues, as_many, ends_counted, ends_taken, ends_with, first_left, goes_on, none_left, one_more, stops}
 use Rattle.generator.proofs.run.make_edits.Goals as goal
 use Rattle.generator.proofs.run.make_edits.Goals.{then-branch, else-branch}

@@ -1,5 +1,5 @@
 use Rattle.std.proofs.Common.{◌-◌, ◌≤◌}
-use Rattle.generator.specs.Edits.{drawn_edits}
+use Rattle.seeded_edits.specs.Edits.{drawn_edits}
 use Rattle.generator.proofs.Counting.{Continues}
 use Rattle.generator.proofs.run.make_edits.Given as goal
 

@@ -2,7 +2,7 @@
 use Rattle.std.specs.Prelude.{ℕ, List, [], ◌∷◌, codes, replicate}
 use Rattle.serde_json.specs.Data.{Data, string, array, object, no_members, member}
 use Rattle.serde_json.specs.View.{items_of}
-use Rattle.generator.specs.Start.{row_count}
+use Rattle.seeded_edits.specs.Start.{row_count}
 
 -- an element of a name with a text, and one with children
 abbrev pub leaf : List ℕ → List ℕ → Data

@@ -1,5 +1,5 @@
 ghost use Rattle.std.specs.Prelude.{◌≡◌, Some};
-ghost use Rattle.generator.specs.Summary.{box_count};
+ghost use Rattle.seeded_edits.specs.Summary.{box_count};
 
 use box_writer::{Placed, PlacedItem};
 use fixed_units::MathBox;
@@ -20,7 +20,7 @@ pub struct Summary {
 }
 
 impl Display for Summary {
-    ghost use Rattle.generator.specs.Summary.{lines_of};
+    ghost use Rattle.seeded_edits.specs.Summary.{lines_of};
 
     ghost output = { λ told. Some (lines_of told) };
 

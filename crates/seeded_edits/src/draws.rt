@@ -1,5 +1,5 @@
 ghost use Rattle.std.specs.Prelude.{◌≡◌, ◌<◌};
-ghost use Rattle.generator.specs.Draws.{drawn, next_state};
+ghost use Rattle.seeded_edits.specs.Draws.{drawn, next_state};
 
 use std::marker::Model;
 

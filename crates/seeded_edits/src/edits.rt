@@ -1,6 +1,6 @@
 ghost use Rattle.std.specs.Prelude.{◌≡◌, ◌<◌, IfOk, OnOk};
-ghost use Rattle.generator.specs.Edits.{after_draws, attribute_set, drawn_edit, form_named, set_form, set_level, set_number, set_thickness};
-ghost use Rattle.generator.specs.Start.{row_count, row_id};
+ghost use Rattle.seeded_edits.specs.Edits.{after_draws, attribute_set, drawn_edit, form_named, set_form, set_level, set_number, set_thickness};
+ghost use Rattle.seeded_edits.specs.Start.{row_count, row_id};
 
 use crate::draws::Draws;
 use crate::start::{ROW_COUNT, row_id};

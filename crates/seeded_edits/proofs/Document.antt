@@ -7,8 +7,8 @@ use Rattle.math_tree.proofs.OnLiterals.{math_tree_on_literals}
 use Rattle.math_tree.specs.Reading.{tree_of}
 use Rattle.math_tree.specs.Trees.{TreeValue}
 use Rattle.math_tree.specs.declared.fault.TreeFault.{TreeFault}
-use Rattle.generator.specs.Document.{document}
-use Rattle.generator.specs.Start.{start_row, start_tree}
+use Rattle.seeded_edits.specs.Document.{document}
+use Rattle.seeded_edits.specs.Start.{start_row, start_tree}
 
 pub document_gives_the_tree : tree_of document ≡ Ok start_tree
 unfolding math_tree_on_literals list_to document start_row start_tree

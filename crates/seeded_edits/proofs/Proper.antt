@@ -2,9 +2,9 @@
 use Rattle.std.proofs.Common.{ℕ, Bool, true, false, cond, nat_eq}
 use Rattle.tree_edits.specs.Applying.{IsProperEdit}
 use Rattle.tree_edits.specs.declared.edit.Edit.{Edit}
-use Rattle.generator.specs.Draws.{drawn, next_state}
-use Rattle.generator.specs.Edits.{drawn_edit, edit_of_kind, set_form, set_level, set_number, set_thickness}
-use Rattle.generator.specs.Start.{row_count, row_id}
+use Rattle.seeded_edits.specs.Draws.{drawn, next_state}
+use Rattle.seeded_edits.specs.Edits.{drawn_edit, edit_of_kind, set_form, set_level, set_number, set_thickness}
+use Rattle.seeded_edits.specs.Start.{row_count, row_id}
 
 either : (b : Bool) (one other : Edit) → IsProperEdit one → IsProperEdit other → IsProperEdit (cond b one other)
 either true one other proper _ = proper

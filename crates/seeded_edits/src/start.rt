@@ -1,7 +1,7 @@
 ghost use Rattle.std.specs.Prelude.{◌≡◌, ◌<◌, map, replicate, IfOk};
 ghost use Rattle.serde_json.specs.View.{view};
-ghost use Rattle.generator.specs.Document.{document, row_value};
-ghost use Rattle.generator.specs.Start.{row_count, row_id, start_tree};
+ghost use Rattle.seeded_edits.specs.Document.{document, row_value};
+ghost use Rattle.seeded_edits.specs.Start.{row_count, row_id, start_tree};
 
 use fixed_units::Memory;
 use math_tree::{Tree, TreeRefusal, read_tree};

@@ -3,8 +3,8 @@ use Rattle.std.specs.Prelude.{Err}
 use Rattle.serde_json.specs.View.{view}
 use Rattle.math_tree.specs.Reading.{Reads, tree_of}
 use Rattle.math_tree.specs.declared.refusal.TreeRefusal.{TreeRefusal}
-use Rattle.generator.proofs.Document.{no_fault, the_tree}
-use Rattle.generator.proofs.start.tree_of.Goals as goal
+use Rattle.seeded_edits.proofs.Document.{no_fault, the_tree}
+use Rattle.seeded_edits.proofs.start.tree_of.Goals as goal
 
 pub unreachable-requires : goal.unreachable-requires
 unreachable-requires c =

@@ -1,7 +1,7 @@
 use Rattle.std.proofs.Common.{◌∙◌, ap, ℕ, ◌/◌, ◌%◌}
-use Rattle.generator.specs.Draws.{next_state, number_in}
-use Rattle.generator.proofs.Wrapping.{wrapped_state}
-use Rattle.generator.proofs.draws.Draws.below.Goals as goal
+use Rattle.seeded_edits.specs.Draws.{next_state, number_in}
+use Rattle.seeded_edits.proofs.Wrapping.{wrapped_state}
+use Rattle.seeded_edits.proofs.draws.Draws.below.Goals as goal
 
 pub returns-clause-number : goal.returns-clause-number
 unfolding number_in

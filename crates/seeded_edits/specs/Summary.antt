@@ -5,7 +5,7 @@ use Rattle.std.specs.List.{count_by}
 use Rattle.doc_io.specs.Lines.{line}
 use Rattle.box_writer.specs.declared.placed.PlacedItem.{PlacedItem}
 use Rattle.box_writer.specs.declared.placed.PlacedItem.TheVariants.{Frame, Drawn}
-use Rattle.generator.specs.declared.summary.Summary.{Summary}
+use Rattle.seeded_edits.specs.declared.summary.Summary.{Summary}
 
 -- how many boxes there are among what stands on the page; its marks don't count
 abbrev pub is_box : PlacedItem → Bool

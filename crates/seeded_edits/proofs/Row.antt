@@ -3,7 +3,7 @@ use Rattle.std.proofs.Common.{◌≡◌, refl, codes, Option, Some}
 use Rattle.serde_json.specs.Data.{Data}
 use Rattle.serde_json.specs.Read.{read}
 use Rattle.serde_json.proofs.OnLiterals.{serde_json_on_literals}
-use Rattle.generator.specs.Document.{row_value}
+use Rattle.seeded_edits.specs.Document.{row_value}
 
 row_reads : read (codes "{\"name\": \"mrow\", \"children\": [\n    {\"name\": \"mi\", \"text\": \"x\"},\n    {\"name\": \"mo\", \"text\": \"+\"},\n    {\"name\": \"mfrac\", \"children\": [{\"name\": \"mn\", \"text\": \"1\"}, {\"name\": \"mn\", \"text\": \"2\"}]},\n    {\"name\": \"mo\", \"text\": \"-\"},\n    {\"name\": \"msup\", \"children\": [{\"name\": \"mi\", \"text\": \"b\"}, {\"name\": \"mn\", \"text\": \"2\"}]},\n    {\"name\": \"mo\", \"text\": \"(\"},\n    {\"name\": \"mn\", \"text\": \"4\"},\n    {\"name\": \"mo\", \"text\": \")\"}\n]}") ≡ Some row_value
 unfolding serde_json_on_literals

@@ -1,7 +1,7 @@
 use Rattle.std.proofs.Common.{◌≡◌, map, replicate}
 use Rattle.serde_json.specs.View.{view}
-use Rattle.generator.specs.Document.{row_value}
-use Rattle.generator.proofs.start.rows.Given as goal
+use Rattle.seeded_edits.specs.Document.{row_value}
+use Rattle.seeded_edits.proofs.start.rows.Given as goal
 
 -- as many as were added
 abbrev pub invariant-loop : goal.invariant-loop

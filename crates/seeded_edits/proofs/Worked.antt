@@ -2,9 +2,9 @@
 use Rattle.std.proofs.Common.{◌≡◌, refl, [], ◌∷◌, codes}
 use Rattle.std.specs.Fmt.{digits}
 use Rattle.tree_edits.specs.declared.edit.Edit.TheVariants.{Text}
-use Rattle.generator.specs.Draws.{drawn, next_state, number_in}
-use Rattle.generator.specs.Edits.{after_draws, attribute_set, drawn_edit, drawn_edits, edit_of_kind, id}
-use Rattle.generator.specs.Start.{row_count, row_id}
+use Rattle.seeded_edits.specs.Draws.{drawn, next_state, number_in}
+use Rattle.seeded_edits.specs.Edits.{after_draws, attribute_set, drawn_edit, drawn_edits, edit_of_kind, id}
+use Rattle.seeded_edits.specs.Start.{row_count, row_id}
 
 -- the numbers go on modulo 2^64
 next_of_one : next_state 1 ≡ 7806831264735756412

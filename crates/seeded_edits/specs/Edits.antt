@@ -4,8 +4,8 @@ use Rattle.std.specs.Fmt.{decimal}
 use Rattle.math_tree.specs.declared.node.NodeId.{NodeId}
 use Rattle.tree_edits.specs.declared.edit.Edit.{Edit}
 use Rattle.tree_edits.specs.declared.edit.Edit.TheVariants.{Text, Attr}
-use Rattle.generator.specs.Draws.{drawn, next_state}
-use Rattle.generator.specs.Start.{row_count, row_id}
+use Rattle.seeded_edits.specs.Draws.{drawn, next_state}
+use Rattle.seeded_edits.specs.Start.{row_count, row_id}
 
 abbrev pub id : ℕ → NodeId
 id n = record { 0 = n }

@@ -1,0 +1,5 @@
+mod Document
+mod Row
+mod Wrapping
+pub mod Proper
+mod Worked

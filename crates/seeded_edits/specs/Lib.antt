@@ -1,0 +1,5 @@
+pub mod Draws
+pub mod Start
+pub mod Document
+pub mod Edits
+pub mod Summary
