@@ -8,6 +8,7 @@ use box_writer::Placed;
 use edit_session::Session;
 use hit_test::{SelectRefusal, hit, selection};
 use math_tree::NodeId;
+use page_queries::{Query, QueryRefusal};
 use paint_list::{PaintRefusal, paint};
 use std::alloc::Global;
 

@@ -1,4 +1,4 @@
-//! What is asked of the page of a tree, and what is answered: a picture, an element, areas.
+//! What is answered to what is asked of the page of a tree: a picture, an element, areas.
 //!
 //! `answer_query` finds an answer on the page of a session's tree, or tells why there is none, and
 //! `answer_over` on a page that was made before; `Answer::write` writes it.
@@ -13,8 +13,6 @@
 mod answering; // answer_query, answer_over
 mod answers; // Answer
 mod lines; // the lines of answers
-mod query; // Query, QueryRefusal
 
 pub use answering::{answer_over, answer_query};
 pub use answers::Answer;
-pub use query::{Query, QueryRefusal};
