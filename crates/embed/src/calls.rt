@@ -6,6 +6,7 @@ ghost use Rattle.embed.specs.Desks.{IsOpened, redone, undone};
 ghost use Rattle.page_queries.specs.declared.query.Query.TheVariants.{Paint, Select};
 
 use crate::answer::Answer;
+use crate::boxing::boxed;
 use crate::copying::copy_to;
 use crate::desk::Desk;
 use crate::frame::Frame;
@@ -76,10 +77,7 @@ fn desk_of(alloc: Global, metrics: &[u8], tree: &[u8]) -> Result<Box<Desk>, Refu
         (λ refusal. GivesOr (opened_session metrics.now tree.now) (Err refusal)) }
 {
     let desk = Desk::open(alloc, metrics, tree)?;
-    match Box::new(alloc, desk) {
-        Ok(desk) => Ok(desk),
-        Err(_) => Err(Refusal::Memory),
-    }
+    Ok(boxed(alloc, desk)?)
 }
 
 /// Does what a line of a script asks for.
