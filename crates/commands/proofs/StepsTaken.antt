@@ -21,6 +21,7 @@ use Rattle.script_answers.specs.Steps.{TakesForScript, lines_left}
 use Rattle.commands.specs.Steps.{TakesBehindStart, TakesForEdits, TakesForJob, TakesForRun, TakesForWork, TakesOverMetrics, script_lines}
 use Rattle.input_files.specs.declared.refusal.Refusal.{Refusal}
 use Rattle.commands.proofs.TwoParts.{ok_is_not_cut}
+use Rattle.script_answers.proofs.StepsTaken.{Front, for_no_lines}
 
 -- the lines that are left to a new reader of a file are those of the file
 pub for_file : (R : Responder) (Takes : LineSteps R) (known : R.Known) (name : List ℕ) (before mid : InputsTold) (reader : ReaderValue) (from to : ℕ)

@@ -23,6 +23,7 @@ use Rattle.line_replies.specs.HistorySteps.{by_history, kept_at_first}
 use Rattle.input_files.specs.declared.status.Status.{Status}
 use Rattle.input_files.specs.declared.status.Status.TheVariants.{Usage}
 use Rattle.input_files.specs.declared.refusal.Refusal.{Refusal}
+use Rattle.script_answers.specs.Texts.{Text, answers_to, status_of_end, whole_text}
 
 -- a file that isn't there counts as empty
 abbrev pub content : Files → List ℕ → List ℕ

@@ -14,6 +14,7 @@ use Rattle.input_files.specs.declared.status.Status.{Status}
 use Rattle.input_files.specs.declared.status.Status.TheVariants.{Done, Usage, ReadFault, WriteFault, Memory}
 use Rattle.input_files.specs.declared.refusal.Refusal.{Refusal}
 use Rattle.input_files.specs.declared.refusal.Refusal.TheVariants as refusal
+use Rattle.script_answers.specs.Delivering.{Breaks, Delivers}
 
 -- ---- which files are reached
 

@@ -18,6 +18,7 @@ use Rattle.commands.specs.Answer.{content}
 use Rattle.input_files.specs.Files.{metrics_in, tree_in}
 use Rattle.line_replies.specs.Opening.{started}
 use Rattle.input_files.specs.declared.refusal.Refusal.{Refusal}
+use Rattle.script_answers.specs.Steps.{TakesForScript}
 
 -- the lines within their limits of a file, where the files are told
 abbrev pub script_lines : List ℕ → Option Files → Option (List (List ℕ))
