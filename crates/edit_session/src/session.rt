@@ -181,8 +181,14 @@ impl Session {
         ensures steps { refusal_of self.old.held.tree edit ≡ None
             → TakesNeeded self.old.held.metrics self.old.held.tree edit steps.old steps.new }
     {
-        self.sweep_if_due(alloc)?;
-        self.edit_found(alloc, edit, steps)
+        match self.sweep_if_due(alloc) {
+            Ok(()) => self.edit_found(alloc, edit, steps),
+            Err(Memory) => {
+                // Dropped by a call, so that this function's proof doesn't go through all parts.
+                drop(edit);
+                Err(SessionRefusal::Memory)
+            }
+        }
     }
 
     /// Drops the layouts that nothing needs, where that is due.

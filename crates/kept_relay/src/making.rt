@@ -17,7 +17,7 @@ ghost use Rattle.kept_results.specs.Regular.{IsShownBy};
 ghost use Rattle.kept_results.specs.declared.memo.Memo.TheViews.{out-Memo};
 
 use box_pool::RunId;
-use fixed_units::{LayRefusal, List, Room, Steps};
+use fixed_units::{LayRefusal, List, Memory, Room, Steps};
 use font_metrics::Metrics;
 use kept_results::{Before, Earlier, Memo, WholeView, answer_in, remake, turn};
 use layout_model::{Answer, Context, Finish, Outcome, Reply};
@@ -138,10 +138,34 @@ fn lay_again<F: Finish, L: Ledger>(
     let view = WholeView::of(node, memo);
     let entry = &memo.entries.as_slice()[entry];
     let outcome = outcome_of::<F, _>(alloc, &view, context, metrics, &entry.one, steps)?;
+    match put_with_room(alloc, store, &outcome) {
+        Ok((run, room)) => Ok(LaidAgain {
+            run,
+            answer: answer_in(outcome),
+            room,
+        }),
+        Err(Memory) => {
+            // Dropped by a call, so that this function's proof doesn't go through all parts.
+            drop(outcome);
+            Err(LayRefusal::Memory)
+        }
+    }
+}
+
+/// Puts an outcome into the store, where there is room for what was there before it.
+fn put_with_room(
+    alloc: Global,
+    store: &mut Store,
+    outcome: &Outcome,
+) -> Result<(RunId, Room<Before>), Memory>
+    requires begun { IsSome store.old.checkpoint }
+    ensures put { IfOk result (λ put. PutsOutcome store.old store.new put.0.0 outcome.now) }
+    ensures room { IfOk result (λ put. 1 ≤ put.1) }
+    ensures unchanged { OnErr result (store.new ≡ store.old) }
+{
     let room = Room::make(alloc, 1)?;
-    let run = store.put(&outcome)?;
-    let answer = answer_in(outcome);
-    Ok(LaidAgain { run, answer, room })
+    let run = store.put(outcome)?;
+    Ok((run, room))
 }
 
 /// The outcome of a regular element over the replies to what it asks. It takes one step.

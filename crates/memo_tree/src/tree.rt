@@ -180,7 +180,14 @@ impl MemoTree {
         ensures refused { IfErr result (IsReason self.old.tree edit) }
         ensures unchanged { OnErr result (self.new ≡ self.old) }
     {
-        let path = self.notes.find(alloc, &self.tree, edit.named())?;
+        let path = match self.notes.find(alloc, &self.tree, edit.named()) {
+            Ok(path) => path,
+            Err(Memory) => {
+                // Dropped by a call, so that this function's proof doesn't go through all parts.
+                drop(edit);
+                return Err(EditRefusal::Memory);
+            }
+        };
         let found = way_along(&self.tree, &path, &edit);
         let taken = apply_at(alloc, &mut self.tree, path, edit)?;
         self.swept = false;

@@ -8,19 +8,19 @@ use Rattle.memo_tree.proofs.Changes.{before, changed_now, counted, each_stays, m
 use Rattle.kept_edits.proofs.Undone.{fewer_then}
 use Rattle.memo_tree.proofs.tree.MemoTree.change.Goals as goal
 
-pub returns-in-Ok-clause-changed : goal.returns-in-Ok-clause-changed
-returns-in-Ok-clause-changed c =
+pub returns-in-Ok-follow-clause-changed : goal.returns-in-Ok-follow-clause-changed
+returns-in-Ok-follow-clause-changed c =
     let old : MemoTreeValue = record { tree = c.self.inside.tree; metrics = c.self.inside.metrics; memo = c.self.inside.memo; store = c.self.inside.store } in
     let laid = subst IsLaidOut (sym c.self.view_is) c.requires.sealed in
     let done = c.in_ok-taken.ensures {u = tt} in
     let way = c.in-Some.way in
     let is = c.in-Some.ensures done.accepted in
     let root = c.root.result.now in
-    changed_now old c.args.edit way c.apply_at.new.tree root laid is done.tree c.root.ensures.exact c.follow.new.memo c.in-Ok.back
-    ((c.in-Ok.ensures {u = tt}).followed (before old c.args.edit way c.apply_at.new.tree root laid is done.tree c.root.ensures.exact))
+    changed_now old c.args.edit way c.apply_at.new.tree root laid is done.tree c.root.ensures.exact c.follow.new.memo c.in-Ok-follow.back
+    ((c.in-Ok-follow.ensures {u = tt}).followed (before old c.args.edit way c.apply_at.new.tree root laid is done.tree c.root.ensures.exact))
 
-pub returns-in-Ok-clause-stays : goal.returns-in-Ok-clause-stays
-returns-in-Ok-clause-stays c =
+pub returns-in-Ok-follow-clause-stays : goal.returns-in-Ok-follow-clause-stays
+returns-in-Ok-follow-clause-stays c =
     let old : MemoTreeValue = record { tree = c.self.inside.tree; metrics = c.self.inside.metrics; memo = c.self.inside.memo; store = c.self.inside.store } in
     let new : MemoTreeValue = record { tree = c.apply_at.new.tree; metrics = c.self.inside.metrics; memo = c.follow.new.memo; store = c.self.inside.store } in
     let laid = subst IsLaidOut (sym c.self.view_is) c.requires.sealed in
@@ -29,11 +29,11 @@ returns-in-Ok-clause-stays c =
     let is = c.in-Some.ensures done.accepted in
     let root = c.root.result.now in
     subst (λ (o : MemoTreeValue). EntriesStay o c.args.edit new) c.self.view_is
-    (stays old c.args.edit way c.apply_at.new.tree root laid is done.tree c.root.ensures.exact c.follow.new.memo c.in-Ok.back
-    ((c.in-Ok.ensures {u = tt}).followed (before old c.args.edit way c.apply_at.new.tree root laid is done.tree c.root.ensures.exact)) c.self.invariant.whole c.root.ensures.whole)
+    (stays old c.args.edit way c.apply_at.new.tree root laid is done.tree c.root.ensures.exact c.follow.new.memo c.in-Ok-follow.back
+    ((c.in-Ok-follow.ensures {u = tt}).followed (before old c.args.edit way c.apply_at.new.tree root laid is done.tree c.root.ensures.exact)) c.self.invariant.whole c.root.ensures.whole)
 
-pub returns-in-Ok-clause-counted : goal.returns-in-Ok-clause-counted
-returns-in-Ok-clause-counted c =
+pub returns-in-Ok-follow-clause-counted : goal.returns-in-Ok-follow-clause-counted
+returns-in-Ok-follow-clause-counted c =
     let old : MemoTreeValue = record { tree = c.self.inside.tree; metrics = c.self.inside.metrics; memo = c.self.inside.memo; store = c.self.inside.store } in
     let new : MemoTreeValue = record { tree = c.apply_at.new.tree; metrics = c.self.inside.metrics; memo = c.follow.new.memo; store = c.self.inside.store } in
     let laid = subst IsLaidOut (sym c.self.view_is) c.requires.sealed in
@@ -42,11 +42,11 @@ returns-in-Ok-clause-counted c =
     let is = c.in-Some.ensures done.accepted in
     let root = c.root.result.now in
     subst (λ (o : MemoTreeValue). MissingIsCounted o c.args.edit new) c.self.view_is
-    (counted old c.args.edit way c.apply_at.new.tree root laid is done.tree c.root.ensures.exact c.follow.new.memo c.in-Ok.back
-    ((c.in-Ok.ensures {u = tt}).followed (before old c.args.edit way c.apply_at.new.tree root laid is done.tree c.root.ensures.exact)) c.self.invariant.whole c.root.ensures.whole)
+    (counted old c.args.edit way c.apply_at.new.tree root laid is done.tree c.root.ensures.exact c.follow.new.memo c.in-Ok-follow.back
+    ((c.in-Ok-follow.ensures {u = tt}).followed (before old c.args.edit way c.apply_at.new.tree root laid is done.tree c.root.ensures.exact)) c.self.invariant.whole c.root.ensures.whole)
 
-pub returns-in-Ok-clause-reversal : goal.returns-in-Ok-clause-reversal
-returns-in-Ok-clause-reversal c =
+pub returns-in-Ok-follow-clause-reversal : goal.returns-in-Ok-follow-clause-reversal
+returns-in-Ok-follow-clause-reversal c =
     let old : MemoTreeValue = record { tree = c.self.inside.tree; metrics = c.self.inside.metrics; memo = c.self.inside.memo; store = c.self.inside.store } in
     let new : MemoTreeValue = record { tree = c.apply_at.new.tree; metrics = c.self.inside.metrics; memo = c.follow.new.memo; store = c.self.inside.store } in
     let laid = subst IsLaidOut (sym c.self.view_is) c.requires.sealed in
@@ -56,11 +56,11 @@ returns-in-Ok-clause-reversal c =
     let root = c.root.result.now in
     subst (λ (o : MemoTreeValue). Reverses c.of.result new o) c.self.view_is
     (subst (λ (r : ReversalValue). Reverses r new old) (sym c.of.ensures)
-    (reverses old c.args.edit way c.apply_at.new.tree root laid is done.tree c.root.ensures.exact c.follow.new.memo c.in-Ok.back
-    ((c.in-Ok.ensures {u = tt}).followed (before old c.args.edit way c.apply_at.new.tree root laid is done.tree c.root.ensures.exact)) c.in_ok-taken.taken done.taken))
+    (reverses old c.args.edit way c.apply_at.new.tree root laid is done.tree c.root.ensures.exact c.follow.new.memo c.in-Ok-follow.back
+    ((c.in-Ok-follow.ensures {u = tt}).followed (before old c.args.edit way c.apply_at.new.tree root laid is done.tree c.root.ensures.exact)) c.in_ok-taken.taken done.taken))
 
-pub returns-in-Ok-clause-new : goal.returns-in-Ok-clause-new
-returns-in-Ok-clause-new c =
+pub returns-in-Ok-follow-clause-new : goal.returns-in-Ok-follow-clause-new
+returns-in-Ok-follow-clause-new c =
     let old : MemoTreeValue = record { tree = c.self.inside.tree; metrics = c.self.inside.metrics; memo = c.self.inside.memo; store = c.self.inside.store } in
     let new : MemoTreeValue = record { tree = c.apply_at.new.tree; metrics = c.self.inside.metrics; memo = c.follow.new.memo; store = c.self.inside.store } in
     let laid = subst IsLaidOut (sym c.self.view_is) c.requires.sealed in
@@ -69,11 +69,11 @@ returns-in-Ok-clause-new c =
     let is = c.in-Some.ensures done.accepted in
     let root = c.root.result.now in
     subst (λ (o : MemoTreeValue). NewIsBlank o c.args.edit new) c.self.view_is
-    (new_blank old c.args.edit way c.apply_at.new.tree root laid is done.tree c.root.ensures.exact c.follow.new.memo c.in-Ok.back
-    ((c.in-Ok.ensures {u = tt}).followed (before old c.args.edit way c.apply_at.new.tree root laid is done.tree c.root.ensures.exact)) c.self.invariant.whole c.root.ensures.whole)
+    (new_blank old c.args.edit way c.apply_at.new.tree root laid is done.tree c.root.ensures.exact c.follow.new.memo c.in-Ok-follow.back
+    ((c.in-Ok-follow.ensures {u = tt}).followed (before old c.args.edit way c.apply_at.new.tree root laid is done.tree c.root.ensures.exact)) c.self.invariant.whole c.root.ensures.whole)
 
-pub returns-in-Ok-clause-marked : goal.returns-in-Ok-clause-marked
-returns-in-Ok-clause-marked c =
+pub returns-in-Ok-follow-clause-marked : goal.returns-in-Ok-follow-clause-marked
+returns-in-Ok-follow-clause-marked c =
     let old : MemoTreeValue = record { tree = c.self.inside.tree; metrics = c.self.inside.metrics; memo = c.self.inside.memo; store = c.self.inside.store } in
     let new : MemoTreeValue = record { tree = c.apply_at.new.tree; metrics = c.self.inside.metrics; memo = c.follow.new.memo; store = c.self.inside.store } in
     let laid = subst IsLaidOut (sym c.self.view_is) c.requires.sealed in
@@ -82,11 +82,11 @@ returns-in-Ok-clause-marked c =
     let is = c.in-Some.ensures done.accepted in
     let root = c.root.result.now in
     subst (λ (o : MemoTreeValue). MarksPath o c.args.edit new) c.self.view_is
-    (marks_path old c.args.edit way c.apply_at.new.tree root laid is done.tree c.root.ensures.exact c.follow.new.memo c.in-Ok.back
-    ((c.in-Ok.ensures {u = tt}).followed (before old c.args.edit way c.apply_at.new.tree root laid is done.tree c.root.ensures.exact)))
+    (marks_path old c.args.edit way c.apply_at.new.tree root laid is done.tree c.root.ensures.exact c.follow.new.memo c.in-Ok-follow.back
+    ((c.in-Ok-follow.ensures {u = tt}).followed (before old c.args.edit way c.apply_at.new.tree root laid is done.tree c.root.ensures.exact)))
 
-pub returns-in-Ok-clause-kept : goal.returns-in-Ok-clause-kept
-returns-in-Ok-clause-kept c =
+pub returns-in-Ok-follow-clause-kept : goal.returns-in-Ok-follow-clause-kept
+returns-in-Ok-follow-clause-kept c =
     let old : MemoTreeValue = record { tree = c.self.inside.tree; metrics = c.self.inside.metrics; memo = c.self.inside.memo; store = c.self.inside.store } in
     let new : MemoTreeValue = record { tree = c.apply_at.new.tree; metrics = c.self.inside.metrics; memo = c.follow.new.memo; store = c.self.inside.store } in
     let laid = subst IsLaidOut (sym c.self.view_is) c.requires.sealed in
@@ -95,11 +95,11 @@ returns-in-Ok-clause-kept c =
     let is = c.in-Some.ensures done.accepted in
     let root = c.root.result.now in
     subst (λ (o : MemoTreeValue). EachStays o c.args.edit new) c.self.view_is
-    (each_stays old c.args.edit way c.apply_at.new.tree root laid is done.tree c.root.ensures.exact c.follow.new.memo c.in-Ok.back
-    ((c.in-Ok.ensures {u = tt}).followed (before old c.args.edit way c.apply_at.new.tree root laid is done.tree c.root.ensures.exact)) c.self.invariant.whole c.root.ensures.whole)
+    (each_stays old c.args.edit way c.apply_at.new.tree root laid is done.tree c.root.ensures.exact c.follow.new.memo c.in-Ok-follow.back
+    ((c.in-Ok-follow.ensures {u = tt}).followed (before old c.args.edit way c.apply_at.new.tree root laid is done.tree c.root.ensures.exact)) c.self.invariant.whole c.root.ensures.whole)
 
-pub returns-in-Ok-clause-fewer : goal.returns-in-Ok-clause-fewer
-returns-in-Ok-clause-fewer c =
+pub returns-in-Ok-follow-clause-fewer : goal.returns-in-Ok-follow-clause-fewer
+returns-in-Ok-follow-clause-fewer c =
     let old : MemoTreeValue = record { tree = c.self.inside.tree; metrics = c.self.inside.metrics; memo = c.self.inside.memo; store = c.self.inside.store } in
     let laid = subst IsLaidOut (sym c.self.view_is) c.requires.sealed in
     let done = c.in_ok-taken.ensures {u = tt} in
@@ -108,4 +108,4 @@ returns-in-Ok-clause-fewer c =
     let root = c.root.result.now in
     let was = before old c.args.edit way c.apply_at.new.tree root laid is done.tree c.root.ensures.exact in
     subst (λ (o : MemoTreeValue). kept_count c.follow.new.memo ≤ kept_count o.memo) c.self.view_is
-    (fewer_then root old.memo c.follow.new.memo way was ((c.in-Ok.ensures {u = tt}).followed was).spliced)
+    (fewer_then root old.memo c.follow.new.memo way was ((c.in-Ok-follow.ensures {u = tt}).followed was).spliced)
