@@ -1,5 +1,5 @@
-//! Edits that are drawn from a seed, the tree of 833 elements that they begin with, and what is told
-//! of them.
+//! Edits that are drawn from a seed, the tree of 833 elements that they begin with, and what is
+//! told of them.
 //!
 //! - Models: the tree, the edits and their numbers are this project's own; the numbers come from a
 //!   linear congruential generator.
