@@ -1,10 +1,11 @@
-use doc_io::ReadRefusal;
+use doc_io::{ReadRefusal, SHORT_TEXT, ShortText};
 use metrics_file::MetricsRefusal;
 use std::alloc::{AllocError, AllocFailed};
 use std::fmt::{self, Display, Formatter};
 
-/// Why a line can't be read, or a case can't be carried out.
-#[derive(Clone, Copy)]
+/// Why a line can't be read, or a case can't be carried out. It has its key by value, since each `?`
+/// of an error that holds a reference takes twice as long to prove.
+#[derive(Drop)]
 pub enum Fault {
     NotText,
     NoForm,
@@ -19,9 +20,9 @@ pub enum Fault {
     UnknownKind,
     NotJson,
     WrongValue,
-    MissingKey(&'static str),
-    WrongType(&'static str),
-    OutOfRange(&'static str),
+    MissingKey(ShortText),
+    WrongType(ShortText),
+    OutOfRange(ShortText),
     UnknownKey,
     NotMetrics,
     NotAnElement,
@@ -29,16 +30,33 @@ pub enum Fault {
 }
 
 impl Fault {
+    /// A key has no value.
+    pub fn missing_key(key: &str) -> Fault {
+        Fault::MissingKey(short(key))
+    }
+
+    /// The value of a key is of another type.
+    pub fn wrong_type(key: &str) -> Fault {
+        Fault::WrongType(short(key))
+    }
+
+    /// The value of a key is out of its range.
+    pub fn out_of_range(key: &str) -> Fault {
+        Fault::OutOfRange(short(key))
+    }
+
     /// The key of whose value it is told.
-    fn key(self) -> Option<&'static str> {
+    fn key(&self) -> Option<&str> {
         match self {
-            Fault::MissingKey(key) | Fault::WrongType(key) | Fault::OutOfRange(key) => Some(key),
+            Fault::MissingKey(key) | Fault::WrongType(key) | Fault::OutOfRange(key) => {
+                Some(key.as_str())
+            }
             _ => None,
         }
     }
 
     /// What is told, behind its key where it has one.
-    fn words(self) -> &'static str {
+    fn words(&self) -> &'static str {
         match self {
             Fault::NotText => "it isn't UTF-8",
             Fault::NoForm => "it has no form of a line",
@@ -61,6 +79,15 @@ impl Fault {
             Fault::NotAnElement => "the value isn't a sound element",
             Fault::Memory => "memory was refused",
         }
+    }
+}
+
+/// A key by value. Those of the kinds are short.
+fn short(key: &str) -> ShortText {
+    if key.len() <= SHORT_TEXT {
+        ShortText::of(key)
+    } else {
+        ShortText::of("(long)")
     }
 }
 

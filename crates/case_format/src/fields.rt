@@ -36,17 +36,17 @@ impl<'a> Fields<'a> {
 
     /// The value of a key.
     pub fn value(self, key: &'static str) -> Result<&'a Value, Fault> {
-        self.get(key).ok_or(Fault::MissingKey(key))
+        self.get(key).ok_or(Fault::missing_key(key))
     }
 
     /// The text of a key.
     pub fn text(self, key: &'static str) -> Result<&'a str, Fault> {
-        self.value(key)?.as_str().ok_or(Fault::WrongType(key))
+        self.value(key)?.as_str().ok_or(Fault::wrong_type(key))
     }
 
     /// The whole number of a key.
     pub fn number(self, key: &'static str) -> Result<i64, Fault> {
-        number_of(self.value(key)?).ok_or(Fault::WrongType(key))
+        number_of(self.value(key)?).ok_or(Fault::wrong_type(key))
     }
 
     /// The whole number of a key, which has to lie from one to another.
@@ -57,7 +57,7 @@ impl<'a> Fields<'a> {
         if low <= number && number <= high {
             Ok(number)
         } else {
-            Err(Fault::OutOfRange(key))
+            Err(Fault::out_of_range(key))
         }
     }
 
@@ -65,11 +65,11 @@ impl<'a> Fields<'a> {
     pub fn stored_box(self, key: &'static str) -> Result<MathBox, Fault>
         ensures { IfOk result (λ frame. IsStored frame) }
     {
-        let frame = box_of(self.value(key)?).ok_or(Fault::WrongType(key))?;
+        let frame = box_of(self.value(key)?).ok_or(Fault::wrong_type(key))?;
         if fits(&frame) {
             Ok(frame)
         } else {
-            Err(Fault::OutOfRange(key))
+            Err(Fault::out_of_range(key))
         }
     }
 
@@ -80,13 +80,13 @@ impl<'a> Fields<'a> {
 
     /// The truth value of a key.
     pub fn flag(self, key: &'static str) -> Result<bool, Fault> {
-        self.value(key)?.as_bool().ok_or(Fault::WrongType(key))
+        self.value(key)?.as_bool().ok_or(Fault::wrong_type(key))
     }
 
     /// The truth value of a key, `false` where it is left out.
     pub fn flag_or_false(self, key: &'static str) -> Result<bool, Fault> {
         match self.get(key) {
-            Some(value) => value.as_bool().ok_or(Fault::WrongType(key)),
+            Some(value) => value.as_bool().ok_or(Fault::wrong_type(key)),
             None => Ok(false),
         }
     }
@@ -115,16 +115,16 @@ fn is_among(keys: &[&'static str], name: &str) -> bool {
 }
 
 fn items_of<'a>(key: &'static str, value: &'a Value) -> Result<&'a [Value], Fault> {
-    let items = value.as_array().ok_or(Fault::WrongType(key))?;
+    let items = value.as_array().ok_or(Fault::wrong_type(key))?;
     Ok(items.as_slice())
 }
 
 /// The text that an item of a key is.
 pub fn text_in<'a>(key: &'static str, item: &'a Value) -> Result<&'a str, Fault> {
-    item.as_str().ok_or(Fault::WrongType(key))
+    item.as_str().ok_or(Fault::wrong_type(key))
 }
 
 /// The count that an item of a key is.
 pub fn count_in(key: &'static str, item: &Value) -> Result<u64, Fault> {
-    item.as_u64().ok_or(Fault::WrongType(key))
+    item.as_u64().ok_or(Fault::wrong_type(key))
 }

@@ -109,8 +109,10 @@ impl<'a, I: Inputs + Drop, K: Kinds> Session<'a, I, K> {
 
 /// What a line says, where it is text.
 fn read_line(line: &[u8]) -> Result<Line<'_>, Fault> {
-    let text = str::from_utf8(line).map_err(|_| Fault::NotText)?;
-    Line::of_text(text)
+    match str::from_utf8(line) {
+        Ok(text) => Line::of_text(text),
+        Err(_) => Err(Fault::NotText),
+    }
 }
 
 /// Writes a case as it stands, and what came of it.

@@ -71,7 +71,7 @@ fn room_in(fields: Fields) -> Result<usize, Fault> {
     if room <= AMPLE as u64 {
         Ok(room as usize)
     } else {
-        Err(Fault::OutOfRange("room"))
+        Err(Fault::out_of_range("room"))
     }
 }
 
