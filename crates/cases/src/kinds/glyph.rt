@@ -27,7 +27,7 @@ fn letter_in(fields: Fields) -> Result<char, Fault> {
     let mut letters = fields.text("letter")?.chars();
     match (letters.next(), letters.next()) {
         (Some(letter), None) => Ok(letter),
-        _ => Err(Fault::OutOfRange("letter")),
+        _ => Err(Fault::out_of_range("letter")),
     }
 }
 

@@ -14,10 +14,10 @@ pub fn answer(case: Case, words: &mut String) -> Result<(), Fault> {
     let num = fields.number("num")?;
     let den = fields.number("den")?;
     if den <= 0 {
-        return Err(Fault::OutOfRange("den"));
+        return Err(Fault::out_of_range("den"));
     }
     if num < -MOST || MOST < num {
-        return Err(Fault::OutOfRange("num"));
+        return Err(Fault::out_of_range("num"));
     }
     let nearest = nearest(i128::from(num), i128::from(den));
     write!(words, "{nearest}")?;

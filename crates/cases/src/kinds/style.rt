@@ -89,7 +89,7 @@ fn style_below(
 {
     match font_size(parent, metrics) {
         Some(_) => Ok(child_style(parent, place, &child.head, metrics)),
-        None => Err(Fault::OutOfRange("steps")),
+        None => Err(Fault::out_of_range("steps")),
     }
 }
 
