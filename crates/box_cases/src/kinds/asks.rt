@@ -55,7 +55,7 @@ fn kids_in(alloc: Global, fields: Fields) -> Result<List<KidPull>, Fault>
     if kids.len() <= 65_536 {
         Ok(kids)
     } else {
-        Err(Fault::OutOfRange("kids"))
+        Err(Fault::out_of_range("kids"))
     }
 }
 
@@ -69,7 +69,7 @@ fn kid_of(letter: u8) -> Result<KidPull, Fault> {
             axis: Some(Axis::Inline),
         }),
         b'-' => Ok(KidPull { axis: None }),
-        _ => Err(Fault::OutOfRange("kids")),
+        _ => Err(Fault::out_of_range("kids")),
     }
 }
 

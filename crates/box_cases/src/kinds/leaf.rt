@@ -166,6 +166,6 @@ fn form_in(fields: Fields) -> Result<Form, Fault> {
         "prefix" => Ok(Form::Prefix),
         "infix" => Ok(Form::Infix),
         "postfix" => Ok(Form::Postfix),
-        _ => Err(Fault::OutOfRange("form")),
+        _ => Err(Fault::out_of_range("form")),
     }
 }

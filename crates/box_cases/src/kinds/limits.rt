@@ -72,7 +72,7 @@ fn case_in(fields: Fields) -> Result<LimitCase, Fault> {
         "large" => Ok(LimitCase::Large),
         "stretchy" => Ok(LimitCase::Stretchy),
         "plain" => Ok(LimitCase::Plain),
-        _ => Err(Fault::OutOfRange("case")),
+        _ => Err(Fault::out_of_range("case")),
     }
 }
 

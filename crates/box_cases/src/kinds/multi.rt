@@ -51,14 +51,14 @@ fn pairs_in(alloc: Global, fields: Fields) -> Result<List<Pair>, Fault>
 fn pair_of(value: &Value) -> Result<Pair, Fault>
     ensures { IfOk result IsPairStored }
 {
-    let parts = value.as_array().ok_or(Fault::WrongType("pairs"))?;
+    let parts = value.as_array().ok_or(Fault::wrong_type("pairs"))?;
     let [sub, sup, before] = parts.as_slice() else {
-        return Err(Fault::WrongType("pairs"));
+        return Err(Fault::wrong_type("pairs"));
     };
     Ok(Pair {
         sub: stored_box("pairs", sub)?,
         sup: stored_box("pairs", sup)?,
-        before: before.as_bool().ok_or(Fault::WrongType("pairs"))?,
+        before: before.as_bool().ok_or(Fault::wrong_type("pairs"))?,
     })
 }
 

@@ -35,15 +35,15 @@ fn kids_in(alloc: Global, fields: Fields) -> Result<List<RowKid>, Fault>
 fn kid_of(value: &Value) -> Result<RowKid, Fault>
     ensures { IfOk result IsKidStored }
 {
-    let parts = value.as_array().ok_or(Fault::WrongType("kids"))?;
+    let parts = value.as_array().ok_or(Fault::wrong_type("kids"))?;
     let [frame, before, after, embellished] = parts.as_slice() else {
-        return Err(Fault::WrongType("kids"));
+        return Err(Fault::wrong_type("kids"));
     };
     Ok(RowKid {
         frame: stored_box("kids", frame)?,
         before: stored("kids", before)?,
         after: stored("kids", after)?,
-        embellished: embellished.as_bool().ok_or(Fault::WrongType("kids"))?,
+        embellished: embellished.as_bool().ok_or(Fault::wrong_type("kids"))?,
     })
 }
 

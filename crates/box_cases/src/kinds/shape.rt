@@ -74,7 +74,7 @@ fn axis_in(fields: Fields) -> Result<Axis, Fault> {
     match fields.text("axis")? {
         "block" => Ok(Axis::Block),
         "inline" => Ok(Axis::Inline),
-        _ => Err(Fault::OutOfRange("axis")),
+        _ => Err(Fault::out_of_range("axis")),
     }
 }
 
@@ -83,6 +83,6 @@ fn letter_in(fields: Fields) -> Result<char, Fault> {
     let mut letters = fields.text("letter")?.chars();
     match (letters.next(), letters.next()) {
         (Some(letter), None) => Ok(letter),
-        _ => Err(Fault::OutOfRange("letter")),
+        _ => Err(Fault::out_of_range("letter")),
     }
 }

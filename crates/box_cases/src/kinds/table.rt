@@ -60,7 +60,7 @@ pub fn answer_row(case: Case, words: &mut String) -> Result<(), Fault> {
     let cells = boxes_in(case.alloc, fields, "cells")?;
     let widths = numbers_in(case.alloc, fields, "widths")?;
     if widths.len() != cells.len() {
-        return Err(Fault::OutOfRange("widths"));
+        return Err(Fault::out_of_range("widths"));
     }
     let total = fields.number("total")?;
     let row = row_of_cells(case.alloc, &cells, &widths, total)?;
@@ -73,7 +73,7 @@ pub fn answer_slots(case: Case, words: &mut String) -> Result<(), Fault> {
     let cells = boxes_in(case.alloc, fields, "cells")?;
     let slots = numbers_in(case.alloc, fields, "slots")?;
     if slots.len() != 2 * cells.len() {
-        return Err(Fault::OutOfRange("slots"));
+        return Err(Fault::out_of_range("slots"));
     }
     let total = fields.number("total")?;
     let row = row_of_slots(case.alloc, &cells, slots.as_slice(), total)?;

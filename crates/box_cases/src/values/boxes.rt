@@ -18,11 +18,11 @@ const WIDE: i64 = 1_125_899_906_842_624;
 pub fn stored_box(key: &'static str, value: &Value) -> Result<MathBox, Fault>
     ensures { IfOk result IsStored }
 {
-    let frame = box_of(value).ok_or(Fault::WrongType(key))?;
+    let frame = box_of(value).ok_or(Fault::wrong_type(key))?;
     if fits(&frame) {
         Ok(frame)
     } else {
-        Err(Fault::OutOfRange(key))
+        Err(Fault::out_of_range(key))
     }
 }
 
@@ -43,7 +43,7 @@ pub fn wide_box(fields: Fields, key: &'static str) -> Result<MathBox, Fault>
     ensures row { IfOk result IsRow }
     ensures wide { IfOk result (IsBoxWithin (2 ^ 50)) }
 {
-    let frame = box_of(fields.value(key)?).ok_or(Fault::WrongType(key))?;
+    let frame = box_of(fields.value(key)?).ok_or(Fault::wrong_type(key))?;
     Ok(MathBox {
         width: in_wide_range(key, frame.width)?,
         ascent: in_narrow_range(key, frame.ascent)?,
@@ -62,7 +62,7 @@ fn in_wide_range(key: &'static str, number: i64) -> Result<i64, Fault>
     if -WIDE <= number && number <= WIDE {
         Ok(number)
     } else {
-        Err(Fault::OutOfRange(key))
+        Err(Fault::out_of_range(key))
     }
 }
 

@@ -25,7 +25,7 @@ pub fn rows_in(alloc: Global, fields: Fields) -> Result<List<List<SpanCell>>, Fa
     for item in items_in(fields, "rows")? {
         let cells = cells_in(alloc, item)?;
         if left < cells.len() {
-            return Err(Fault::OutOfRange("rows"));
+            return Err(Fault::out_of_range("rows"));
         }
         left -= cells.len();
         rows.push(cells)?;
@@ -50,9 +50,9 @@ fn cell_of(value: &Value) -> Result<SpanCell, Fault>
     ensures span { IfOk result HasSpan }
     ensures stored { IfOk result IsStored }
 {
-    let parts = value.as_array().ok_or(Fault::WrongType("rows"))?;
+    let parts = value.as_array().ok_or(Fault::wrong_type("rows"))?;
     let [width, columns, rows, ascent, descent] = parts.as_slice() else {
-        return Err(Fault::WrongType("rows"));
+        return Err(Fault::wrong_type("rows"));
     };
     Ok(SpanCell {
         width: stored("rows", width)?,
@@ -82,9 +82,9 @@ fn span_in(
 fn count_in(value: &Value, most: u32) -> Result<u32, Fault>
     ensures { IfOk result (λ count. (1 ≤ count) × (count ≤ most)) }
 {
-    let count = value.as_i64().ok_or(Fault::WrongType("rows"))?;
+    let count = value.as_i64().ok_or(Fault::wrong_type("rows"))?;
     match u32::try_from(count) {
         Ok(count) if 1 <= count && count <= most => Ok(count),
-        _ => Err(Fault::OutOfRange("rows")),
+        _ => Err(Fault::out_of_range("rows")),
     }
 }

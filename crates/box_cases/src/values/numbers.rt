@@ -27,7 +27,7 @@ pub fn size_in(fields: Fields) -> Result<i64, Fault>
 pub fn stored(key: &'static str, value: &Value) -> Result<i64, Fault>
     ensures { IfOk result (IsWithin farthest) }
 {
-    in_range(key, value.as_i64().ok_or(Fault::WrongType(key))?)
+    in_range(key, value.as_i64().ok_or(Fault::wrong_type(key))?)
 }
 
 /// The number, where it can be stored.
@@ -37,7 +37,7 @@ pub fn in_range(key: &'static str, number: i64) -> Result<i64, Fault>
     if -FARTHEST <= number && number <= FARTHEST {
         Ok(number)
     } else {
-        Err(Fault::OutOfRange(key))
+        Err(Fault::out_of_range(key))
     }
 }
 
@@ -52,11 +52,11 @@ pub fn items_in<'a>(fields: Fields<'a>, key: &'static str) -> Result<&'a [Value]
 pub fn items_of<'a>(key: &'static str, value: &'a Value) -> Result<&'a [Value], Fault>
     ensures { IfOk result (λ items. length items.now ≤ 65_536) }
 {
-    let items = value.as_array().ok_or(Fault::WrongType(key))?.as_slice();
+    let items = value.as_array().ok_or(Fault::wrong_type(key))?.as_slice();
     if items.len() <= MOST_ITEMS {
         Ok(items)
     } else {
-        Err(Fault::OutOfRange(key))
+        Err(Fault::out_of_range(key))
     }
 }
 

@@ -30,7 +30,7 @@ pub fn stretch_in(fields: Fields, key: &'static str) -> Result<Pull, Fault>
             Ok(Pull::Block(stored(key, ascent)?, stored(key, descent)?))
         }
         [axis, width] if is_word(axis, "inline") => Ok(Pull::Inline(stored(key, width)?)),
-        _ => Err(Fault::WrongType(key)),
+        _ => Err(Fault::wrong_type(key)),
     }
 }
 
