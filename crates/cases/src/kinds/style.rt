@@ -29,13 +29,8 @@ fn add_answer(
     fields: Fields,
     words: &mut String,
 ) -> Result<(), Fault> {
-    let root = element_of(alloc, fields.value("root")?)?;
-    let steps = fields.items("steps")?;
-    let mut at = At {
-        kind: root.head.kind,
-        style: root_style(&root.head, metrics),
-    };
-    for step in steps {
+    let mut at = At::at_root(alloc, fields, metrics)?;
+    for step in fields.items("steps")? {
         at = at.below(alloc, step, metrics)?;
     }
     add_style(&at.style, metrics, words)?;
@@ -50,6 +45,19 @@ struct At {
 }
 
 impl At {
+    /// Where a path begins.
+    fn at_root(alloc: Global, fields: Fields, metrics: &Metrics) -> Result<At, Fault>
+        ensures { IfOk result (λ at. IsStyle at.style) }
+    {
+        let root = element_of(alloc, fields.value("root")?)?;
+        let at = At {
+            kind: root.head.kind,
+            style: root_style(&root.head, metrics),
+        };
+        drop(root);
+        Ok(at)
+    }
+
     /// One step further down.
     fn below(self, alloc: Global, step: &Value, metrics: &Metrics) -> Result<At, Fault>
         requires { IsStyle self.style }
@@ -57,8 +65,18 @@ impl At {
     {
         let fields = Fields::of_value(step, &STEP)?;
         let child = element_of(alloc, fields.value("element")?)?;
+        let at = self.at_child(&child, fields, metrics);
+        drop(child);
+        at
+    }
+
+    /// Where a child stands that these fields place.
+    fn at_child(self, child: &Node, fields: Fields, metrics: &Metrics) -> Result<At, Fault>
+        requires { IsStyle self.style }
+        ensures { IfOk result (λ at. IsStyle at.style) }
+    {
         let place = place_in(self.kind, fields)?;
-        let style = style_below(&self.style, place, &child, metrics)?;
+        let style = style_below(&self.style, place, child, metrics)?;
         Ok(At {
             kind: child.head.kind,
             style,
