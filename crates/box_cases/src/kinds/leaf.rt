@@ -6,7 +6,7 @@ use case_format::{Fault, Fields, add_box};
 use embellished::{Core, known_of};
 use fixed_units::{Pull, fits, is_stored};
 use font_metrics::{Mark, Metrics};
-use math_tree::{Head, Kind, Node};
+use math_tree::{Kind, Node};
 use op_dictionary::Form;
 use std::alloc::{AllocError, Global};
 use std::fmt::Write;
@@ -28,8 +28,9 @@ impl ByMetrics for OfToken {
     ) -> Result<(), Fault> {
         let size = size_in(fields)?;
         let element = element_of(alloc, fields.value("element")?)?;
-        let leaf = token(alloc, &element.head, size, metrics)?;
-        add_leaf(metrics, &leaf, words)?;
+        let made = token(alloc, &element.head, size, metrics);
+        drop(element);
+        add_leaf(metrics, &made?, words)?;
         Ok(())
     }
 }
@@ -49,8 +50,9 @@ impl ByMetrics for OfOperator {
     ) -> Result<(), Fault> {
         let pull = pull_in(fields, "pull")?;
         let element = element_of(alloc, fields.value("element")?)?;
-        let core = core_of(alloc, &element)?;
-        add_operator(alloc, &element.head, core, pull, metrics, fields, words)
+        let answered = add_operator(alloc, &element, pull, metrics, fields, words);
+        drop(element);
+        answered
     }
 }
 
@@ -66,8 +68,7 @@ fn core_of(alloc: Global, element: &Node) -> Result<Core, Fault> {
 /// Adds the leaf of an operator.
 fn add_operator(
     alloc: Global,
-    head: &Head,
-    core: Core,
+    element: &Node,
     pull: Pull,
     metrics: &Metrics,
     fields: Fields,
@@ -75,10 +76,20 @@ fn add_operator(
 ) -> Result<(), Fault>
     requires { IsPull pull }
 {
+    let core = core_of(alloc, element)?;
     let size = size_in(fields)?;
     let form = form_in(fields)?;
     let style = style_of(size, fields.flag("display")?);
-    let leaf = operator(alloc, head, &core, &style, size, form, pull, metrics)?;
+    let leaf = operator(
+        alloc,
+        &element.head,
+        &core,
+        &style,
+        size,
+        form,
+        pull,
+        metrics,
+    )?;
     add_leaf(metrics, &leaf, words)?;
     Ok(())
 }
@@ -111,6 +122,7 @@ impl ByMetrics for OfSpace {
         let size = size_in(fields)?;
         let element = element_of(alloc, fields.value("element")?)?;
         let frame = space(&element.head, size, metrics);
+        drop(element);
         if fits(&frame) {
             add_box(&frame, words)?;
         } else {
