@@ -65,10 +65,9 @@ fn add_command(
     fields: Fields,
     words: &mut Vec<String>,
 ) -> Result<(), Fault> {
-    for word in [command, fields.text("metrics")?, TREE] {
-        add_word(alloc, word, words)?;
-    }
-    Ok(())
+    add_word(alloc, command, words)?;
+    add_word(alloc, fields.text("metrics")?, words)?;
+    add_word(alloc, TREE, words)
 }
 
 /// Adds the metrics file, and a file with the tree's text.
