@@ -29,6 +29,8 @@ def module_of(path):
 
 
 def main(words):
+    if not words or not all(word.isdigit() for word in words[1:]):
+        sys.exit("usage: python3 bench/proofs.py NAME [COUNT]")
     name, count = words[0], int(words[1]) if len(words) > 1 else 20
     kept = CRATES / name / "out" / "incremental"
     files = [(module_of(path), path.stat().st_mtime) for path in kept.rglob("*.oantt")]

@@ -3,8 +3,8 @@ use metrics_file::MetricsRefusal;
 use std::alloc::{AllocError, AllocFailed};
 use std::fmt::{self, Display, Formatter};
 
-/// Why a line can't be read, or a case can't be carried out. It has its key by value, since each `?`
-/// of an error that holds a reference takes twice as long to prove.
+/// Why a line can't be read, or a case can't be carried out. It has its key by value, since each
+/// `?` of an error that holds a reference takes twice as long to prove.
 #[derive(Drop)]
 pub enum Fault {
     NotText,

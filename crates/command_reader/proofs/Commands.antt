@@ -10,7 +10,6 @@ use Rattle.tree_edits.specs.Commands.{command_in, command_of, command_under, jso
 use Rattle.tree_edits.specs.declared.command.Command.{Command}
 use Rattle.tree_edits.specs.declared.read.Op.{Op}
 use Rattle.command_reader.specs.Moves.{has_op_alone, move_in, move_of}
-use Rattle.command_reader.specs.declared.moves.Move.{Move}
 use Rattle.command_reader.specs.declared.moves.Move.TheVariants.{Undo, Redo, Other}
 
 -- a word of no command is another one than a command's

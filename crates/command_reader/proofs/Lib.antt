@@ -3,5 +3,6 @@ mod Puts
 mod More
 -- and the command that it means
 mod Meant
+-- and which lines undo and redo
 mod MoveKeys
 pub mod Commands

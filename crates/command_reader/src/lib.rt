@@ -14,7 +14,8 @@
 //!   lines undo and redo (`specs/Moves.antt`).
 //! - Knows nothing of: what a command does.
 //! - Change a line's form: `tree_edits`, `specs/Commands.antt`, then `src/read.rt`; then here, for
-//!   these four commands: `specs/Said.antt`, `src/keys.rt` and `src/said.rt`.
+//!   these four commands: `specs/Said.antt`, `src/keys.rt` and `src/said.rt`. Change which lines
+//!   undo and redo: `specs/Moves.antt`, then `src/moves.rt`.
 #![tactic(auto)]
 
 mod keys; // keys, and what stands under them

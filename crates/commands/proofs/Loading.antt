@@ -13,7 +13,6 @@ use Rattle.math_tree.specs.Trees.{TreeValue}
 use Rattle.math_tree.specs.Reading.{tree_of}
 use Rattle.math_tree.specs.declared.fault.TreeFault.{TreeFault}
 use Rattle.serde_json.specs.Data.{Data}
-use Rattle.serde_json.specs.Read.{read}
 use Rattle.input_files.specs.Refusals.{of_reading}
 use Rattle.tree_edits.specs.Commands.{json_in}
 use Rattle.commands.specs.Answer.{content}

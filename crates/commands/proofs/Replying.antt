@@ -1,5 +1,5 @@
 -- How a reply is made and written.
-use Rattle.std.proofs.Common.{◌≡◌, inl, sym, refl, ℕ, Bool, true, false, List, [], arith, append-nil, Option, Some, None}
+use Rattle.std.proofs.Common.{◌≡◌, inl, sym, refl, ℕ, Bool, true, false, List, [], append-nil, Option, Some, None}
 use Rattle.std.specs.Prelude.{Ok, Err, if◌then◌else◌}
 use Rattle.std.specs.Io.KnownBytes.{Appends}
 use Rattle.doc_io.specs.Causes.{SinkTold}

@@ -19,7 +19,7 @@
 pub mod laws; // of all scripts
 mod load; // the files
 mod program; // the top call
-mod responders; // what answers them: a session, and a ring of edits
+mod responders; // what answers the lines of a script: a session, and a ring of edits
 
 pub use input_files::Status;
 pub use program::run;

@@ -32,7 +32,7 @@ use edit_ring::Ring;
 use edit_session::{Session, Undoable};
 use fixed_units::{List, Memory, Steps};
 use font_metrics::Metrics;
-use generator::{Summary, generate};
+use generator::generate;
 use input_files::{Refusal, Status};
 use line_replies::start;
 use math_tree::Tree;
@@ -40,6 +40,7 @@ use metrics_file::print_metrics;
 use page_queries::Query;
 use queries::{Answer, answer_query};
 use script_answers::{Respond, answer_lines};
+use seeded_edits::Summary;
 use std::alloc::Global;
 use std::sync::ledger::Ledger;
 

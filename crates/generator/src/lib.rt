@@ -9,10 +9,10 @@
 //!   is refused changes nothing (`specs/Folded.antt`); each step is a layout that the start or one
 //!   of these edits needs (`specs/Steps.antt`).
 //! - Knows nothing of: words, files and statuses, and how a tree is laid out.
-//! - Change the tree, the edits, or how they are told: `seeded_edits`.
+//! - Change what is counted: `specs/Folded.antt`, then `src/run.rt`; the tree, the edits, or how
+//!   they are told: `seeded_edits`.
 #![tactic(auto)]
 
 mod run; // generate
 
 pub use run::generate;
-pub use seeded_edits::Summary;

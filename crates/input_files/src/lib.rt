@@ -7,7 +7,8 @@
 //! - Proved: what is read is `metrics_in` and `tree_in` of `specs/Files.antt`, exactly, but for
 //!   want of memory; the line and the status of a refusal are those of `specs/Refusals.antt`, and
 //!   the number of a status that of `specs/Status.antt`.
-//! - Knows nothing of: where the bytes come from, layout, and sessions.
+//! - Knows nothing of: how bytes are read, how a tree is laid out, what answers a query: it names
+//!   only their refusals.
 //! - Change what is told of a file: `specs/Refusals.antt`, then `src/refusal.rt`; how a run can
 //!   end: `specs/Status.antt`, then `src/status.rt`.
 #![tactic(auto)]

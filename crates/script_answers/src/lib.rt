@@ -2,7 +2,7 @@
 //!
 //! `answer_lines` reads a line, has it answered, and goes on, to the script's end or to the first
 //! line that passes a limit. What answers is a `Respond`: a session does, and so does a ring of
-//! edits over one.
+//! edits over one (both in `commands`).
 //!
 //! - Models: replies to lines, which are own.
 //! - Proved: the replies to the lines that are left were written, each before the next line was
@@ -10,7 +10,7 @@
 //!   those of the lines that were answered (`TakesForScript`, `specs/Steps.antt`).
 //! - Knows nothing of: what is answered to a line, sessions and trees.
 //! - Change the limits of a script: `doc_io`, `specs/LineReader.antt`; how its end is told:
-//!   `specs/Texts.antt`, then `src/stop.rt`.
+//!   `specs/Texts.antt` and `specs/Lines.antt`, then `src/stop.rt`.
 #![tactic(auto)]
 
 mod answering; // Respond, answer_lines

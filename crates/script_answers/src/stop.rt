@@ -31,7 +31,7 @@ impl Stop {
     }
 
     /// The status with which the run ends.
-    pub fn status(self) -> Status
+    pub(crate) fn status(self) -> Status
         ensures { result ≡ status_of_stop self }
     {
         match self {

@@ -34,7 +34,7 @@ impl Draws {
 
     /// The next number, below `n`.
     #[tactic(auto, unfolding(crate::specs::Draws::next_state, crate::specs::Draws::number_in))]
-    pub fn below(&mut self, n: u64) -> u64
+    pub(crate) fn below(&mut self, n: u64) -> u64
         requires { 0 < n }
         ensures number { result ≡ drawn n self.old }
         ensures small { result < n }

@@ -8,7 +8,8 @@
 //!   (`specs/Summary.antt`), exactly.
 //! - Knows nothing of: sessions, and what comes of an edit (`generator`).
 //! - Change the tree: `specs/Start.antt`, `specs/Document.antt`, then `src/start.rt`. Change the
-//!   edits: `specs/Edits.antt`, then `src/edits.rt`, then `rt check`.
+//!   edits: `specs/Edits.antt`, then `src/edits.rt`. Change how they are told:
+//!   `specs/Summary.antt`, then `src/summary.rt`.
 #![tactic(auto)]
 
 mod draws; // Draws
