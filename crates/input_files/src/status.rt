@@ -25,7 +25,7 @@ pub enum Status {
     Range,
     /// A line of the script or the number of its lines passes its limit.
     ScriptLimit,
-    /// No element has an id that is named among the words.
+    /// No element in flow has an id that is named among the words.
     Node,
     /// More would be painted than may be.
     Paint,

@@ -18,7 +18,7 @@ pub record TakesForNext (R : Responder) (Takes : LineSteps R) (known : R.Known)
       (to ≡ from)
       ⊎ (GivesLine reader reader' before after (Ok Whole) × Takes known reader'.line from to))
 
--- the steps of the lines that were answered: where the script is told, a front of its lines
+-- the steps of some lines: where the script is told, of a front of its lines
 pub record TakesForScript (R : Responder) (Takes : LineSteps R) (known : R.Known)
     (script : Option (List (List ℕ))) (from to : ℕ) : Type 0 where
   pub lines : List (List ℕ)
