@@ -46,6 +46,33 @@ pub fn rows_asked<V: View, A: Answered>(
 {
     let rows = rows.as_slice();
     let grid = Grid::of(alloc, rows)?;
+    let asked = asked_over(alloc, parent, survey, context, metrics, rows, &grid);
+    // Dropped by a call, so that this function's proof doesn't go through all parts.
+    drop(grid);
+    asked
+}
+
+/// The same over the table's grid.
+fn asked_over<V: View, A: Answered>(
+    alloc: Global,
+    parent: &V,
+    survey: &Survey,
+    context: &Context,
+    metrics: &Metrics,
+    rows: &[A],
+    grid: &Grid,
+) -> Result<List<Reply>, Memory>
+    requires known { survey.now
+        ≡ survey_of metrics.now (seen_of (V.element parent.now)) context.now }
+    requires style { IsStyle context.now.style }
+    requires size { size_of metrics.now context.now.style ≤ℤ pos (2 ^ 20) }
+    requires answers { AreAnswers (map A.told rows.now) }
+    requires grid { grid.now ≡ grid_of (map A.told rows.now) }
+    ensures styles { IfOk result (λ asked. All HasStyle (questions_in asked)) }
+    ensures value { IfOk result (λ asked.
+        questions_in asked ≡ rows_asked metrics.now (seen_of (V.element parent.now)) context.now
+        (map A.told rows.now)) }
+{
     let mut asks = List::with_room(alloc, parent.kids())?;
     for index in 0..parent.kids() {
         let stretch = grid.stretch_at(alloc, rows, index)?;

@@ -98,7 +98,7 @@ struct LaidAgain {
     room: Room<Before>,
 }
 
-/// Puts the layout over the questions and answers of an entry. It takes one step.
+/// Makes the layout over the questions and answers of an entry, and keeps it. It takes one step.
 fn lay_again<F: Finish, L: Ledger>(
     alloc: Global,
     node: &Node,
@@ -138,6 +138,20 @@ fn lay_again<F: Finish, L: Ledger>(
     let view = WholeView::of(node, memo);
     let entry = &memo.entries.as_slice()[entry];
     let outcome = outcome_of::<F, _>(alloc, &view, context, metrics, &entry.one, steps)?;
+    match keep(alloc, store, outcome) {
+        Ok(laid) => Ok(laid),
+        Err(Memory) => Err(LayRefusal::Memory),
+    }
+}
+
+/// Keeps an outcome as the layout of an entry. Where memory is refused, the store is as it was.
+fn keep(alloc: Global, store: &mut Store, outcome: Outcome) -> Result<LaidAgain, Memory>
+    requires begun { IsSome store.old.checkpoint }
+    ensures put { IfOk result (λ laid. PutsOutcome store.old store.new laid.run.0 outcome) }
+    ensures answer { IfOk result (λ laid. laid.answer ≡ outcome.answer) }
+    ensures room { IfOk result (λ laid. 1 ≤ laid.room) }
+    ensures unchanged { OnErr result (store.new ≡ store.old) }
+{
     match put_with_room(alloc, store, &outcome) {
         Ok((run, room)) => Ok(LaidAgain {
             run,
@@ -147,12 +161,13 @@ fn lay_again<F: Finish, L: Ledger>(
         Err(Memory) => {
             // Dropped by a call, so that this function's proof doesn't go through all parts.
             drop(outcome);
-            Err(LayRefusal::Memory)
+            Err(Memory)
         }
     }
 }
 
-/// Puts an outcome into the store, where there is room for what was there before it.
+/// Makes room for what was there before an outcome, and puts the outcome into the store. Where
+/// memory is refused, the store is as it was.
 fn put_with_room(
     alloc: Global,
     store: &mut Store,

@@ -3,6 +3,7 @@
 ghost use Rattle.std.specs.Prelude.{◌≡◌, OnOk};
 ghost use Rattle.memo_tree.specs.States.{IsIn, Sealed};
 ghost use Rattle.tree_edits.specs.Applying.{IsProperEdit};
+ghost use Rattle.tree_edits.specs.Commands.{IsProperCommand};
 
 use crate::words::{Kept, OUT_OF_RANGE, REFUSED, add_kept, add_made, add_word};
 use case_format::Fault;
@@ -69,16 +70,36 @@ impl Beside {
         ensures { OnOk result (IsIn Sealed self.new.laid) }
     {
         match read_command(alloc, line) {
-            Ok(Command::Show) => {
+            Ok(command) => self.answer_counted(alloc, command, steps),
+            Err(CommandRefusal::BadLine) => Ok((Outcome::Refused, 0)),
+            Err(CommandRefusal::Memory) => Err(Fault::Memory),
+        }
+    }
+
+    /// The same for the command that the line says.
+    fn answer_counted<L: Ledger>(
+        &mut self,
+        alloc: Global,
+        command: Command,
+        steps: &mut Steps<L>,
+    ) -> Result<(Outcome, usize), Fault>
+        requires proper { IsProperCommand command }
+        requires sealed { IsIn Sealed self.old.laid }
+        ensures { OnOk result (IsIn Sealed self.new.laid) }
+    {
+        match command {
+            Command::Show => {
                 self.sweep(alloc)?;
                 Ok((Outcome::Shown, 0))
             }
-            Ok(Command::Change(edit)) => {
-                self.sweep_where_due(alloc)?;
-                edit_counted(alloc, &mut self.laid, edit, steps)
-            }
-            Err(CommandRefusal::BadLine) => Ok((Outcome::Refused, 0)),
-            Err(CommandRefusal::Memory) => Err(Fault::Memory),
+            Command::Change(edit) => match self.sweep_where_due(alloc) {
+                Ok(()) => edit_counted(alloc, &mut self.laid, edit, steps),
+                Err(fault) => {
+                    // Dropped by a call, so that this function's proof doesn't go through all parts.
+                    drop(edit);
+                    Err(fault)
+                }
+            },
         }
     }
 
@@ -116,14 +137,14 @@ fn edit_counted<L: Ledger>(
 {
     let reversal = match laid.change(alloc, edit) {
         Ok(reversal) => reversal,
-        Err(EditRefusal::Memory) => return Err(Fault::Memory),
-        Err(_) => return Ok((Outcome::Refused, 0)),
+        Err(refusal) => return not_made(refusal),
     };
     let before = laid.kept();
     match laid.relay::<Equations, _>(alloc, steps) {
         Ok(()) => {
             let made = laid.kept().saturating_sub(before);
             laid.seal();
+            drop(reversal);
             Ok((Outcome::Edited, made))
         }
         Err(refusal) => {
@@ -131,6 +152,14 @@ fn edit_counted<L: Ledger>(
             laid.undo_change(reversal);
             not_laid(refusal)
         }
+    }
+}
+
+/// What came of an edit that can't be made.
+fn not_made(refusal: EditRefusal) -> Result<(Outcome, usize), Fault> {
+    match refusal {
+        EditRefusal::Memory => Err(Fault::Memory),
+        _ => Ok((Outcome::Refused, 0)),
     }
 }
 

@@ -11,24 +11,23 @@ use Rattle.layout_model.specs.Tables.{stretch_at}
 use Rattle.layout_model.specs.declared.context.Context.{Context}
 use Rattle.layout_model.specs.declared.context.Question.{Question}
 use Rattle.layout_model.proofs.Replies.{questions_more}
-use Rattle.child_questions.proofs.tables.rows_asked.Goals as goal
+use Rattle.child_questions.proofs.tables.asked_over.Goals as goal
 
 abbrev asked_in : ℕ → Context → Question
 asked_in kid context = record { kid = kid; context = context }
 
 pub loop-index-init : goal.loop-index-init
 loop-index-init g c =
-    let rows = map (g.A.Answered.told) c.as_slice-rows.result.now in
+    let rows = map (g.A.Answered.told) c.args.rows.now in
     let none = ap questions_in (c.in_ok-asks.ensures {u = tt}) in
     record {
       value = none ∙ sym (list_to-zero (row_asked c.args.metrics.now (seen_of (g.V.View.element c.args.parent.now)) c.args.context.now rows));
       styles = subst (All HasStyle) (sym none) (All-nil HasStyle);
-      grid = c.in_ok-grid.ensures {u = tt};
     }
 
 pub loop-index-preserved : goal.loop-index-preserved
 loop-index-preserved g c =
-    let rows = map (g.A.Answered.told) c.as_slice-rows.result.now in
+    let rows = map (g.A.Answered.told) c.args.rows.now in
     let row = row_asked c.args.metrics.now (seen_of (g.V.View.element c.args.parent.now)) c.args.context.now rows in
     let before = c.loop-index.invariant.value in
     let more = list_to-add_one c.loop-index.index row in
@@ -40,8 +39,7 @@ loop-index-preserved g c =
       value = pushed ∙ ap (λ (l : List Question). l ++ row c.loop-index.index ∷ []) before ∙ sym more;
       styles = subst (All HasStyle) (sym pushed) (All-append HasStyle (questions_in c.loop-index.asks) _ c.loop-index.invariant.styles
           (All-cons HasStyle _ [] (subst (λ (x : Context). HasStyle (asked_in c.loop-index.index x)) context c.kid_context-context.ensures.style) (All-nil HasStyle)));
-      grid = c.loop-index.invariant.grid;
     }
 
 pub stretch_at-requires-clause-known : goal.stretch_at-requires-clause-known
-stretch_at-requires-clause-known g c = c.loop-index.invariant.grid
+stretch_at-requires-clause-known g c = c.requires.grid

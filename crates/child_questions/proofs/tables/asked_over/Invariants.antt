@@ -5,13 +5,11 @@ use Rattle.layout_model.specs.Answers.{questions_in}
 use Rattle.layout_model.specs.Fits.{HasStyle}
 use Rattle.embellished.specs.Seen.{seen_of}
 use Rattle.layout_model.specs.Questions.{row_asked}
-use Rattle.child_questions.specs.Grids.{grid_of}
-use Rattle.child_questions.proofs.tables.rows_asked.Given as goal
+use Rattle.child_questions.proofs.tables.asked_over.Given as goal
 
--- the rows so far, and the grid, which stays
+-- the rows so far
 abbrev pub invariant-loop-index : goal.invariant-loop-index
 invariant-loop-index g l = record {
   value : questions_in l.asks ≡ list_to l.index (row_asked l.metrics (seen_of (g.V.View.element l.parent)) l.context (map (g.A.Answered.told) l.rows));
   styles : All HasStyle (questions_in l.asks);
-  grid : l.grid ≡ grid_of (map (g.A.Answered.told) l.rows);
 }
