@@ -12,7 +12,7 @@ mod table;
 mod target;
 
 use crate::values::by_metrics;
-use asks::Asking;
+use asks::{Asking, Wave};
 use case_format::{Answer, Case, Fault, Kinds};
 use fraction::OfFraction;
 use leaf::{OfOperator, OfSpace, OfToken};
@@ -21,7 +21,7 @@ use multi::OfMulti;
 use radical::{OfRootWithIndex, OfSquareRoot};
 use script::{OfSub, OfSubSup, OfSup};
 use shape::{OfDisplayVariant, OfShape};
-use table::{OfCell, OfTableFinish};
+use table::{Across, OfCell, OfTableFinish};
 
 /// The kinds for what is laid out in one step.
 pub struct Boxes;
@@ -52,13 +52,13 @@ fn add_answer_of_rows(kind: &str, case: Case, words: &mut String) -> Result<(), 
     match kind {
         "cell" => by_metrics::<OfCell>(case, words),
         "columns" => table::answer_columns(case, words),
-        "limit_wave_one" => asks::answer_one(Asking::Limits, case, words),
-        "limit_wave_two" => asks::answer_two(Asking::Limits, case, words),
+        "limit_wave_one" => asks::answer(Asking::Limits, Wave::One, case, words),
+        "limit_wave_two" => asks::answer(Asking::Limits, Wave::Two, case, words),
         "row_finish" => row::answer(case, words),
-        "row_of_cells" => table::answer_row(case, words),
-        "row_of_slots" => table::answer_slots(case, words),
-        "row_wave_one" => asks::answer_one(Asking::Row, case, words),
-        "row_wave_two" => asks::answer_two(Asking::Row, case, words),
+        "row_of_cells" => table::answer_row(Across::Columns, case, words),
+        "row_of_slots" => table::answer_row(Across::Slots, case, words),
+        "row_wave_one" => asks::answer(Asking::Row, Wave::One, case, words),
+        "row_wave_two" => asks::answer(Asking::Row, Wave::Two, case, words),
         "span_of" => spans::answer_span(case, words),
         "spans" => spans::answer_table(case, words),
         "table_finish" => by_metrics::<OfTableFinish>(case, words),

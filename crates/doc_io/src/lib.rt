@@ -1,4 +1,5 @@
-//! What the program reads from and writes to: named files, a sink, and whole files and pieces.
+//! What the program reads from and writes to: named files, a sink, and whole files and pieces; and
+//! the words of its command line.
 //!
 //! `Inputs` and `Sink` are the only ways to the outside, and everything above is generic in them:
 //! one proof serves `FileInputs` and `StdSink`, which are the system's, and `MemoryInputs` and
@@ -14,6 +15,7 @@
 //!   `rt check`.
 #![tactic(auto)]
 
+mod arguments; // the words of the command line
 mod edge; // the system's files and standard output
 mod held; // bytes that were read and not given yet
 pub mod laws; // of all runs
@@ -25,6 +27,7 @@ mod short_text; // a part of a line
 mod traits; // Inputs, Sink
 mod whole; // read_all, write_all
 
+pub use arguments::command_line;
 pub use edge::{FileInputs, StdSink};
 pub use line_reader::{Line, LineReader, LineRefusal};
 pub use memory_inputs::MemoryInputs;

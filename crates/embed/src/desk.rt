@@ -25,6 +25,7 @@ use page_queries::{Query, QueryRefusal};
 use queries::answer_over;
 use std::alloc::Global;
 use std::marker::{Brand, Model};
+use std::mem;
 use std::sync::ledger::{Blank, Ledger};
 
 /// How many edits can be undone.
@@ -165,8 +166,9 @@ impl Desk {
             line,
             &mut Steps::<L>::new(blank),
         )?;
-        self.reply = KeptReply::Line(reply);
-        self.text = None;
+        // Dropped by calls, so that this function's proof doesn't go through all parts.
+        drop(mem::replace(&mut self.reply, KeptReply::Line(reply)));
+        drop(self.text.take());
         Ok(())
     }
 

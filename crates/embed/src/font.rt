@@ -4,8 +4,8 @@ ghost use Rattle.std.specs.Coded.{coded_option};
 ghost use Rattle.font_metrics.specs.Metrics.{MetricsValue};
 ghost use Rattle.font_metrics.specs.contracts.metrics.Metrics.{the_row};
 
+use crate::loose::Loose;
 use font_metrics::Metrics;
-use loose_box::Loose;
 use std::alloc::Global;
 use std::marker::Model;
 use std::mem;

@@ -5,7 +5,7 @@ ghost use Rattle.embed.specs.Desks.{DeskValue};
 ghost use Rattle.embed.specs.contracts.desk.Desk.{the_row};
 
 use crate::desk::Desk;
-use loose_box::Loose;
+use crate::loose::Loose;
 use std::alloc::Global;
 use std::marker::Model;
 use std::mem;

@@ -27,6 +27,7 @@ mod growing; // a sink in memory
 mod handle; // Handle
 mod kept_reply; // KeptReply
 pub mod laws; // of all files
+mod loose; // Loose: a box as a raw pointer
 pub mod starting; // on metrics, and a session with them
 
 pub use answer::Answer;

@@ -1,5 +1,5 @@
 // Metrics again, in memory of their own.
-ghost use Rattle.std.specs.Prelude.{◌≡◌, IfOk};
+ghost use Rattle.std.specs.Prelude.{◌≡◌, IfOk, Ok};
 
 use crate::given::Given;
 use crate::growth::{Part, Variant};
@@ -82,18 +82,49 @@ impl Given {
     pub fn copy(&self, alloc: Global) -> Result<Given, Memory>
         ensures { IfOk result (λ copied. copied ≡ self.now) }
     {
+        let copied = both(
+            both(self.constants.copy(), self.glyphs.copy()),
+            both(
+                self.characters.copy(),
+                both(self.tables.copy(alloc), copied_lines(&self.operators)),
+            ),
+        );
+        let ((constants, glyphs), (characters, (tables, operators))) = copied?;
         Ok(Given {
             version: self.version,
             upem: self.upem,
             line: self.line,
             x_height: self.x_height,
             overlap: self.overlap,
-            constants: self.constants.copy()?,
-            glyphs: self.glyphs.copy()?,
-            characters: self.characters.copy()?,
-            tables: self.tables.copy(alloc)?,
-            operators: copied_lines(&self.operators)?,
+            constants,
+            glyphs,
+            characters,
+            tables,
+            operators,
         })
+    }
+}
+
+/// Both, where neither was refused memory. A function that copies many parts so owns none of them
+/// where it may return, which is dear to prove.
+fn both<A: Drop, B: Drop>(
+    first: Result<A, Memory>,
+    second: Result<B, Memory>,
+) -> Result<(A, B), Memory>
+    ensures { IfOk result (λ pair. (first ≡ Ok pair.0) × (second ≡ Ok pair.1)) }
+{
+    match first {
+        Ok(first) => match second {
+            Ok(second) => Ok((first, second)),
+            Err(memory) => {
+                drop(first);
+                Err(memory)
+            }
+        },
+        Err(memory) => {
+            drop(second);
+            Err(memory)
+        }
     }
 }
 

@@ -1,4 +1,5 @@
 pub mod EditSteps
 pub mod Histories
+mod Lines
 pub mod Starting
 mod Written

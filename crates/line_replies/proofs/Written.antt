@@ -1,7 +1,8 @@
 -- How a reply of two pieces is written.
 use Rattle.std.proofs.Common.{◌≡◌, ◌∙◌, sym, refl, subst, ℕ, ◌+◌, ◌≤◌, List, [], ◌∷◌, ◌++◌, length, take, arith, length-append}
-use Rattle.std.specs.Prelude.{Result, Ok, Err, IsOk}
+use Rattle.std.specs.Prelude.{Result, Ok, Err, IsErr, IsOk}
 use Rattle.std.proofs.Math.Seq.{take-append-add}
+use Rattle.std.proofs.lemmas.List.{take-append-le}
 use Rattle.std.specs.Io.KnownBytes.{Appends}
 use Rattle.doc_io.specs.Causes.{SinkTold}
 use Rattle.doc_io.specs.Whole.{WritesAll}
@@ -45,3 +46,18 @@ module _ {E : Type 0} (a b c : SinkTold) (xs ys : List ℕ) where
     failed = omega (arith, first.faults, next.failed);
     empty = empty_both (Err e) first next;
   }
+
+-- a fault in the first is handed on, whatever would have come next
+pub written_first : {E : Type 0} (a b : SinkTold) (xs ys : List ℕ) (fault : E) (result : Result (Unit {0}) E) → IsErr result → WritesAll a b xs (Err fault) → WritesAll a b (xs ++ ys) result
+written_first a b xs ys fault (Ok u) is first = absurd cc
+written_first a b xs ys fault (Err e) is first = record {
+  faults = first.faults;
+  whole = tt;
+  part = (
+    first.part.0,
+    omega (arith, length-append xs ys, first.part.1),
+    subst (Appends a.written b.written) (sym (take-append-le first.part.0 xs ys first.part.1)) first.part.2,
+  );
+  failed = first.failed;
+  empty = λ none. first.empty (both_empty xs ys none).0;
+}

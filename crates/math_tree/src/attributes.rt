@@ -1,4 +1,4 @@
-ghost use Rattle.std.specs.Prelude.{◌≡◌, ◌<◌, [], option_map, length, IfOk};
+ghost use Rattle.std.specs.Prelude.{◌≡◌, ◌<◌, [], ◌∷◌, ◌++◌, option_map, length, IfOk, OnOk};
 ghost use Rattle.std.specs.Cmp.Lexicographic.{slice_cmp};
 ghost use Rattle.std.specs.List.Sorted.{IsBinarySearchResult, IsSearchInRange};
 ghost use Rattle.std.specs.Ordering.{nat_cmp};
@@ -38,13 +38,6 @@ impl Attribute {
             name: Txt::make(alloc, name)?,
             value: Txt::make(alloc, value)?,
         })
-    }
-
-    /// The same attribute again.
-    fn copy(&self, alloc: Global) -> Result<Attribute, Memory>
-        ensures { IfOk result (λ copied. copied ≡ self.now) }
-    {
-        Attribute::make(alloc, self.name.as_str(), self.value.as_str())
     }
 
     /// How its name stands to another in the order of names, which is that of their bytes.
@@ -97,7 +90,7 @@ impl Attributes {
     {
         let mut items = List::make(alloc);
         for (name, value) in members.iter() {
-            items.push(Attribute::make(alloc, name, text_or_empty(value))?)?;
+            add(alloc, &mut items, name, text_or_empty(value))?;
         }
         Ok(Attributes { items })
     }
@@ -171,10 +164,20 @@ impl Attributes {
     {
         let mut items = List::make(alloc);
         for attribute in self.as_slice() {
-            items.push(attribute.copy(alloc)?)?;
+            let Attribute { name, value } = attribute;
+            add(alloc, &mut items, name.as_str(), value.as_str())?;
         }
         Ok(Attributes { items })
     }
+}
+
+/// Adds the attribute of that name and that value at the end.
+fn add(alloc: Global, items: &mut List<Attribute>, name: &str, value: &str) -> Result<(), Memory>
+    ensures { OnOk result
+        (items.new ≡ items.old ++ record { name = name.now; value = value.now } ∷ []) }
+{
+    items.push(Attribute::make(alloc, name, value)?)?;
+    Ok(())
 }
 
 /// So many attributes are looked at one by one, which is faster than in halves: most names differ

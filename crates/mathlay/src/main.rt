@@ -19,15 +19,14 @@ ghost use Rattle.input_files.specs.Status.{number_of};
 ghost use Rattle.mathlay.specs.Exit.{Exits};
 
 use commands::{Status, run};
-use doc_io::{FileInputs, Inputs, Sink, StdSink};
+use doc_io::{FileInputs, Inputs, Sink, StdSink, command_line};
 use fixed_units::Steps;
 use std::alloc::Global;
-use std::io::ErrorKind;
+use std::io::{self, ErrorKind};
 use std::marker::Brand;
 use std::process::ExitCode;
 use std::rt::Env;
 use std::sync::ledger::{Blank, Ledger};
-use std::{env, io};
 
 fn main(rt: HostRuntime) -> ExitCode {
     started::<Brand>(
@@ -49,21 +48,12 @@ fn started<L: Ledger>(
     requires parts { blank.parts ≡ L.parts }
     requires some { 0 < blank.parts }
 {
-    let words = words_of(rt);
+    let words = command_line(rt);
     let words = match &words {
         Ok(words) => Ok(words.as_slice()),
         Err(error) => Err(error.kind()),
     };
     exit_code(rt.alloc(), words, inputs, out, &mut Steps::<L>::new(blank))
-}
-
-/// The words after the program's name.
-fn words_of(rt: &(impl Env + AllocGlobal)) -> io::Result<Vec<String>> {
-    let mut words = Vec::new(rt.alloc());
-    for word in env::args(rt)?.skip(1) {
-        words.push(word)?;
-    }
-    Ok(words)
 }
 
 /// Runs with the words, or with the kind of the error that came in place of them: words that are no

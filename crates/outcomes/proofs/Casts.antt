@@ -4,8 +4,9 @@ use Rattle.std.specs.Int.{w128}
 use Rattle.std.proofs.lemmas.Int.{to_z-of_z}
 use Rattle.fixed_units.specs.Numbers.{IsWithin}
 use Rattle.fixed_units.proofs.Signed.{signed}
-use Rattle.fixed_units.proofs.Within.{difference_in, fits_i64}
+use Rattle.fixed_units.proofs.Within.{difference_in, fits_i128, fits_i64}
 use Rattle.font_metrics.proofs.Scaling.{back64, back128}
+use Rattle.layout_model.specs.Direction.{mirrored}
 
 -- a number of 64 bits
 fitting : (z : ℤ) → FitsSigned w64 z → IsWithin (2 ^ 63) z
@@ -21,6 +22,31 @@ pub difference_told : (a b wide_a wide_b : ℤ) → FitsSigned w64 a → FitsSig
 difference_told a b wide_a wide_b f g d e =
     ap (λ (y : ℤ). to_z w128 (of_z w128 y)) (λ i. told_wide a wide_a f d i -ℤ told_wide b wide_b g e i)
     ∙ back128 (difference_in (fitting a f) (fitting b g)) (lit< tt)
+
+pub difference_fits : (a b wide_a wide_b : ℤ) → FitsSigned w64 a → FitsSigned w64 b → wide_a ≡ to_z w64 (of_z w64 a) → wide_b ≡ to_z w64 (of_z w64 b)
+    → FitsSigned w128 (to_z w128 (of_z w128 wide_a) -ℤ to_z w128 (of_z w128 wide_b))
+difference_fits a b wide_a wide_b f g d e =
+    let same : to_z w128 (of_z w128 wide_a) -ℤ to_z w128 (of_z w128 wide_b) ≡ a -ℤ b = λ i. told_wide a wide_a f d i -ℤ told_wide b wide_b g e i in
+    subst (FitsSigned w128) (sym same) (fits_i128 (difference_in (fitting a f) (fitting b g)) (lit< tt))
+
+-- a place seen from the other end of a whole
+pub mirrored_told : (whole part x wide_whole wide_x : ℤ) → FitsSigned w64 whole → FitsSigned w64 x → IsWithin (2 ^ 66) part
+    → wide_whole ≡ to_z w64 (of_z w64 whole) → wide_x ≡ to_z w64 (of_z w64 x)
+    → to_z w128 (of_z w128 (to_z w128 (of_z w128 (to_z w128 (of_z w128 wide_whole) -ℤ to_z w128 (of_z w128 wide_x))) -ℤ to_z w128 (of_z w128 part)))
+    ≡ mirrored whole part x
+unfolding mirrored
+mirrored_told whole part x wide_whole wide_x f g h d e =
+    ap (λ (y : ℤ). to_z w128 (of_z w128 y)) (λ i. difference_told whole x wide_whole wide_x f g d e i -ℤ back128 h (lit< tt) i)
+    ∙ back128 (difference_in (difference_in (fitting whole f) (fitting x g)) h) (lit< tt)
+
+pub mirrored_fits : (whole part x wide_whole wide_x : ℤ) → FitsSigned w64 whole → FitsSigned w64 x → IsWithin (2 ^ 66) part
+    → wide_whole ≡ to_z w64 (of_z w64 whole) → wide_x ≡ to_z w64 (of_z w64 x)
+    → FitsSigned w128 (to_z w128 (of_z w128 (to_z w128 (of_z w128 wide_whole) -ℤ to_z w128 (of_z w128 wide_x))) -ℤ to_z w128 (of_z w128 part))
+mirrored_fits whole part x wide_whole wide_x f g h d e =
+    let told = difference_told whole x wide_whole wide_x f g d e in
+    let back : to_z w128 (of_z w128 part) ≡ part = back128 h (lit< tt) in
+    subst (FitsSigned w128) (λ i. sym told i -ℤ sym back i)
+    (fits_i128 (difference_in (difference_in (fitting whole f) (fitting x g)) h) (lit< tt))
 
 -- one that comes back to 64 bits
 pub fits_back : (z : ℤ) → IsWithin (2 ^ 61 + 2 ^ 52) z → FitsSigned w64 (to_z w128 (of_z w128 z))

@@ -13,11 +13,12 @@ use Rattle.fixed_units.proofs.Signed.{signed}
 use Rattle.fixed_units.proofs.Sums.{length-list_to, slice_get-list_to}
 use Rattle.font_metrics.specs.Metrics.{MetricsValue}
 use Rattle.embellished.specs.Seen.{Seen}
+use Rattle.embellished.specs.declared.facts.Facts.{Facts}
 use Rattle.row_stretch.specs.Equation.{IsKidStored, kid_at, no_kid}
 use Rattle.style_scope.specs.Sizes.{IsSize, font_size_of, in_range_of, size_of}
 use Rattle.style_scope.specs.declared.style.Style.{Style}
 use Rattle.layout_model.specs.Answers.{last_answer, no_answer}
-use Rattle.layout_model.specs.Elements.{Element, row_kid, row_kids}
+use Rattle.layout_model.specs.Elements.{Element, answer_at, lead_place, row_kid, row_kids, spaces_of}
 use Rattle.span_tables.specs.Bounds.{IsSpan}
 use Rattle.layout_model.specs.Fits.{AreAnswers, AreSpans, IsContext, cell_count}
 use Rattle.layout_model.specs.Layout.{last_answers}
@@ -45,6 +46,23 @@ pub lent_answer_in : (kids : List (Bor Answer)) (index : ℕ) (other : Bor Answe
 lent_answer_in kids index other fit l =
     subst IsAnswerStored (get_or-map now_of kids index other other.now l)
     (answer_in (map now_of kids) index other.now fit (omega (arith, l, length-map kids now_of)))
+
+-- ---- the spaces round an element
+
+pub no_spaces : (e : Element) (seen : Seen) (facts : Facts) → seen ≡ e.seen → facts ≡ seen.facts → is_some facts.core ≡ false → no_answer ≡ spaces_of e
+no_spaces e seen facts same facts_are none =
+    let found : is_some e.seen.facts.core ≡ false = ap (λ (s : Seen). is_some s.facts.core) (sym same) ∙ ap (λ (f : Facts). is_some f.core) (sym facts_are) ∙ none in
+    ap (λ (found : Bool). cond found (answer_at e (lead_place e.seen)) no_answer) (sym found)
+
+pub lead_spaces : (e : Element) (seen : Seen) (kids : List (Bor Answer)) (facts : Facts) (place : ℕ) (answer : Bor Answer) → seen ≡ e.seen → map now_of kids ≡ e.kids
+    → facts ≡ seen.facts → is_some facts.core ≡ true → place ≡ lead_place e.seen → place < length kids → answer ≡ get_or kids place answer
+    → answer.now ≡ spaces_of e
+lead_spaces e seen kids facts place answer same kids_are facts_are some leads within is =
+    let found : is_some e.seen.facts.core ≡ true = ap (λ (s : Seen). is_some s.facts.core) (sym same) ∙ ap (λ (f : Facts). is_some f.core) (sym facts_are) ∙ some in
+    ap now_of is
+    ∙ sym (get_or-map now_of kids place answer no_answer within)
+    ∙ (λ i. get_or (kids_are i) (leads i) no_answer)
+    ∙ ap (λ (found : Bool). cond found (answer_at e (lead_place e.seen)) no_answer) (sym found)
 
 -- ---- a row of the children
 

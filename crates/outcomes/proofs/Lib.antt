@@ -9,6 +9,7 @@ mod Lasts
 mod Leaves
 mod Lists
 mod MirroredRows
+mod PlacedCells
 mod Reach
 mod Roots
 mod RowBounds

@@ -1,21 +1,27 @@
 -- What is told as far as places reach can be stored where what it stands for can, and is then the same.
-use Rattle.std.proofs.Common.{◌≡◌, ◌∙◌, refl, sym, ap, inl, inr, arith, ◌^◌, ℤ, Bool, true, false, ◌&&◌, List, [], ◌∷◌, map}
+use Rattle.std.proofs.Common.{◌≡◌, ◌∙◌, refl, sym, ap, subst, inl, inr, arith, lit<, lit≤, ◌+◌, ◌^◌, ℕ, ℤ, pos, neg_ℤ, w64, to_z, of_z, FitsSigned, Bool, true, false, ◌&&◌, List, [], ◌∷◌, map}
 use Rattle.std.proofs.lemmas.Bool.{and_parts}
+use Rattle.std.proofs.lemmas.Int.{to_z-of_z}
+use Rattle.std.specs.Int.{int_max, int_min, w128}
 use Rattle.std.specs.List.{list_all}
 use Rattle.fixed_units.specs.Boxes.{farthest, is_stored}
 use Rattle.fixed_units.specs.Numbers.{IsWithin}
 use Rattle.fixed_units.specs.declared.boxes.MathBox.{MathBox}
 use Rattle.fixed_units.proofs.Signed.{signed}
+use Rattle.fixed_units.proofs.Within.{widened}
+use Rattle.font_metrics.proofs.Scaling.{back128}
 use Rattle.font_metrics.specs.declared.mark.Mark.{Mark}
 use Rattle.font_metrics.specs.declared.mark.Mark.TheVariants.{Glyph, Rule, Built}
 use Rattle.layout_model.specs.Direction.{mirrored, turned}
-use Rattle.layout_model.specs.Elements.{Element, outcome, outcome_with}
+use Rattle.layout_model.specs.Elements.{Element, frame_at, offset, outcome, outcome_with, placed_in}
 use Rattle.layout_model.specs.Range.{answer_fits, mark_fits, offset_fits, outcome_fits}
+use Rattle.layout_model.specs.declared.context.Context.{Context}
 use Rattle.layout_model.specs.declared.outcome.Offset.{Offset}
 use Rattle.layout_model.specs.declared.outcome.Outcome.{Outcome}
 use Rattle.layout_model.proofs.Ranges.{number_within}
 use Rattle.outcomes.specs.Outcomes.{IsOutcome}
 use Rattle.outcomes.specs.Reach.{mark_reached, offset_reached, reached}
+use Rattle.outcomes.proofs.Casts.{told_wide}
 
 -- ---- numbers
 
@@ -55,6 +61,47 @@ pub turned_in : (rtl : Bool) (whole part x : ℤ) → IsWithin (2 ^ 52) whole �
 unfolding mirrored
 turned_in true whole part x w p h = record { low = omega (arith, signed, w.low, w.high, p.low, p.high, h.low, h.high); high = omega (arith, signed, w.low, w.high, p.low, p.high, h.low, h.high) }
 turned_in false whole part x w p h = record { low = omega (arith, signed, h.low, h.high); high = omega (arith, signed, h.low, h.high) }
+
+-- ---- where a part is told to begin
+
+-- where it begins, from right to left and from left to right
+pub turned_back : (rtl : Bool) (whole part x told y : ℤ) → FitsSigned w64 whole → FitsSigned w64 x → IsWithin (2 ^ 66) part → FitsSigned w128 told
+    → y ≡ to_z w128 (of_z w128 told) → told ≡ mirrored (to_z w64 (of_z w64 whole)) (to_z w128 (of_z w128 part)) (to_z w64 (of_z w64 x)) → rtl ≡ true
+    → y ≡ turned rtl whole part x
+turned_back rtl whole part x told y f g p h is told_is right =
+    is
+    ∙ to_z-of_z w128 told h
+    ∙ told_is
+    ∙ (λ i. mirrored (to_z-of_z w64 whole f i) (back128 p (lit< tt) i) (to_z-of_z w64 x g i))
+    ∙ ap (λ (r : Bool). turned r whole part x) (sym right)
+
+pub unturned : (rtl : Bool) (whole part x told y : ℤ) → FitsSigned w64 x → FitsSigned w128 told
+    → y ≡ to_z w128 (of_z w128 told) → told ≡ to_z w64 (of_z w64 x) → rtl ≡ false → y ≡ turned rtl whole part x
+unturned rtl whole part x told y g h is told_is left =
+    is ∙ to_z-of_z w128 told h ∙ told_is ∙ to_z-of_z w64 x g ∙ ap (λ (r : Bool). turned r whole part x) (sym left)
+
+-- as far as places reach
+pub reached_by : (x low told : ℤ) → FitsSigned w128 low → low ≡ int_min x (pos (2 ^ 60))
+    → told ≡ int_max (to_z w128 (of_z w128 low)) (neg_ℤ (pos (2 ^ 60))) → told ≡ reached x
+unfolding reached
+reached_by x low told f low_is told_is =
+    told_is ∙ ap (λ (z : ℤ). int_max z (neg_ℤ (pos (2 ^ 60)))) (to_z-of_z w128 low f ∙ low_is)
+
+pub reached_within : (x told : ℤ) → told ≡ reached x → IsWithin (2 ^ 61 + 2 ^ 52) told
+reached_within x told is = widened (2 ^ 61 + 2 ^ 52) (subst (IsWithin (2 ^ 60)) (sym is) (reached_in x)) (lit≤ tt)
+
+-- the child at a place
+pub placed_is : (e : Element) (context : Context) (own frame : MathBox) (kid : ℕ) (x y part told : ℤ)
+    → FitsSigned w64 own.width → FitsSigned w64 frame.width → FitsSigned w64 x → FitsSigned w64 y → FitsSigned w64 told
+    → context ≡ e.context → own ≡ frame_at e kid → part ≡ to_z w64 (of_z w64 own.width)
+    → told ≡ reached (turned context.style.rtl (to_z w64 (of_z w64 frame.width)) (to_z w128 (of_z w128 part)) (to_z w64 (of_z w64 x)))
+    → offset kid (to_z w64 (of_z w64 told)) (to_z w64 (of_z w64 y)) ≡ offset_reached (placed_in e frame kid x y)
+placed_is e context own frame kid x y part told f g h k l same own_is part_is told_is =
+    let wide : to_z w128 (of_z w128 part) ≡ (frame_at e kid).width = told_wide own.width part f part_is ∙ ap (λ (b : MathBox). b.width) own_is in
+    let begins : to_z w64 (of_z w64 told) ≡ reached (turned e.context.style.rtl frame.width (frame_at e kid).width x) =
+    to_z-of_z w64 told l ∙ told_is
+    ∙ (λ i. reached (turned (same i).style.rtl (to_z-of_z w64 frame.width g i) (wide i) (to_z-of_z w64 x h i))) in
+    λ i. offset kid (begins i) (to_z-of_z w64 y k i)
 
 -- ---- offsets and marks
 

@@ -2,10 +2,11 @@ ghost use Rattle.std.specs.Prelude.{◌≡◌, ◌+◌, ◌^◌, pos, ◌≤ℤ�
 ghost use Rattle.fixed_units.specs.declared.refusal.LayRefusal.TheVariants.{Range};
 ghost use Rattle.embellished.specs.Seen.{seen_of};
 ghost use Rattle.style_scope.specs.Sizes.{IsStyle, size_of};
-ghost use Rattle.layout_model.specs.Answers.{answers_in, questions_in};
+ghost use Rattle.layout_model.specs.Answers.{answers_in, no_answer, questions_in};
 ghost use Rattle.layout_model.specs.Fits.{AnswersAll, AreSpans, IsContext, RepliesAll};
 ghost use Rattle.layout_model.specs.Layout.{equation};
 ghost use Rattle.layout_model.specs.Range.{is_font_size, outcome_fits};
+ghost use Rattle.outcomes.specs.Outcomes.{IsOutcome};
 
 use crate::element::Element;
 use crate::kinds::outcome_by;
@@ -114,9 +115,36 @@ impl Finish for Equations {
     ) -> Result<Outcome, LayRefusal> {
         steps.tick();
         let nothing = Answer::none(alloc);
-        let element = Element::make(alloc, view, context, metrics, one, two, &nothing)?;
-        storable(outcome_by(alloc, view.facts().laid, &element)?)
+        let outcome = outcome_over(alloc, view, context, metrics, one, two, &nothing);
+        // Dropped by a call, so that this function's proof doesn't go through all parts.
+        drop(nothing);
+        storable(outcome?)
     }
+}
+
+/// The outcome over replies; `nothing` is the answer of a child that wasn't asked.
+#[tactic(auto, using(fixed_units::proofs::Signed::from_bits), unfolding(layout_model::specs::Layout::equation))]
+fn outcome_over<V: View>(
+    alloc: Global,
+    view: &V,
+    context: &Context,
+    metrics: &Metrics,
+    one: &List<Reply>,
+    two: &List<Reply>,
+    nothing: &Answer,
+) -> Result<Outcome, Memory>
+    requires nothing { nothing.now ≡ no_answer }
+    requires fits { IsContext context.now }
+    requires size { size_of metrics.now context.now.style ≤ℤ pos (2 ^ 20) }
+    requires replies { RepliesAll metrics.now (seen_of (V.element view.now)) context.now one.now
+        two.now }
+    ensures { IfOk result (IsOutcome (equation metrics.now (seen_of (V.element view.now))
+        context.now (answers_in one.now) (answers_in two.now))) }
+{
+    let element = Element::make(alloc, view, context, metrics, one, two, nothing)?;
+    let outcome = outcome_by(alloc, view.facts().laid, &element);
+    drop(element);
+    outcome
 }
 
 /// A font size that isn't too large is in range. A caller gets the fact by a call.

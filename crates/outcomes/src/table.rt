@@ -26,7 +26,26 @@ pub fn table_row_outcome<V: View>(alloc: Global, e: &Element<V>) -> Result<Outco
     let cells = frames(alloc, e)?;
     let widths = widths(alloc, cells.as_slice())?;
     let row = cells_placed(alloc, e, &cells, &widths)?;
-    let offsets = cells_along(alloc, e, &row)?;
+    let outcome = over_row(alloc, e, widths, &row);
+    // Dropped by calls, so that this function's proof doesn't go through all parts.
+    drop(row);
+    drop(cells);
+    outcome
+}
+
+/// The same over the widths of its cells, and the row that these make.
+fn over_row<V: View>(
+    alloc: Global,
+    e: &Element<V>,
+    widths: List<i64>,
+    row: &Row,
+) -> Result<Outcome, Memory>
+    requires widths { widths ≡ widths_of e.now }
+    requires row { row.now ≡ cells_placed e.now }
+    requires within { All (IsWithin (2 ^ 61)) row.now.offsets }
+    ensures { IfOk result (IsOutcome (table_row_outcome e.now)) }
+{
+    let offsets = cells_along(alloc, e, row)?;
     let spans = spans_of(alloc, e)?;
     let frame = spanned(spans.as_slice(), row.frame);
     Ok(e.outcome_with(frame, widths, spans, offsets, List::make(alloc)))

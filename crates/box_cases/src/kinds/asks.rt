@@ -2,7 +2,7 @@
 //! their children.
 ghost use Rattle.std.specs.Prelude.{◌≤◌, length, IfOk};
 
-use crate::values::{add_pull, boxes_in, pull_in};
+use crate::values::{add_pull, boxes_in, pull_in, written};
 use case_format::{Case, Fault, Fields};
 use fixed_units::{List, MathBox, Memory, Pull};
 use op_dictionary::Axis;
@@ -18,29 +18,68 @@ pub enum Asking {
     Limits,
 }
 
-pub fn answer_one(asking: Asking, case: Case, words: &mut String) -> Result<(), Fault> {
-    let fields = Fields::of_value(case.value, &["kids", "own"])?;
-    let kids = kids_in(case.alloc, fields)?;
-    let own = pull_in(fields, "own")?;
-    let asks = match asking {
-        Asking::Row => row_wave_one(case.alloc, &kids, own)?,
-        Asking::Limits => limit_wave_one(case.alloc, &kids, own)?,
-    };
-    add_asks(asks.as_slice(), words)?;
-    Ok(())
+/// Which of the two times that the children are asked.
+#[derive(Clone, Copy)]
+pub enum Wave {
+    One,
+    Two,
 }
 
-pub fn answer_two(asking: Asking, case: Case, words: &mut String) -> Result<(), Fault> {
-    let fields = Fields::of_value(case.value, &["kids", "own", "first"])?;
-    let kids = kids_in(case.alloc, fields)?;
-    let own = pull_in(fields, "own")?;
-    let first = boxes_in(case.alloc, fields, "first")?;
-    let asks = match asking {
-        Asking::Row => row_wave_two(case.alloc, &kids, own, &first)?,
-        Asking::Limits => limit_wave_two(case.alloc, &kids, own, &first)?,
+const KEYS_OF_ONE: [&str; 2] = ["kids", "own"];
+
+const KEYS_OF_TWO: [&str; 3] = ["kids", "own", "first"];
+
+pub fn answer(asking: Asking, wave: Wave, case: Case, words: &mut String) -> Result<(), Fault> {
+    let keys: &[&'static str] = match wave {
+        Wave::One => &KEYS_OF_ONE,
+        Wave::Two => &KEYS_OF_TWO,
     };
-    add_asks(asks.as_slice(), words)?;
-    Ok(())
+    let fields = Fields::of_value(case.value, keys)?;
+    let kids = kids_in(case.alloc, fields)?;
+    let made = match wave {
+        Wave::One => asked_first(asking, case.alloc, fields, &kids),
+        Wave::Two => asked_second(asking, case.alloc, fields, &kids),
+    };
+    // Dropped by a call, here and below, so that the `?` that follows doesn't drop it.
+    drop(kids);
+    let asks = made?;
+    written(add_asks(asks.as_slice(), words))
+}
+
+/// What is asked in the first wave.
+fn asked_first(
+    asking: Asking,
+    alloc: Global,
+    fields: Fields,
+    kids: &List<KidPull>,
+) -> Result<List<Ask>, Fault>
+    requires { length kids.now ≤ 65_536 }
+{
+    let own = pull_in(fields, "own")?;
+    let asked = match asking {
+        Asking::Row => row_wave_one(alloc, kids, own),
+        Asking::Limits => limit_wave_one(alloc, kids, own),
+    };
+    Ok(asked?)
+}
+
+/// What is asked in the second wave.
+fn asked_second(
+    asking: Asking,
+    alloc: Global,
+    fields: Fields,
+    kids: &List<KidPull>,
+) -> Result<List<Ask>, Fault>
+    requires { length kids.now ≤ 65_536 }
+{
+    let own = pull_in(fields, "own")?;
+    let first = boxes_in(alloc, fields, "first")?;
+    let asked = match asking {
+        Asking::Row => row_wave_two(alloc, kids, own, &first),
+        Asking::Limits => limit_wave_two(alloc, kids, own, &first),
+    };
+    drop(first);
+    Ok(asked?)
 }
 
 /// The children of the key `kids`, a letter for each.

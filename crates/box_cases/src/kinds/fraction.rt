@@ -1,6 +1,6 @@
 //! `fraction`: the box of a fraction or a stack, and the places of its parts and its rule.
 
-use crate::values::{ByMetrics, add_mark, add_place, size_in};
+use crate::values::{ByMetrics, add_mark, add_place, size_in, written};
 use case_format::{Fault, Fields, add_box};
 use font_metrics::Metrics;
 use fractions::{Fraction, fraction};
@@ -28,8 +28,7 @@ impl ByMetrics for OfFraction {
         let thickness = fields.within("thickness", -MOST, MOST)?;
         let display = fields.flag("display")?;
         let laid = fraction(&top, &bottom, thickness, display, size, metrics);
-        add_fraction(metrics, &laid, words)?;
-        Ok(())
+        written(add_fraction(metrics, &laid, words))
     }
 }
 

@@ -1,7 +1,7 @@
 //! `token`, `operator`, `space`: elements without children.
 ghost use Rattle.token_boxes.specs.Operator.{IsPull};
 
-use crate::values::{ByMetrics, add_mark, element_of, pull_in, size_in};
+use crate::values::{ByMetrics, add_mark, element_in, pull_in, size_in, written};
 use case_format::{Fault, Fields, add_box};
 use embellished::{Core, known_of};
 use fixed_units::{Pull, fits, is_stored};
@@ -27,11 +27,11 @@ impl ByMetrics for OfToken {
         words: &mut String,
     ) -> Result<(), Fault> {
         let size = size_in(fields)?;
-        let element = element_of(alloc, fields.value("element")?)?;
+        let element = element_in(alloc, fields)?;
         let made = token(alloc, &element.head, size, metrics);
         drop(element);
-        add_leaf(metrics, &made?, words)?;
-        Ok(())
+        let leaf = made?;
+        written(add_leaf(metrics, &leaf, words))
     }
 }
 
@@ -49,7 +49,7 @@ impl ByMetrics for OfOperator {
         words: &mut String,
     ) -> Result<(), Fault> {
         let pull = pull_in(fields, "pull")?;
-        let element = element_of(alloc, fields.value("element")?)?;
+        let element = element_in(alloc, fields)?;
         let answered = add_operator(alloc, &element, pull, metrics, fields, words);
         drop(element);
         answered
@@ -90,8 +90,7 @@ fn add_operator(
         pull,
         metrics,
     )?;
-    add_leaf(metrics, &leaf, words)?;
-    Ok(())
+    written(add_leaf(metrics, &leaf, words))
 }
 
 /// A style of this size, in display style or not.
@@ -120,15 +119,14 @@ impl ByMetrics for OfSpace {
         words: &mut String,
     ) -> Result<(), Fault> {
         let size = size_in(fields)?;
-        let element = element_of(alloc, fields.value("element")?)?;
+        let element = element_in(alloc, fields)?;
         let frame = space(&element.head, size, metrics);
         drop(element);
-        if fits(&frame) {
-            add_box(&frame, words)?;
+        written(if fits(&frame) {
+            add_box(&frame, words)
         } else {
-            words.push_str(PAST)?;
-        }
-        Ok(())
+            words.push_str(PAST)
+        })
     }
 }
 

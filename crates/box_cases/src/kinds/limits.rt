@@ -2,7 +2,7 @@
 ghost use Rattle.std.specs.Prelude.{IfOk, IfSome};
 ghost use Rattle.fixed_units.specs.Boxes.{IsStored};
 
-use crate::values::{ByMetrics, add_place, size_in};
+use crate::values::{ByMetrics, add_place, size_in, written};
 use case_format::{Fault, Fields, add_box};
 use fixed_units::MathBox;
 use font_metrics::Metrics;
@@ -50,8 +50,7 @@ impl ByMetrics for OfUnderOver {
             size,
             metrics,
         );
-        add_limits(&laid, words)?;
-        Ok(())
+        written(add_limits(&laid, words))
     }
 }
 

@@ -3,7 +3,7 @@ ghost use Rattle.std.specs.Prelude.{◌≤◌, length, IfOk};
 ghost use Rattle.std.specs.List.{All};
 ghost use Rattle.multiscripts.specs.Along.{IsPairStored};
 
-use crate::values::{ByMetrics, add_place, items_in, size_in, stored_box};
+use crate::values::{ByMetrics, add_place, items_in, size_in, stored_box, written};
 use case_format::{Fault, Fields, add_box};
 use fixed_units::List;
 use font_metrics::Metrics;
@@ -29,9 +29,11 @@ impl ByMetrics for OfMulti {
         let cramped = fields.flag("cramped")?;
         let size = size_in(fields)?;
         let pairs = pairs_in(alloc, fields)?;
-        let laid = multi(alloc, &base, large, cramped, &pairs, size, metrics)?;
-        add_multi(&laid, words)?;
-        Ok(())
+        let made = multi(alloc, &base, large, cramped, &pairs, size, metrics);
+        // Dropped by a call, so that the `?` below doesn't drop it.
+        drop(pairs);
+        let laid = made?;
+        written(add_multi(&laid, words))
     }
 }
 
@@ -40,8 +42,9 @@ fn pairs_in(alloc: Global, fields: Fields) -> Result<List<Pair>, Fault>
     ensures few { IfOk result (λ pairs. length pairs ≤ 65_536) }
     ensures stored { IfOk result (All IsPairStored) }
 {
+    let items = items_in(fields, "pairs")?;
     let mut pairs = List::make(alloc);
-    for item in items_in(fields, "pairs")? {
+    for item in items {
         pairs.push(pair_of(item)?)?;
     }
     Ok(pairs)

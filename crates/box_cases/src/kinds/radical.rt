@@ -2,7 +2,7 @@
 ghost use Rattle.std.specs.Prelude.{IfOk};
 ghost use Rattle.radicals.specs.Equation.{IsRow};
 
-use crate::values::{ByMetrics, add_mark, add_place, size_in, wide_box};
+use crate::values::{ByMetrics, add_mark, add_place, size_in, wide_box, written};
 use case_format::{Fault, Fields, add_box};
 use font_metrics::Metrics;
 use radicals::{Radical, root_with_index, square_root};
@@ -25,8 +25,7 @@ impl ByMetrics for OfSquareRoot {
         let display = fields.flag("display")?;
         let size = size_in(fields)?;
         let root = square_root(&base, display, size, metrics);
-        add_root(metrics, &root, words)?;
-        Ok(())
+        written(add_root(metrics, &root, words))
     }
 }
 
@@ -48,8 +47,7 @@ impl ByMetrics for OfRootWithIndex {
         let display = fields.flag("display")?;
         let size = size_in(fields)?;
         let root = root_with_index(&base, &index, display, size, metrics);
-        add_root(metrics, &root, words)?;
-        Ok(())
+        written(add_root(metrics, &root, words))
     }
 }
 

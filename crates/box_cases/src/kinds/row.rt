@@ -3,10 +3,10 @@ ghost use Rattle.std.specs.Prelude.{◌≤◌, length, IfOk};
 ghost use Rattle.std.specs.List.{All};
 ghost use Rattle.row_stretch.specs.Equation.{IsKidStored};
 
-use crate::values::{add_numbers, items_in, stored, stored_box};
+use crate::values::{add_numbers, items_in, stored, stored_box, written};
 use case_format::{Case, Fault, Fields, add_box};
-use fixed_units::List;
-use row_stretch::{Row, RowKid, row_finish};
+use fixed_units::{List, MathBox};
+use row_stretch::{RowKid, row_finish};
 use serde_json::Value;
 use std::alloc::{AllocError, Global};
 
@@ -14,9 +14,11 @@ pub fn answer(case: Case, words: &mut String) -> Result<(), Fault> {
     let fields = Fields::of_value(case.value, &["kids", "spaces"])?;
     let kids = kids_in(case.alloc, fields)?;
     let spaces = fields.flag("spaces")?;
-    let row = row_finish(case.alloc, &kids, spaces)?;
-    add_row(&row, words)?;
-    Ok(())
+    let made = row_finish(case.alloc, &kids, spaces);
+    // Dropped by a call, so that the `?` below doesn't drop it.
+    drop(kids);
+    let row = made?;
+    written(add_row(&row.frame, &row.offsets, words))
 }
 
 /// The children of the key `kids`.
@@ -24,8 +26,9 @@ fn kids_in(alloc: Global, fields: Fields) -> Result<List<RowKid>, Fault>
     ensures few { IfOk result (λ kids. length kids ≤ 65_536) }
     ensures stored { IfOk result (All IsKidStored) }
 {
+    let items = items_in(fields, "kids")?;
     let mut kids = List::make(alloc);
-    for item in items_in(fields, "kids")? {
+    for item in items {
         kids.push(kid_of(item)?)?;
     }
     Ok(kids)
@@ -48,8 +51,8 @@ fn kid_of(value: &Value) -> Result<RowKid, Fault>
 }
 
 /// Adds the box and the offsets of a row.
-pub fn add_row(row: &Row, words: &mut String) -> Result<(), AllocError> {
-    add_box(&row.frame, words)?;
+pub fn add_row(frame: &MathBox, offsets: &List<i64>, words: &mut String) -> Result<(), AllocError> {
+    add_box(frame, words)?;
     words.push_str("; ")?;
-    add_numbers(&row.offsets, words)
+    add_numbers(offsets, words)
 }

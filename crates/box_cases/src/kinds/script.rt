@@ -1,6 +1,6 @@
 //! `sub`, `sup`, `sub_sup`: the box of a base with scripts, and their places.
 
-use crate::values::{ByMetrics, add_place, size_in};
+use crate::values::{ByMetrics, add_place, size_in, written};
 use case_format::{Fault, Fields, add_box};
 use font_metrics::Metrics;
 use scripts::{NO_CORNERS, Scripted, sub, sub_sup, sup};
@@ -30,8 +30,7 @@ impl ByMetrics for OfSub {
         let script = fields.stored_box("script")?;
         let size = size_in(fields)?;
         let laid = sub(&base, large, &script, &NO_CORNERS, size, metrics);
-        add_scripted(&laid, words)?;
-        Ok(())
+        written(add_scripted(&laid, words))
     }
 }
 
@@ -54,8 +53,7 @@ impl ByMetrics for OfSup {
         let script = fields.stored_box("script")?;
         let size = size_in(fields)?;
         let laid = sup(&base, large, cramped, &script, &NO_CORNERS, size, metrics);
-        add_scripted(&laid, words)?;
-        Ok(())
+        written(add_scripted(&laid, words))
     }
 }
 
@@ -80,8 +78,7 @@ impl ByMetrics for OfSubSup {
         let size = size_in(fields)?;
         let from = NO_CORNERS;
         let laid = sub_sup(&base, large, cramped, &below, &above, &from, size, metrics);
-        add_scripted(&laid, words)?;
-        Ok(())
+        written(add_scripted(&laid, words))
     }
 }
 

@@ -1,6 +1,6 @@
 //! `shape`: what is made of a glyph to reach a target. `display_variant`: what a large operator is.
 
-use crate::values::{ByMetrics, add_mark, size_in};
+use crate::values::{ByMetrics, add_mark, size_in, written};
 use case_format::{Fault, Fields, add_box};
 use font_metrics::{GlyphId, Metrics};
 use glyph_assembly::{Shaped, display_variant, shape};
@@ -29,8 +29,7 @@ impl ByMetrics for OfShape {
         let target = fields.within("target", -FAR, FAR)?;
         let glyph = metrics.glyph_of(letter);
         let shaped = shape(metrics, glyph, axis, target, size);
-        add_shaped(metrics, &shaped, glyph, axis, size, words)?;
-        Ok(())
+        written(add_shaped(metrics, &shaped, glyph, axis, size, words))
     }
 }
 
@@ -51,8 +50,8 @@ impl ByMetrics for OfDisplayVariant {
         let size = size_in(fields)?;
         let glyph = metrics.glyph_of(letter);
         let shaped = display_variant(metrics, glyph, size);
-        add_shaped(metrics, &shaped, glyph, Axis::Block, size, words)?;
-        Ok(())
+        let axis = Axis::Block;
+        written(add_shaped(metrics, &shaped, glyph, axis, size, words))
     }
 }
 

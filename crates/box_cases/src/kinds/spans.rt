@@ -1,12 +1,12 @@
 //! `span_of`, `spans`: cells that span columns and rows.
 ghost use Rattle.std.specs.Prelude.{◌≡◌, ◌≤◌, ◌^◌, length, IfOk};
 ghost use Rattle.std.specs.List.{All};
-ghost use Rattle.span_tables.specs.Bounds.{HasSpan, IsSpanStored, IsStored};
+ghost use Rattle.span_tables.specs.Bounds.{HasSpan, IsSpanStored, IsStored, cell_count, most_cells};
 ghost use Rattle.span_tables.specs.Heights.{IsHeightStored};
 ghost use Rattle.span_tables.specs.Standing.{first_columns_of};
 ghost use Rattle.span_tables.specs.Widths.{span_columns_of, IsColumn};
 
-use crate::values::{add_numbers, rows_in};
+use crate::values::{add_numbers, rows_in, written};
 use case_format::{Case, Fault, Fields};
 use fixed_units::List;
 use span_tables::laws::{cells_stand_inside, rows_of_stored_cells_are_stored};
@@ -22,8 +22,7 @@ pub fn answer_span(case: Case, words: &mut String) -> Result<(), Fault> {
     let text = text_in(fields)?;
     let most = fields.within("most", 1, i64::from(MOST_ROWS))?;
     let span = span_of(text, most as u32);
-    write!(words, "{span}")?;
-    Ok(())
+    written(write!(words, "{span}"))
 }
 
 /// The text of the key `text`, where there is one.
@@ -38,15 +37,36 @@ fn text_in<'a>(fields: Fields<'a>) -> Result<Option<&'a str>, Fault> {
 pub fn answer_table(case: Case, words: &mut String) -> Result<(), Fault> {
     let fields = Fields::of_value(case.value, &["rows"])?;
     let rows = rows_in(case.alloc, fields)?;
-    let firsts = first_columns(case.alloc, &rows)?;
-    let widths = span_columns(case.alloc, &rows, &firsts)?;
-    add_firsts(&firsts, words)?;
+    let answered = add_table(case.alloc, &rows, words);
+    // Dropped by a call, so that this function's proof doesn't go through all parts.
+    drop(rows);
+    answered
+}
+
+/// Adds what is told of the table of these rows.
+fn add_table(alloc: Global, rows: &List<List<SpanCell>>, words: &mut String) -> Result<(), Fault>
+    requires few_rows { length rows.now ≤ 65_536 }
+    requires few_cells { cell_count rows.now ≤ most_cells }
+    requires spans { All (All HasSpan) rows.now }
+    requires stored { All (All IsStored) rows.now }
+{
+    let firsts = first_columns(alloc, rows)?;
+    let widths = span_columns(alloc, rows, &firsts)?;
+    add_columns_of(&firsts, &widths, words)?;
+    add_heights(alloc, rows, words)?;
+    add_slots(alloc, rows, &firsts, &widths, words)
+}
+
+/// Adds in which columns cells begin, and how wide columns are.
+fn add_columns_of(
+    firsts: &List<List<u32>>,
+    widths: &List<i64>,
+    words: &mut String,
+) -> Result<(), AllocError> {
+    add_firsts(firsts, words)?;
     words.push_str("; ")?;
-    add_numbers(&widths, words)?;
-    words.push_str("; ")?;
-    add_heights(case.alloc, &rows, words)?;
-    words.push_str("; ")?;
-    add_slots(case.alloc, &rows, &firsts, &widths, words)
+    add_numbers(widths, words)?;
+    words.push_str("; ")
 }
 
 /// Adds the columns in which the cells of each row begin.
@@ -85,9 +105,10 @@ fn add_heights(alloc: Global, rows: &List<List<SpanCell>>, words: &mut String) -
     requires stored { All (All IsStored) rows.now }
 {
     let own = own_heights(alloc, rows.as_slice())?;
-    let heights = span_heights(alloc, rows, &own)?;
-    add_each_height(heights.as_slice(), words)?;
-    Ok(())
+    let made = span_heights(alloc, rows, &own);
+    drop(own);
+    let heights = made?;
+    written(add_each_height(heights.as_slice(), words))
 }
 
 fn add_each_height(heights: &[RowHeight], words: &mut String) -> Result<(), AllocError> {
@@ -150,9 +171,7 @@ fn add_slots(
     requires columns { All IsColumn widths.now }
 {
     cells_stand_inside();
-    if rows.is_empty() {
-        words.push('-')?;
-    }
+    words.push_str(if rows.is_empty() { "; -" } else { "; " })?;
     let along = firsts.as_slice();
     for (row, cells) in rows.as_slice().iter().enumerate() {
         add_gap(row, words)?;

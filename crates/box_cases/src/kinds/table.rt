@@ -1,14 +1,19 @@
 //! `cell`, `columns`, `row_of_cells`, `row_of_slots`, `table_finish`: the parts of a table.
 ghost use Rattle.std.specs.Prelude.{◌≤◌, length, IfOk};
+ghost use Rattle.std.specs.List.{All};
+ghost use Rattle.fixed_units.specs.Boxes.{IsStored, farthest};
+ghost use Rattle.fixed_units.specs.Numbers.{IsWithin};
 
 use crate::kinds::row::add_row;
 use crate::values::{
     ByMetrics, add_numbers, boxes_in, items_in, items_of, numbers_in, size_in, stored, wide_box,
+    written,
 };
 use case_format::{Case, Fault, Fields, add_box};
-use fixed_units::List;
+use fixed_units::{List, MathBox};
 use font_metrics::Metrics;
 use math_tables::{cell, cell_start, columns, row_of_cells, row_of_slots, table_finish};
+use row_stretch::Row;
 use serde_json::Value;
 use std::alloc::Global;
 use std::fmt::Write;
@@ -30,55 +35,90 @@ impl ByMetrics for OfCell {
         let size = size_in(fields)?;
         add_box(&cell(&row, size, metrics), words)?;
         let start = cell_start(size);
-        write!(words, "; {start}")?;
-        Ok(())
+        written(write!(words, "; {start}"))
     }
 }
 
 pub fn answer_columns(case: Case, words: &mut String) -> Result<(), Fault> {
     let fields = Fields::of_value(case.value, &["rows"])?;
-    let mut rows = List::make(case.alloc);
-    for row in items_in(fields, "rows")? {
-        rows.push(widths_of(case.alloc, row)?)?;
+    let rows = rows_of_widths(case.alloc, fields)?;
+    let made = columns(case.alloc, &rows);
+    // Dropped by a call, here and below, so that the `?` that follows doesn't drop it.
+    drop(rows);
+    let widths = made?;
+    written(add_numbers(&widths, words))
+}
+
+/// The widths of the cells of each row.
+fn rows_of_widths(alloc: Global, fields: Fields) -> Result<List<List<i64>>, Fault> {
+    let items = items_in(fields, "rows")?;
+    let mut rows = List::make(alloc);
+    for row in items {
+        rows.push(widths_of(alloc, row)?)?;
     }
-    let widths = columns(case.alloc, &rows)?;
-    add_numbers(&widths, words)?;
-    Ok(())
+    Ok(rows)
 }
 
 /// The widths of a row's cells.
 fn widths_of(alloc: Global, row: &Value) -> Result<List<i64>, Fault> {
+    let items = items_of("rows", row)?;
     let mut widths = List::make(alloc);
-    for item in items_of("rows", row)? {
+    for item in items {
         widths.push(stored("rows", item)?)?;
     }
     Ok(widths)
 }
 
-pub fn answer_row(case: Case, words: &mut String) -> Result<(), Fault> {
-    let fields = Fields::of_value(case.value, &["cells", "widths", "total"])?;
-    let cells = boxes_in(case.alloc, fields, "cells")?;
-    let widths = numbers_in(case.alloc, fields, "widths")?;
-    if widths.len() != cells.len() {
-        return Err(Fault::out_of_range("widths"));
-    }
-    let total = fields.number("total")?;
-    let row = row_of_cells(case.alloc, &cells, &widths, total)?;
-    add_row(&row, words)?;
-    Ok(())
+/// By what the cells of a row are placed.
+#[derive(Clone, Copy)]
+pub enum Across {
+    Columns,
+    Slots,
 }
 
-pub fn answer_slots(case: Case, words: &mut String) -> Result<(), Fault> {
-    let fields = Fields::of_value(case.value, &["cells", "slots", "total"])?;
+pub fn answer_row(across: Across, case: Case, words: &mut String) -> Result<(), Fault> {
+    let key = match across {
+        Across::Columns => "widths",
+        Across::Slots => "slots",
+    };
+    let fields = Fields::of_value(case.value, &["cells", key, "total"])?;
     let cells = boxes_in(case.alloc, fields, "cells")?;
-    let slots = numbers_in(case.alloc, fields, "slots")?;
-    if slots.len() != 2 * cells.len() {
-        return Err(Fault::out_of_range("slots"));
+    let numbers = numbers_in(case.alloc, fields, key)?;
+    let made = row_across(across, case.alloc, fields, &cells, &numbers);
+    drop(numbers);
+    drop(cells);
+    let row = made?;
+    written(add_row(&row.frame, &row.offsets, words))
+}
+
+/// A row of cells that is as wide as the key `total` says.
+fn row_across(
+    across: Across,
+    alloc: Global,
+    fields: Fields,
+    cells: &List<MathBox>,
+    numbers: &List<i64>,
+) -> Result<Row, Fault>
+    requires few { length cells.now ≤ 65_536 }
+    requires cells { All IsStored cells.now }
+    requires numbers { All (IsWithin farthest) numbers.now }
+{
+    let is_each = match across {
+        Across::Columns => numbers.len() == cells.len(),
+        Across::Slots => numbers.len() == 2 * cells.len(),
+    };
+    if !is_each {
+        return Err(Fault::out_of_range(match across {
+            Across::Columns => "widths",
+            Across::Slots => "slots",
+        }));
     }
     let total = fields.number("total")?;
-    let row = row_of_slots(case.alloc, &cells, slots.as_slice(), total)?;
-    add_row(&row, words)?;
-    Ok(())
+    let made = match across {
+        Across::Columns => row_of_cells(alloc, cells, numbers, total),
+        Across::Slots => row_of_slots(alloc, cells, numbers.as_slice(), total),
+    };
+    Ok(made?)
 }
 
 pub struct OfTableFinish;
@@ -96,11 +136,27 @@ impl ByMetrics for OfTableFinish {
     ) -> Result<(), Fault> {
         let rows = boxes_in(alloc, fields, "rows")?;
         let widths = numbers_in(alloc, fields, "widths")?;
-        let size = size_in(fields)?;
-        let (frame, offsets) = table_finish(alloc, &rows, &widths, size, metrics)?;
-        add_box(&frame, words)?;
-        words.push_str("; ")?;
-        add_numbers(&offsets, words)?;
-        Ok(())
+        let made = finished(alloc, metrics, fields, &rows, &widths);
+        drop(widths);
+        drop(rows);
+        let (frame, offsets) = made?;
+        written(add_row(&frame, &offsets, words))
     }
+}
+
+/// The box of a table, and where its rows stand.
+fn finished(
+    alloc: Global,
+    metrics: &Metrics,
+    fields: Fields,
+    rows: &List<MathBox>,
+    widths: &List<i64>,
+) -> Result<(MathBox, List<i64>), Fault>
+    requires few_rows { length rows.now ≤ 65_536 }
+    requires few_columns { length widths.now ≤ 65_536 }
+    requires rows { All IsStored rows.now }
+    requires widths { All (IsWithin farthest) widths.now }
+{
+    let size = size_in(fields)?;
+    Ok(table_finish(alloc, rows, widths, size, metrics)?)
 }

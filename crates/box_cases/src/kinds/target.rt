@@ -1,7 +1,7 @@
 //! `target`: what a stretched operator is to cover.
 ghost use Rattle.std.specs.Prelude.{◌≤ℤ◌, ◌^◌, pos, IfOk, IfSome};
 
-use crate::values::stretch_in;
+use crate::values::{stretch_in, written};
 use case_format::{Case, Fault, Fields};
 use glyph_assembly::target;
 use op_dictionary::{Category, properties};
@@ -25,8 +25,7 @@ pub fn answer(case: Case, words: &mut String) -> Result<(), Fault> {
     let mut properties = properties(Category::Default);
     properties.symmetric = symmetric;
     let (ascent, descent) = target(pull, &properties, least, most, axis_height);
-    write!(words, "{ascent} {descent}")?;
-    Ok(())
+    written(write!(words, "{ascent} {descent}"))
 }
 
 /// The largest size, where one is given.

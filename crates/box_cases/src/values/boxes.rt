@@ -31,8 +31,9 @@ pub fn boxes_in(alloc: Global, fields: Fields, key: &'static str) -> Result<List
     ensures few { IfOk result (λ frames. length frames ≤ 65_536) }
     ensures stored { IfOk result (All IsStored) }
 {
+    let items = items_in(fields, key)?;
     let mut frames = List::make(alloc);
-    for item in items_in(fields, key)? {
+    for item in items {
         frames.push(stored_box(key, item)?)?;
     }
     Ok(frames)

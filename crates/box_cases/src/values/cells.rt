@@ -20,9 +20,10 @@ pub fn rows_in(alloc: Global, fields: Fields) -> Result<List<List<SpanCell>>, Fa
     ensures spans { IfOk result (All (All HasSpan)) }
     ensures stored { IfOk result (All (All IsStored)) }
 {
+    let items = items_in(fields, "rows")?;
     let mut rows = List::make(alloc);
     let mut left = MOST_CELLS;
-    for item in items_in(fields, "rows")? {
+    for item in items {
         let cells = cells_in(alloc, item)?;
         if left < cells.len() {
             return Err(Fault::out_of_range("rows"));
@@ -38,8 +39,9 @@ fn cells_in(alloc: Global, row: &Value) -> Result<List<SpanCell>, Fault>
     ensures spans { IfOk result (All HasSpan) }
     ensures stored { IfOk result (All IsStored) }
 {
+    let items = items_of("rows", row)?;
     let mut cells = List::make(alloc);
-    for item in items_of("rows", row)? {
+    for item in items {
         cells.push(cell_of(item)?)?;
     }
     Ok(cells)

@@ -65,8 +65,9 @@ pub fn numbers_in(alloc: Global, fields: Fields, key: &'static str) -> Result<Li
     ensures few { IfOk result (λ numbers. length numbers ≤ 65_536) }
     ensures stored { IfOk result (All (IsWithin farthest)) }
 {
+    let items = items_in(fields, key)?;
     let mut numbers = List::make(alloc);
-    for item in items_in(fields, key)? {
+    for item in items {
         numbers.push(stored(key, item)?)?;
     }
     Ok(numbers)

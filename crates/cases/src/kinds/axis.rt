@@ -1,6 +1,7 @@
 //! `axis`: the axis along which an operator stretches.
 
 use crate::kinds::operators::{ByLines, axis_name, op_text};
+use crate::kinds::written::written;
 use case_format::{Case, Fault, Fields};
 use op_dictionary::{Extra, axis};
 
@@ -18,7 +19,6 @@ impl ByLines for OfAxis {
         words: &mut String,
     ) -> Result<(), Fault> {
         let text = op_text(fields.text("text")?);
-        words.push_str(axis_name(axis(text, lines)))?;
-        Ok(())
+        written(words.push_str(axis_name(axis(text, lines))))
     }
 }

@@ -1,6 +1,7 @@
 //! `category`: the category of an operator in the dictionary.
 
 use crate::kinds::operators::{ByLines, form_in, op_text};
+use crate::kinds::written::written;
 use case_format::{Case, Fault, Fields};
 use op_dictionary::{Category, Extra, category};
 
@@ -20,8 +21,7 @@ impl ByLines for OfCategory {
         let text = op_text(fields.text("text")?);
         let form = form_in(fields)?;
         let fixed = fields.flag("fixed")?;
-        words.push_str(name_of(category(text, form, fixed, lines)))?;
-        Ok(())
+        written(words.push_str(name_of(category(text, form, fixed, lines))))
     }
 }
 

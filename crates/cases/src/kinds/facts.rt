@@ -2,8 +2,10 @@
 //! same of an element that a file holds.
 
 use crate::kinds::elements::{add_code, element_of, form_letter, truth_letter};
+use crate::kinds::written::written;
 use case_format::{Case, Fault};
 use embellished::{Core, Facts, NodeView, View, fences_of, form_within, known_of};
+use fixed_units::Memory;
 use math_tree::{Kind, Node};
 use op_dictionary::{Form, OpText};
 use serde_json::Value;
@@ -20,15 +22,25 @@ pub fn answer(case: Case, words: &mut String) -> Result<(), Fault> {
 pub fn answer_file(case: Case, words: &mut String) -> Result<(), Fault> {
     let name = case.value.as_str().ok_or(Fault::WrongValue)?;
     match Value::from_slice(case.alloc, case.files.bytes(name)?) {
-        Ok(value) => add_answer(case.alloc, &value, words),
-        Err(error) if error.is_memory() => Err(Fault::Memory),
-        Err(_) => Err(Fault::NotAnElement),
+        Ok(value) => {
+            let answered = add_answer(case.alloc, &value, words);
+            drop(value);
+            answered
+        }
+        Err(error) => Err(if error.is_memory() {
+            Fault::Memory
+        } else {
+            Fault::NotAnElement
+        }),
     }
 }
 
 fn add_answer(alloc: Global, value: &Value, words: &mut String) -> Result<(), Fault> {
     let element = element_of(alloc, value)?;
-    add_element(alloc, &element, words)
+    let answered = add_element(alloc, &element, words);
+    // Dropped by a call, so that the proof of this function doesn't go through all parts.
+    drop(element);
+    answered
 }
 
 fn add_element(alloc: Global, element: &Node, words: &mut String) -> Result<(), Fault> {
@@ -36,9 +48,16 @@ fn add_element(alloc: Global, element: &Node, words: &mut String) -> Result<(), 
         return Err(Fault::NotAnElement);
     }
     let known = known_of(alloc, element)?;
-    let view = NodeView::make(alloc, element, known.facts, &known.kids)?;
-    add_words(&view, words)?;
-    Ok(())
+    let view = NodeView::make(alloc, element, known.facts, &known.kids);
+    let answered = add_view(view, words);
+    drop(known);
+    answered
+}
+
+/// Adds what a view shows, where there was memory for it.
+fn add_view(view: Result<NodeView, Memory>, words: &mut String) -> Result<(), Fault> {
+    let view = view?;
+    written(add_words(&view, words))
 }
 
 /// The kind, whether it is space-like, its core, its children's forms, and how many of them stand

@@ -1,11 +1,11 @@
 //! `fits`: whether a box can be stored.
 
 use crate::kinds::elements::yes_or_no;
+use crate::kinds::written::written;
 use case_format::{Case, Fault, box_of};
 use fixed_units::fits;
 
 pub fn answer(case: Case, words: &mut String) -> Result<(), Fault> {
     let frame = box_of(case.value).ok_or(Fault::WrongValue)?;
-    words.push_str(yes_or_no(fits(&frame)))?;
-    Ok(())
+    written(words.push_str(yes_or_no(fits(&frame))))
 }

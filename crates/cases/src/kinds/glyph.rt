@@ -1,6 +1,7 @@
 //! `glyph`: what metrics say of a character's glyph, in design units.
 
 use crate::kinds::operators::axis_name;
+use crate::kinds::written::written;
 use case_format::{Case, Fault, Fields};
 use font_metrics::{Glyph, GlyphId, Metrics, Part, Variant};
 use op_dictionary::Axis;
@@ -18,8 +19,7 @@ pub fn answer(case: Case, words: &mut String) -> Result<(), Fault> {
 
 fn answer_by(metrics: &Metrics, fields: Fields, words: &mut String) -> Result<(), Fault> {
     let letter = letter_in(fields)?;
-    add_words(metrics, metrics.glyph_of(letter), words)?;
-    Ok(())
+    written(add_words(metrics, metrics.glyph_of(letter), words))
 }
 
 /// The one character of the key `letter`.

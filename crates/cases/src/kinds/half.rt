@@ -1,5 +1,6 @@
 //! `half`: half of a number, rounded down.
 
+use crate::kinds::written::written;
 use case_format::{Case, Fault};
 use fixed_units::half;
 use std::fmt::Write;
@@ -7,6 +8,5 @@ use std::fmt::Write;
 pub fn answer(case: Case, words: &mut String) -> Result<(), Fault> {
     let number = case.value.as_i64().ok_or(Fault::WrongValue)?;
     let half = half(number);
-    write!(words, "{half}")?;
-    Ok(())
+    written(write!(words, "{half}"))
 }

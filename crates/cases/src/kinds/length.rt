@@ -1,5 +1,6 @@
 //! `length`: which length a text is.
 
+use crate::kinds::written::written;
 use case_format::{Case, Fault};
 use fixed_units::{LengthText, Unit, read_length};
 use std::alloc::AllocError;
@@ -7,11 +8,10 @@ use std::fmt::Write;
 
 pub fn answer(case: Case, words: &mut String) -> Result<(), Fault> {
     let text = case.value.as_str().ok_or(Fault::WrongValue)?;
-    match read_length(text) {
-        Some(length) => add_length(length, words)?,
-        None => words.push_str("none")?,
-    }
-    Ok(())
+    written(match read_length(text) {
+        Some(length) => add_length(length, words),
+        None => words.push_str("none"),
+    })
 }
 
 /// The millionths and the unit.

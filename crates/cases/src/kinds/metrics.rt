@@ -1,5 +1,6 @@
 //! `metrics`: whether a metrics file is sound, as it is or with other lines in place of one.
 
+use crate::kinds::written::written;
 use case_format::{Case, Fault, Fields, is_line_feed, text_in};
 use fixed_units::List;
 use metrics_file::{MOST_FILE_BYTES, MetricsRefusal, read_metrics};
@@ -14,8 +15,21 @@ pub fn answer(case: Case, words: &mut String) -> Result<(), Fault> {
         return add_reading(case.alloc, file, words);
     }
     let mut edited = List::make(case.alloc);
-    add_edited(file, fields, &mut edited)?;
-    add_reading(case.alloc, edited.as_slice(), words)
+    let answered = answer_edited(case.alloc, file, fields, &mut edited, words);
+    drop(edited);
+    answered
+}
+
+/// The answer for the file with other lines in place of one.
+fn answer_edited(
+    alloc: Global,
+    file: &[u8],
+    fields: Fields,
+    edited: &mut List<u8>,
+    words: &mut String,
+) -> Result<(), Fault> {
+    add_edited(file, fields, edited)?;
+    add_reading(alloc, edited.as_slice(), words)
 }
 
 /// Adds the file with other lines in place of one.
@@ -53,11 +67,11 @@ fn add_reading(alloc: Global, file: &[u8], words: &mut String) -> Result<(), Fau
         return Err(Fault::FileTooLong);
     }
     match read_metrics(alloc, file).err() {
-        None => Ok(words.push_str("ok")?),
+        None => written(words.push_str("ok")),
         Some(MetricsRefusal::Fault(fault)) => {
             let line = fault.line;
             let kind = fault.kind;
-            Ok(write!(words, "fault {line} {kind}")?)
+            written(write!(words, "fault {line} {kind}"))
         }
         Some(MetricsRefusal::Memory) => Err(Fault::Memory),
     }

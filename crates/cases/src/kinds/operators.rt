@@ -24,7 +24,10 @@ pub fn by_lines<K: ByLines>(case: Case, words: &mut String) -> Result<(), Fault>
     if fields.has("metrics") {
         by_metrics::<K>(case, fields, words)
     } else {
-        K::add_answer(&Extra::make(case.alloc), case, fields, words)
+        let none = Extra::make(case.alloc);
+        let answered = K::add_answer(&none, case, fields, words);
+        drop(none);
+        answered
     }
 }
 

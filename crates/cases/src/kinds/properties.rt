@@ -2,6 +2,7 @@
 
 use crate::kinds::elements::{element_of, truth_letter};
 use crate::kinds::operators::{ByLines, form_in};
+use crate::kinds::written::written;
 use case_format::{Case, Fault, Fields};
 use embellished::{Core, known_of, operator_properties};
 use math_tree::{Kind, Node};
@@ -24,15 +25,16 @@ impl ByLines for OfProperties {
     ) -> Result<(), Fault> {
         let form = form_in(fields)?;
         let core = core_in(case, fields)?;
-        add_properties(operator_properties(&core, form, lines), words)?;
-        Ok(())
+        written(add_properties(operator_properties(&core, form, lines), words))
     }
 }
 
 /// The core of the key `element`.
 fn core_in(case: Case, fields: Fields) -> Result<Core, Fault> {
     let element = element_of(case.alloc, fields.value("element")?)?;
-    core_of(case.alloc, &element)
+    let core = core_of(case.alloc, &element);
+    drop(element);
+    core
 }
 
 /// The core of an `mo`.

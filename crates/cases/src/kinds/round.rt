@@ -2,6 +2,7 @@
 ghost use Rattle.std.specs.Prelude.{◌^◌, pos, ◌<ℤ◌};
 ghost use Rattle.fixed_units.specs.Numbers.{IsWithin};
 
+use crate::kinds::written::written;
 use case_format::{Case, Fault, Fields};
 use fixed_units::{Ratio, round};
 use std::fmt::Write;
@@ -20,8 +21,7 @@ pub fn answer(case: Case, words: &mut String) -> Result<(), Fault> {
         return Err(Fault::out_of_range("num"));
     }
     let nearest = nearest(i128::from(num), i128::from(den));
-    write!(words, "{nearest}")?;
-    Ok(())
+    written(write!(words, "{nearest}"))
 }
 
 // What is divided by one or more grows no larger, so that the result fits.

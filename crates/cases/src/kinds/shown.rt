@@ -1,6 +1,7 @@
 //! `shown`: the text that an element with a text shows.
 
 use crate::kinds::elements::add_code;
+use crate::kinds::written::written;
 use case_format::{Case, Fault};
 use embellished::shown_text;
 use std::alloc::AllocError;
@@ -8,8 +9,9 @@ use std::alloc::AllocError;
 pub fn answer(case: Case, words: &mut String) -> Result<(), Fault> {
     let text = case.value.as_str().ok_or(Fault::WrongValue)?;
     let shown = shown_text(case.alloc, text)?;
-    add_codes(shown.as_str(), words)?;
-    Ok(())
+    let answered = written(add_codes(shown.as_str(), words));
+    drop(shown);
+    answered
 }
 
 /// The codes of the characters, joined by `+`, or a word for none.

@@ -3,6 +3,7 @@ ghost use Rattle.std.specs.Prelude.{IfOk};
 ghost use Rattle.style_scope.specs.Sizes.{IsStyle};
 
 use crate::kinds::elements::{element_of, truth_letter};
+use crate::kinds::written::written;
 use case_format::{Case, Fault, Fields};
 use font_metrics::Metrics;
 use math_tree::{Kind, Node};
@@ -33,8 +34,7 @@ fn add_answer(
     for step in fields.items("steps")? {
         at = at.below(alloc, step, metrics)?;
     }
-    add_style(&at.style, metrics, words)?;
-    Ok(())
+    written(add_style(&at.style, metrics, words))
 }
 
 /// Where a path has come to.

@@ -1,5 +1,6 @@
 //! `tree`: whether a value is a tree. `treefile`: whether a file is one, however long it is.
 
+use crate::kinds::written::written;
 use case_format::{Case, Fault};
 use math_tree::{TreeRefusal, read_tree};
 use serde_json::Value;
@@ -13,20 +14,29 @@ pub fn answer(case: Case, words: &mut String) -> Result<(), Fault> {
 pub fn answer_file(case: Case, words: &mut String) -> Result<(), Fault> {
     let name = case.value.as_str().ok_or(Fault::WrongValue)?;
     match Value::from_slice(case.alloc, case.files.bytes(name)?) {
-        Ok(value) => add_reading(case.alloc, &value, words),
-        Err(error) if error.is_memory() => Err(Fault::Memory),
-        Err(_) => Ok(words.push_str("json")?),
+        Ok(value) => {
+            let answered = add_reading(case.alloc, &value, words);
+            drop(value);
+            answered
+        }
+        Err(error) => {
+            if error.is_memory() {
+                Err(Fault::Memory)
+            } else {
+                written(words.push_str("json"))
+            }
+        }
     }
 }
 
 /// How a value is read as a tree.
 fn add_reading(alloc: Global, value: &Value, words: &mut String) -> Result<(), Fault> {
     match read_tree(alloc, value).map(|tree| tree.next_id()) {
-        Ok(next_id) => Ok(write!(words, "ok {next_id}")?),
+        Ok(next_id) => written(write!(words, "ok {next_id}")),
         Err(TreeRefusal::Fault(fault)) => {
             let element = fault.element;
             let kind = fault.kind;
-            Ok(write!(words, "fault {element} {kind}")?)
+            written(write!(words, "fault {element} {kind}"))
         }
         Err(TreeRefusal::Memory) => Err(Fault::Memory),
     }

@@ -1,17 +1,22 @@
-use Rattle.std.proofs.Common.{◌≡◌, ◌∙◌, ◌≤◌, ◌+◌, ◌*◌, ap, arith, ℕ, length, sym, subst}
+use Rattle.std.proofs.Common.{◌≡◌, ◌∙◌, ◌≤◌, ◌+◌, ◌*◌, refl, ap, arith, ℕ, length, [], Err, sym, subst}
 use Rattle.math_tree.specs.Trees.{IsWhole}
+use Rattle.fixed_units.specs.declared.refusal.LayRefusal.TheVariants.{Range}
 use Rattle.box_pool.specs.Runs.{cell_count}
 use Rattle.outcome_cells.specs.Store.{Runs, StoreValue}
+use Rattle.tree_edits.specs.Edits.{edited, refusal_of}
+use Rattle.tree_edits.specs.Inverses.{inverse}
 use Rattle.kept_results.specs.Ends.{fresh_count, kept_count, stripped}
 use Rattle.kept_results.specs.declared.memo.Memo.{Memo}
 use Rattle.kept_edits.specs.ByIds.{TakesNeeded}
 use Rattle.memo_tree.specs.Counted.{EntriesStay}
+use Rattle.memo_tree.specs.Reversing.{CanReverse, reversed}
 use Rattle.memo_tree.specs.Trees.{MemoTreeValue}
 use Rattle.memo_tree.proofs.Changes.{steps_law}
-use Rattle.edit_session.specs.Session.{KeptSession, layouts_of, session_of}
-use Rattle.edit_session.specs.Sweeping.{HasGrownFrom}
+use Rattle.edit_session.specs.Session.{IsCause, KeptSession, edited_session, layouts_of, session_of}
+use Rattle.edit_session.specs.Sweeping.{HasGrownFrom, IsKeptWithin}
 use Rattle.edit_session.proofs.Carrying.{entries_stay, few_after, few_cells, grown_from}
 use Rattle.edit_session.proofs.Counting.{at_most_noted, sealed_by_fresh}
+use Rattle.edit_session.proofs.Refused.{cause_of_layout, on_err, unfit}
 use Rattle.edit_session.proofs.session.Session.edit_found.Goals as goal
 
 pub returns-in-Ok-clause-few : goal.returns-in-Ok-clause-few
@@ -86,3 +91,88 @@ returns-in-Err-clause-steps g c = λ free.
     let edited = c.in_ok-reversal.ensures in
     let needed = steps_law c.self.inside.layouts c.change.new.self c.args.edit from to edited.counted edited.tree c.change.ensures.metrics c.relay.ensures.steps in
     subst (λ (s : KeptSession). TakesNeeded s.held.metrics s.held.tree c.args.edit from to) c.self.view_is needed
+
+pub relay-requires : goal.relay-requires
+relay-requires g c = record { changed = c.in_ok-reversal.ensures.changed }
+
+pub seal-made-requires : goal.seal-made-requires
+seal-made-requires g c = record { passed = c.in-Ok.ensures.passed }
+
+pub undo_pass-requires : goal.undo_pass-requires
+undo_pass-requires g c = record { stopped = c.relay.ensures.stopped }
+
+pub undo_change-requires-clause-fits : goal.undo_change-requires-clause-fits
+undo_change-requires-clause-fits g c =
+    subst (CanReverse c.in_ok-reversal.reversal) (sym (c.undo_pass.ensures.before ∙ c.relay.ensures.before)) c.in_ok-reversal.ensures.reversal.can
+
+pub invariant_of-self : goal.invariant_of-self
+invariant_of-self g c =
+    subst (λ (laid : MemoTreeValue). IsKeptWithin laid c.self.inside.most_kept) (sym c.in_err-reversal.ensures.unchanged) c.self.invariant
+
+pub returns-in_err-reversal-clause-unchanged : goal.returns-in_err-reversal-clause-unchanged
+returns-in_err-reversal-clause-unchanged g c =
+    on_err c.from_residual.result (ap (λ (laid : MemoTreeValue). session_of laid c.self.inside.swept_cells) c.in_err-reversal.ensures.unchanged ∙ c.self.view_is)
+
+pub returns-in_err-reversal-clause-noted : goal.returns-in_err-reversal-clause-noted
+returns-in_err-reversal-clause-noted g c = ap (λ (s : KeptSession). s.swept_cells) c.self.view_is
+
+pub returns-in_err-reversal-clause-few : goal.returns-in_err-reversal-clause-few
+returns-in_err-reversal-clause-few g c =
+    subst (λ (laid : MemoTreeValue). kept_count laid.memo ≤ 262_144) (sym c.in_err-reversal.ensures.unchanged) c.self.invariant.few
+
+pub returns-in-Ok-clause-accepted : goal.returns-in-Ok-clause-accepted
+returns-in-Ok-clause-accepted g c = ap (λ (s : KeptSession). refusal_of s.held.tree c.args.edit) (sym c.self.view_is) ∙ c.in_ok-reversal.ensures.accepted
+
+pub returns-in-Ok-clause-edited : goal.returns-in-Ok-clause-edited
+returns-in-Ok-clause-edited g c =
+    let tree = c.seal-made.ensures.tree ∙ c.relay.ensures.tree ∙ c.in_ok-reversal.ensures.tree in
+    let metrics = c.seal-made.ensures.metrics ∙ c.relay.ensures.metrics ∙ c.change.ensures.metrics in
+    let held : (session_of c.seal-made.new.self c.self.inside.swept_cells).held ≡ edited_session (session_of c.self.inside.layouts c.self.inside.swept_cells).held c.args.edit =
+    λ i. record { tree = tree i; metrics = metrics i } in
+    held ∙ ap (λ (s : KeptSession). edited_session s.held c.args.edit) c.self.view_is
+
+pub returns-in-Ok-clause-fit : goal.returns-in-Ok-clause-fit
+returns-in-Ok-clause-fit g c = c.seal-made.ensures.sealed.fit
+
+pub returns-in-Ok-clause-back : goal.returns-in-Ok-clause-back
+returns-in-Ok-clause-back g c = c.in_ok-reversal.ensures.back ∙ ap (λ (s : KeptSession). inverse s.held.tree c.args.edit) c.self.view_is
+
+pub returns-in-Ok-clause-noted : goal.returns-in-Ok-clause-noted
+returns-in-Ok-clause-noted g c = ap (λ (s : KeptSession). s.swept_cells) c.self.view_is
+
+pub returns-in-Ok-clause-unlaid : goal.returns-in-Ok-clause-unlaid
+returns-in-Ok-clause-unlaid g c = λ refused. absurd (refused (returns-in-Ok-clause-accepted g c))
+
+pub invariant_of-self-in-Err : goal.invariant_of-self-in-Err
+invariant_of-self-in-Err g c =
+    let undone = c.undo_pass.ensures.before ∙ c.relay.ensures.before in
+    let same = c.undo_change.ensures ∙ ap (reversed c.in_ok-reversal.reversal) undone ∙ c.in_ok-reversal.ensures.reversal.gives in
+    subst (λ (laid : MemoTreeValue). IsKeptWithin laid c.self.inside.most_kept) (sym same) c.self.invariant
+
+pub returns-in-Err-clause-unchanged : goal.returns-in-Err-clause-unchanged
+returns-in-Err-clause-unchanged g c =
+    let undone = c.undo_pass.ensures.before ∙ c.relay.ensures.before in
+    let same = c.undo_change.ensures ∙ ap (reversed c.in_ok-reversal.reversal) undone ∙ c.in_ok-reversal.ensures.reversal.gives in
+    ap (λ (laid : MemoTreeValue). session_of laid c.self.inside.swept_cells) same ∙ c.self.view_is
+
+pub returns-in-Err-clause-noted : goal.returns-in-Err-clause-noted
+returns-in-Err-clause-noted g c = ap (λ (s : KeptSession). s.swept_cells) c.self.view_is
+
+pub returns-in-Err-clause-few : goal.returns-in-Err-clause-few
+returns-in-Err-clause-few g c = (invariant_of-self-in-Err g c).few
+
+pub returns-in-Err-clause-unlaid : goal.returns-in-Err-clause-unlaid
+returns-in-Err-clause-unlaid g c = λ refused. absurd (refused (ap (λ (s : KeptSession). refusal_of s.held.tree c.args.edit) (sym c.self.view_is) ∙ c.in_ok-reversal.ensures.accepted))
+
+pub returns-in_err-reversal-clause-unlaid : goal.returns-in_err-reversal-clause-unlaid
+returns-in_err-reversal-clause-unlaid g c = λ refused. refl
+
+pub returns-in_err-reversal-clause-steps : goal.returns-in_err-reversal-clause-steps
+returns-in_err-reversal-clause-steps g c = λ accepted. record { pairs = []; steps = omega arith; needed = tt; apart = tt }
+
+pub returns-in-Err-clause-refused : goal.returns-in-Err-clause-refused
+returns-in-Err-clause-refused g c =
+    let old = (session_of c.self.inside.layouts c.self.inside.swept_cells).held in
+    let cause = cause_of_layout old c.args.edit c.in-Err.refusal c.in_ok-reversal.ensures.accepted
+    (λ (is : c.in-Err.refusal ≡ Range). unfit c.change.new.self.metrics old.metrics c.change.new.self.tree (edited old.tree c.args.edit) c.change.ensures.metrics c.in_ok-reversal.ensures.tree (c.in-Err.ensures.range (ap Err is))) in
+    subst (λ (s : KeptSession). IsCause s.held c.args.edit c.into.result) c.self.view_is (subst (IsCause old c.args.edit) (sym c.into.ensures) cause)

@@ -21,7 +21,7 @@ use Rattle.std.specs.declared.option.Option.TheVariants.{Some}
 use Rattle.std.specs.contracts.alloc.Global as heap
 use Rattle.std.proofs.alloc.Global.TheLaws as heap_laws
 use Rattle.std.specs.contracts.impls.GlobalAllocator.TheImpl.{ghosts}
-use Rattle.loose_box.proofs.Values.{both, Loose, loose_good, loose_out}
+use Rattle.embed.proofs.LooseValues.{both, Loose, loose_good, loose_out}
 use Rattle.embed.proofs.FontFields.{word, font_in}
 use Rattle.font_metrics.specs.contracts.metrics.Metrics.{the_row as R}
 use Rattle.embed.specs.contracts.font.Font.of as f

@@ -1,12 +1,5 @@
 //! A box taken apart to its raw pointer, and made a box again, over any type. What C holds of a
-//! value between two calls is such a pointer.
-//!
-//! - Models: `Box::into_raw` and `Box::from_raw` of std.
-//! - Proved: a box that is made again has the value that it had. Both proofs are by hand.
-//! - Knows nothing of: C, and what the box keeps.
-//! - Change what is owned: `Loose`'s model, then both proofs.
-#![tactic(auto)]
-
+//! value between two calls is such a pointer. Both proofs are by hand.
 ghost use Rattle.std.specs.Prelude.{◌≡◌};
 ghost use Rattle.std.specs.Box.Ownership.{box_owns};
 
