@@ -1,27 +1,15 @@
 -- Maps that are made again, by what contracts see of them.
-use Rattle.std.proofs.Common.{◌≡◌, ◌∙◌, ap, refl, sym, subst, ℕ, List, [], ◌∷◌, ◌++◌, String, string_bytes, Vec}
+use Rattle.std.proofs.Common.{◌≡◌, ◌∙◌, ap, refl, sym, subst, ℕ, List, [], ◌∷◌, ◌++◌, Vec}
 use Rattle.std.specs.BTreeMap.{insert_entry}
-use Rattle.std.specs.List.{AllZip}
 use Rattle.std.specs.List.Sorted.{IsStrictlySortedBy}
 use Rattle.std.specs.Map.{keys_of}
 use Rattle.std.specs.Ordering.{nat_cmp}
 use Rattle.std.specs.declared.alloc.Global.{Global}
 use Rattle.std.proofs.lemmas.List.{append_assoc}
-use Rattle.font_metrics.specs.declared.glyph.Measures.{Measures}
-use Rattle.font_metrics.specs.Kept.{named_glyph, named_glyphs}
 use Rattle.font_metrics.specs.Listed.{lists_of_entries}
 use Rattle.font_metrics.specs.Metrics.{ByGlyph}
 use Rattle.font_metrics.proofs.Listed.{lists-insert}
 use Rattle.font_metrics.proofs.Filled.{sorted-middle, insert-above}
-
--- names of the same bytes, with the same measures
-pub named-same : (es fs : List (String Global × Measures))
-    → AllZip (λ p q. (string_bytes q.0 ≡ string_bytes p.0) × (q.1 ≡ p.1)) es fs
-    → named_glyphs fs ≡ named_glyphs es
-named-same [] [] h = refl
-named-same [] (f ∷ fs) h = absurd h
-named-same (e ∷ es) [] h = absurd h
-named-same (e ∷ es) (f ∷ fs) h = λ i. named_glyph (h.0.0 i) (h.0.1 i) ∷ named-same es fs h.1 i
 
 keys-lists : {X : Type 0} (es : List (ℕ × Vec X Global)) → keys_of (lists_of_entries es) ≡ keys_of es
 keys-lists [] = refl

@@ -2,12 +2,11 @@
 use Rattle.std.proofs.Common.{◌≡◌, ◌∙◌, ap, sym, subst, ◌≤◌, codes, Some, Ok, refl}
 use Rattle.std.specs.Option.{IfSome, IsSome}
 use Rattle.font_metrics.specs.declared.fault.LineFault.TheVariants.{NoUpem, NoLine, NoXHeight, NoMissing}
-use Rattle.font_metrics.specs.declared.given.Given.{Given}
 use Rattle.font_metrics.specs.declared.given.Needed.{Needed}
 use Rattle.font_metrics.specs.declared.metrics.Metrics.TheInside.{Inside}
 use Rattle.font_metrics.specs.Faults.{or_fault}
 use Rattle.font_metrics.specs.Metrics.{place_of_name}
-use Rattle.font_metrics.specs.Whole.{needed, metrics_with, IsUpem, IsLine, IsGiven, IsWhole, value_of}
+use Rattle.font_metrics.specs.Whole.{Given, needed, metrics_with, IsUpem, IsLine, IsGiven, IsWhole, value_of}
 use Rattle.font_metrics.specs.Taken.{IsTaken}
 use Rattle.font_metrics.proofs.Steps.{same_Ok, had, found}
 

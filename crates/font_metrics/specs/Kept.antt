@@ -1,6 +1,6 @@
--- What the maps of a reader stand for.
-use Rattle.std.specs.Prelude.{ℕ, pos, List, map, String, string_bytes}
-use Rattle.std.specs.declared.alloc.Global.{Global}
+-- What is kept of a glyph, and what it stands for.
+use Rattle.std.specs.Prelude.{ℕ, pos, List}
+use Rattle.font_metrics.specs.declared.given.Given.{Given}
 use Rattle.font_metrics.specs.declared.glyph.Glyph.{Glyph}
 use Rattle.font_metrics.specs.declared.glyph.Measures.{Measures}
 use Rattle.font_metrics.specs.Metrics.{NamedGlyph}
@@ -18,6 +18,17 @@ glyph_of_measures m = record {
 abbrev pub named_glyph : List ℕ → Measures → NamedGlyph
 named_glyph name m = record { name = name; glyph = glyph_of_measures m }
 
--- the entries of the map of glyphs, in order
-abbrev pub named_glyphs : List (String Global × Measures) → List NamedGlyph
-named_glyphs entries = map (λ e. named_glyph (string_bytes e.0) e.1) entries
+-- what lines have given, with the glyphs in another table
+abbrev pub with_glyphs : {G H : Type 0} → Given G → H → Given H
+with_glyphs given glyphs = record {
+  version = given.version;
+  upem = given.upem;
+  line = given.line;
+  x_height = given.x_height;
+  overlap = given.overlap;
+  constants = given.constants;
+  glyphs = glyphs;
+  characters = given.characters;
+  tables = given.tables;
+  operators = given.operators;
+}

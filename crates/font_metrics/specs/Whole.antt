@@ -8,7 +8,7 @@ use Rattle.std.specs.Str.{bytes_eq}
 use Rattle.op_dictionary.specs.declared.extra.OperatorLine.{OperatorLine}
 use Rattle.op_dictionary.specs.Dictionary.{AreDistinct}
 use Rattle.font_metrics.specs.declared.fault.LineFault.TheVariants.{NoUpem, NoLine, NoXHeight, NoMissing}
-use Rattle.font_metrics.specs.declared.given.Given.{Given}
+use Rattle.font_metrics.specs.declared.given.Given.{Given as GivenOver}
 use Rattle.font_metrics.specs.declared.given.Needed.{Needed}
 use Rattle.font_metrics.specs.declared.metrics.Metrics.TheInside.{Inside}
 use Rattle.font_metrics.specs.Faults.{Step, ◌>>=◌, or_fault}
@@ -16,6 +16,10 @@ use Rattle.font_metrics.specs.Metrics.{NamedGlyph, MetricsValue, place_of_name}
 use Rattle.font_metrics.specs.declared.table.Table.{Table}
 use Rattle.font_metrics.specs.Tables.{AreFilled, slot, entries}
 use Rattle.font_metrics.specs.Taken.{IsVersion, IsGlyph, IsConstant, IsCharacter, IsOperatorText, names_of, most_glyphs}
+
+-- what lines have given, with the glyphs in file order
+abbrev pub Given : Type 0
+Given = GivenOver (List NamedGlyph)
 
 -- ---- what holds of all that lines have given: `IsTaken`, where they have given it
 

@@ -2,6 +2,7 @@
 ghost use Rattle.std.specs.Prelude.{◌≡◌, IfOk, Ok};
 
 use crate::given::Given;
+use crate::glyphs::GlyphTable;
 use crate::growth::{Part, Variant};
 use crate::kern::Kern;
 use crate::kern_tables::KernTables;
@@ -77,13 +78,13 @@ impl Tables {
     }
 }
 
-impl Given {
+impl Given<GlyphTable> {
     /// The same again.
-    pub fn copy(&self, alloc: Global) -> Result<Given, Memory>
+    pub fn copy(&self, alloc: Global) -> Result<Given<GlyphTable>, Memory>
         ensures { IfOk result (λ copied. copied ≡ self.now) }
     {
         let copied = both(
-            both(self.constants.copy(), self.glyphs.copy()),
+            both(self.constants.copy(), self.glyphs.copy(alloc)),
             both(
                 self.characters.copy(),
                 both(self.tables.copy(alloc), copied_lines(&self.operators)),

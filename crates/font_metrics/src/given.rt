@@ -1,12 +1,15 @@
+ghost use Rattle.std.specs.Prelude.{◌≡◌};
+ghost use Rattle.font_metrics.specs.Kept.{with_glyphs};
+
 use crate::characters::CharacterMap;
 use crate::constant_table::ConstantTable;
-use crate::glyphs::GlyphTable;
 use crate::table::Tables;
 use op_dictionary::Extra;
 
-/// What the lines of a file have given so far.
+/// What the lines of a file have given so far, with the glyphs in a table `G`: a reader's, which
+/// finds them by name, or the one that metrics keep.
 #[derive(Drop)]
-pub struct Given {
+pub struct Given<G> {
     /// The version of the file, 1 or 2.
     pub version: u8,
     pub upem: Option<u16>,
@@ -14,7 +17,7 @@ pub struct Given {
     pub x_height: Option<u16>,
     pub overlap: Option<u16>,
     pub constants: ConstantTable,
-    pub glyphs: GlyphTable,
+    pub glyphs: G,
     pub characters: CharacterMap,
     pub tables: Tables,
     pub operators: Extra,
@@ -27,4 +30,26 @@ pub struct Needed {
     pub line: (u16, u16),
     pub x_height: u16,
     pub missing: u16,
+}
+
+impl<G> Given<G> {
+    /// The same with another table of glyphs.
+    pub fn with_glyphs<H>(self, glyphs: H) -> Given<H>
+    where
+        G: Drop,
+        ensures { result ≡ with_glyphs self glyphs }
+    {
+        Given {
+            version: self.version,
+            upem: self.upem,
+            line: self.line,
+            x_height: self.x_height,
+            overlap: self.overlap,
+            constants: self.constants,
+            glyphs,
+            characters: self.characters,
+            tables: self.tables,
+            operators: self.operators,
+        }
+    }
 }

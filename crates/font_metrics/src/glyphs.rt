@@ -1,17 +1,65 @@
-ghost use Rattle.std.specs.Prelude.{◌≡◌, ◌<◌, ◌≤◌, [], ◌∷◌, ◌++◌, length, None, Some, option_map, IfOk, OnOk, OnErr};
-ghost use Rattle.font_metrics.specs.Metrics.{place_of_name, glyph_in_list, name_in_list};
+ghost use Rattle.std.specs.Prelude.{◌≡◌, ◌<◌, [], ◌∷◌, ◌++◌, length, string_bytes, IfOk, OnOk};
+ghost use Rattle.font_metrics.specs.Metrics.{glyph_in_list, name_in_list};
 ghost use Rattle.font_metrics.specs.Kept.{named_glyph};
 
+use crate::copy::{Copied, copied_items};
 use crate::glyph::{Glyph, Measures};
 use fixed_units::Memory;
-use indexmap::IndexMap;
 use std::alloc::Global;
 use std::marker::Model;
+
+/// A glyph under the name that a file gives it.
+#[derive(Drop)]
+pub struct NamedGlyph {
+    name: String,
+    measures: Measures,
+}
+
+impl Model for NamedGlyph {
+    ghost use Rattle.std.specs.Prelude.{string_bytes};
+    ghost use Rattle.font_metrics.specs.Metrics.{NamedGlyph};
+
+    ghost Value = { NamedGlyph };
+
+    ghost use Rattle.font_metrics.specs.Kept.{named_glyph};
+
+    ghost view = { λ glyph. named_glyph (string_bytes glyph.name) glyph.measures };
+}
+
+impl NamedGlyph {
+    /// The glyph of that name with these measures.
+    fn of(name: String, measures: Measures) -> NamedGlyph
+        ensures { result ≡ named_glyph (string_bytes name) measures }
+    {
+        NamedGlyph { name, measures }
+    }
+
+    fn glyph(&self) -> Glyph
+        ensures { result ≡ self.now.glyph }
+    {
+        self.measures.glyph()
+    }
+
+    fn name(&self) -> &str
+        ensures { result.now ≡ self.now.name }
+    {
+        self.name.as_str()
+    }
+}
+
+impl Copied for NamedGlyph {
+    fn copied(&self, _alloc: Global) -> Result<NamedGlyph, Memory> {
+        Ok(NamedGlyph {
+            name: self.name.clone()?,
+            measures: self.measures,
+        })
+    }
+}
 
 /// The glyphs of a file in file order, each with its own name. Contracts see their list.
 #[derive(Drop)]
 pub struct GlyphTable {
-    measures: IndexMap<String, Measures>,
+    glyphs: Vec<NamedGlyph>,
 }
 
 impl Model for GlyphTable {
@@ -20,9 +68,7 @@ impl Model for GlyphTable {
 
     ghost Value = { List NamedGlyph };
 
-    ghost use Rattle.font_metrics.specs.Kept.{named_glyphs};
-
-    ghost view = { λ table. named_glyphs table.measures.entries };
+    ghost view = { λ table. table.glyphs.items };
 }
 
 impl GlyphTable {
@@ -31,16 +77,16 @@ impl GlyphTable {
         ensures { result ≡ [] }
     {
         GlyphTable {
-            measures: IndexMap::new(alloc),
+            glyphs: Vec::new(alloc),
         }
     }
 
     /// The same glyphs again.
-    pub fn copy(&self) -> Result<GlyphTable, Memory>
+    pub fn copy(&self, alloc: Global) -> Result<GlyphTable, Memory>
         ensures { IfOk result (λ copied. copied ≡ self.now) }
     {
         Ok(GlyphTable {
-            measures: self.measures.clone()?,
+            glyphs: copied_items(alloc, self.glyphs.as_slice())?,
         })
     }
 
@@ -48,24 +94,15 @@ impl GlyphTable {
     pub fn len(&self) -> usize
         ensures { result ≡ length self.now }
     {
-        self.measures.len()
+        self.glyphs.len()
     }
 
-    /// The place of the glyph of that name.
-    pub fn place(&self, name: &str) -> Option<usize>
-        ensures { result ≡ place_of_name self.now name.now }
+    /// Adds a glyph at the end.
+    pub fn add(&mut self, name: String, measures: Measures) -> Result<(), Memory>
+        ensures { OnOk result
+            (self.new ≡ self.old ++ named_glyph (string_bytes name) measures ∷ []) }
     {
-        self.measures.get_index_of(name)
-    }
-
-    /// Adds a glyph at the end, under a name that isn't there yet.
-    pub fn add(&mut self, alloc: Global, name: &str, measures: Measures) -> Result<(), Memory>
-        requires { place_of_name self.old name.now ≡ None }
-        ensures ok { OnOk result (self.new ≡ self.old ++ named_glyph name.now measures ∷ []) }
-        ensures err { OnErr result (self.new ≡ self.old) }
-    {
-        let name = String::from_str(alloc, name)?;
-        self.measures.insert(name, measures)?;
+        self.glyphs.push(NamedGlyph::of(name, measures))?;
         Ok(())
     }
 
@@ -74,8 +111,7 @@ impl GlyphTable {
         requires { place < length self.now }
         ensures { result ≡ glyph_in_list self.now place }
     {
-        let (_, measures) = self.measures.get_index(place).unwrap();
-        measures.glyph()
+        self.glyphs.as_slice()[place].glyph()
     }
 
     /// The name of the glyph at a place.
@@ -83,7 +119,6 @@ impl GlyphTable {
         requires { place < length self.now }
         ensures { result.now ≡ name_in_list self.now place }
     {
-        let (name, _) = self.measures.get_index(place).unwrap();
-        name.as_str()
+        self.glyphs.as_slice()[place].name()
     }
 }

@@ -45,7 +45,7 @@ pub use corner::Corner;
 pub use fault::LineFault;
 pub use given::{Given, Needed};
 pub use glyph::{Glyph, GlyphId, Measures};
-pub use glyphs::GlyphTable;
+pub use glyphs::{GlyphTable, NamedGlyph};
 pub use growth::{Part, Variant};
 pub use kern::{Kern, KernStep};
 pub use kern_tables::KernTables;

@@ -25,7 +25,7 @@ use std::marker::Model;
 #[derive(Drop)]
 pub struct Metrics {
     pub(crate) needs: Needed,
-    pub(crate) given: Given,
+    pub(crate) given: Given<GlyphTable>,
 }
 
 impl Model for Metrics {
@@ -42,7 +42,7 @@ impl Model for Metrics {
 
 impl Metrics {
     /// The metrics of what a file gave, and of what of it had to be there. It takes no memory.
-    pub fn of(needs: Needed, given: Given) -> Metrics
+    pub fn of(needs: Needed, given: Given<GlyphTable>) -> Metrics
         requires given { IsGiven given }
         requires needs { needed given ≡ Ok needs }
         ensures { result ≡ metrics_with needs given }

@@ -7,7 +7,7 @@ use Rattle.std.specs.List.{list_all, slice_split, onto_first, position_or_len}
 use Rattle.std.specs.Str.Lines.{lines, lines_of_parts, strip_carriage_return}
 use Rattle.metrics_file.specs.declared.keyword.Keyword.{Keyword}
 use Rattle.metrics_file.specs.declared.keyword.Keyword.TheVariants.{Kern as KernOf, Unknown}
-use Rattle.font_metrics.specs.declared.given.Given.{Given}
+use Rattle.font_metrics.specs.Whole.{Given}
 use Rattle.font_metrics.specs.Slot.{Words}
 use Rattle.metrics_file.specs.Lines.{Item, says_kern, are_pairs, kern_with, keyword_of, known_in, item_in}
 use Rattle.font_metrics.specs.Metrics.{NamedGlyph}

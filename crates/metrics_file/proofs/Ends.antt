@@ -1,11 +1,10 @@
 -- The end of a file.
 use Rattle.std.proofs.Common.{◌≡◌, ap, Ok, Err}
 use Rattle.font_metrics.specs.declared.fault.LineFault.{LineFault}
-use Rattle.font_metrics.specs.declared.given.Given.{Given}
 use Rattle.font_metrics.specs.declared.given.Needed.{Needed}
 use Rattle.font_metrics.specs.Faults.{Step, step_map}
 use Rattle.font_metrics.specs.Metrics.{MetricsValue}
-use Rattle.font_metrics.specs.Whole.{needed, metrics_with}
+use Rattle.font_metrics.specs.Whole.{Given, needed, metrics_with}
 use Rattle.metrics_file.specs.Reading.{finished}
 
 -- the end of a file, by what it needs

@@ -5,7 +5,6 @@ use Rattle.font_metrics.specs.declared.constants.ConstName.{ConstName}
 use Rattle.font_metrics.specs.declared.constants.ConstName.TheVariants.{ScriptPercentScaleDown}
 use Rattle.font_metrics.specs.declared.fault.LineFault.{LineFault}
 use Rattle.font_metrics.specs.declared.fault.LineFault.TheVariants.{ForeignByte, NoUpem, NoLine, NoXHeight, NoMissing}
-use Rattle.font_metrics.specs.declared.given.Given.{Given}
 use Rattle.font_metrics.specs.declared.given.Needed.{Needed}
 use Rattle.font_metrics.specs.declared.table.Table.{Table}
 use Rattle.font_metrics.specs.Constants.{place_of_constant}
@@ -15,7 +14,7 @@ use Rattle.font_metrics.specs.Slot.{Words}
 use Rattle.metrics_file.specs.Lines.{Item, keyword_of, known_in, item_in}
 use Rattle.font_metrics.specs.Metrics.{MetricsValue, place_of_name, items_of}
 use Rattle.metrics_file.specs.Reading.{Fault, fault_at, nothing, allowed, put, is_foreign, is_comment, first_in, words_of, after_words, after, after_first, finished, numbered, lines_of, metrics_of}
-use Rattle.font_metrics.specs.Whole.{needed_of, needed, metrics_with, IsGiven}
+use Rattle.font_metrics.specs.Whole.{Given, needed_of, needed, metrics_with, IsGiven}
 use Rattle.font_metrics.specs.Tables.{entries}
 use Rattle.font_metrics.specs.Taken.{IsTaken}
 use Rattle.metrics_file.proofs.Cuts.{is_feed, last_line, next_line}

@@ -6,7 +6,7 @@ use Rattle.std.specs.Str.Lines.{lines}
 use Rattle.font_metrics.specs.declared.fault.LineFault.{LineFault}
 use Rattle.metrics_file.specs.declared.refusal.LineRefusal.{LineRefusal}
 use Rattle.metrics_file.specs.declared.refusal.LineRefusal.TheVariants.{Fault as FaultyLine, Memory as NoMemory}
-use Rattle.font_metrics.specs.declared.given.Given.{Given}
+use Rattle.font_metrics.specs.Whole.{Given}
 use Rattle.font_metrics.specs.Faults.{Step}
 use Rattle.font_metrics.specs.Metrics.{MetricsValue}
 use Rattle.metrics_file.specs.Reading.{Fault, fault_at, fault_or, nothing, after, after_first, kept, given_from, given_by, first_fault_behind, finished, numbered, metrics_or, lines_of, metrics_of}

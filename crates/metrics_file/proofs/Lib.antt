@@ -1,5 +1,6 @@
 mod Digits
 mod Names
+mod NamedGlyphs
 mod Cuts
 mod Pairs
 mod EachKind

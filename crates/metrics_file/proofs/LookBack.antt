@@ -6,7 +6,7 @@ use Rattle.std.specs.Ordering.{nat_cmp}
 use Rattle.op_dictionary.specs.declared.extra.OperatorLine.{OperatorLine}
 use Rattle.op_dictionary.specs.Dictionary.{is_named}
 use Rattle.font_metrics.specs.declared.fault.LineFault.TheVariants.{Repeated, TooMany}
-use Rattle.font_metrics.specs.declared.given.Given.{Given}
+use Rattle.font_metrics.specs.Whole.{Given}
 use Rattle.font_metrics.specs.declared.table.Table.{Table}
 use Rattle.font_metrics.specs.Faults.{◌>>=◌, fault_if}
 use Rattle.metrics_file.specs.Laws.{upem_said, line_said, x_height_said, overlap_said, constant_said, glyph_said, character_said, entry_said, operator_said, one_if, said, is_said, listed, allowed_behind}

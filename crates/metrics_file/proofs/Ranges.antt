@@ -8,7 +8,6 @@ use Rattle.std.proofs.lemmas.List.Elements.{All-nil, All-weaker}
 use Rattle.std.specs.List.{IsDistinct}
 use Rattle.std.specs.List.Sorted.{IsStrictlySortedBy}
 use Rattle.font_metrics.specs.declared.fault.LineFault.TheVariants.{ForeignByte, WrongFirstLine, UnknownWord, Repeated, TooMany}
-use Rattle.font_metrics.specs.declared.given.Given.{Given}
 use Rattle.metrics_file.specs.declared.keyword.Keyword.{Keyword}
 use Rattle.metrics_file.specs.declared.keyword.Keyword.TheVariants.{Upem, Line, XHeight, Overlap, Constant, Glyph, Char, Variants as VariantsOf, Parts as PartsOf, Kern as KernOf, Operator, Unknown}
 use Rattle.font_metrics.specs.Faults.{fault_if}
@@ -20,7 +19,7 @@ use Rattle.font_metrics.specs.declared.table.Table.TheVariants.{Variants, Parts}
 use Rattle.font_metrics.specs.declared.table.Table.{Table}
 use Rattle.font_metrics.specs.Tables.{slot, entries, AreFilled, IsSound}
 use Rattle.font_metrics.specs.Taken.{IsVersion, IsGlyph, IsConstant, IsCharacter, IsTable, IsOperatorText}
-use Rattle.font_metrics.specs.Whole.{IsUpem, IsLine, IsGiven, AreConstants, AreGlyphs, AreCharacters, AreOperators}
+use Rattle.font_metrics.specs.Whole.{Given, IsUpem, IsLine, IsGiven, AreConstants, AreGlyphs, AreCharacters, AreOperators}
 use Rattle.metrics_file.proofs.TableKinds.Each.{kind}
 use Rattle.metrics_file.proofs.TableKinds.Variants.{variant_range}
 use Rattle.metrics_file.proofs.TableKinds.Parts.{part_range}

@@ -1,4 +1,5 @@
 pub mod Words
+pub mod NamedGlyphs
 pub mod Fields
 pub mod Lines
 pub mod Reading

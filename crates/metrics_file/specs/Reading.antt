@@ -11,7 +11,6 @@ use Rattle.op_dictionary.specs.Dictionary.{is_named}
 use Rattle.font_metrics.specs.declared.fault.LineFault.{LineFault}
 use Rattle.font_metrics.specs.declared.fault.LineFault.TheVariants.{ForeignByte, WrongFirstLine, Repeated, TooMany, NotRising}
 use Rattle.font_metrics.specs.declared.corner.Corner.{Corner}
-use Rattle.font_metrics.specs.declared.given.Given.{Given}
 use Rattle.font_metrics.specs.declared.kern.Kern.{Kern}
 use Rattle.font_metrics.specs.declared.kern_tables.KernTables.{KernTables}
 use Rattle.metrics_file.specs.declared.keyword.Keyword.{Keyword}
@@ -22,7 +21,7 @@ use Rattle.metrics_file.specs.Lines.{Item, SaysUpem, SaysLine, SaysXHeight, Says
 use Rattle.font_metrics.specs.Metrics.{MetricsValue, ByGlyph, ByAxis, along, kerns_at, with_kerns_at, with_item, with_item_along, is_full, place_of_name}
 use Rattle.font_metrics.specs.Tables.{slot, entries, with_entry, no_tables}
 use Rattle.font_metrics.specs.Taken.{most_glyphs}
-use Rattle.font_metrics.specs.Whole.{needed, metrics_with}
+use Rattle.font_metrics.specs.Whole.{Given, needed, metrics_with}
 
 -- the most bytes that a file may have: 8 MiB
 abbrev pub most_file_bytes : ℕ

@@ -1,6 +1,5 @@
 -- What reading answers.
 use Rattle.std.specs.Prelude.{◌≡◌, ℕ, List, [], ◌∷◌, Result, Ok, Err}
-use Rattle.font_metrics.specs.declared.given.Given.{Given}
 use Rattle.font_metrics.specs.declared.given.Needed.{Needed}
 use Rattle.metrics_file.specs.declared.refusal.LineRefusal.{LineRefusal}
 use Rattle.metrics_file.specs.declared.refusal.LineRefusal.TheVariants.{Fault as FaultyLine, Memory as NoMemory}
@@ -10,7 +9,7 @@ use Rattle.metrics_file.specs.declared.refusal.MetricsRefusal.TheVariants.{Fault
 use Rattle.font_metrics.specs.Faults.{Step, number_of_fault}
 use Rattle.font_metrics.specs.Metrics.{MetricsValue}
 use Rattle.metrics_file.specs.Reading.{Fault, fault_at, after_first}
-use Rattle.font_metrics.specs.Whole.{needed, metrics_with, IsGiven}
+use Rattle.font_metrics.specs.Whole.{Given, needed, metrics_with, IsGiven}
 
 -- a fault as it is told: the line's number and the number of the fault's kind
 abbrev pub told : Fault → MetricsFault

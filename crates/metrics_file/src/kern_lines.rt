@@ -4,11 +4,12 @@ ghost use Rattle.metrics_file.specs.Reads.{Gives};
 
 use crate::choices::corner;
 use crate::lines::reach;
+use crate::named_glyphs::NamedGlyphs;
 use crate::named_lines::named;
 use crate::refusal::LineRefusal;
 use crate::steps::{both, fault_if};
 use fixed_units::List;
-use font_metrics::{Corner, GlyphTable, Kern, KernStep, LineFault};
+use font_metrics::{Corner, Kern, KernStep, LineFault};
 use std::alloc::Global;
 
 /// The most words of heights and values of a kern.
@@ -17,7 +18,7 @@ const MOST_STEP_WORDS: usize = 32;
 /// `BASE TR|TL|BR|BL VALUE [HEIGHT VALUE]..`: a corner, the base's place, and its kern there.
 pub fn kern_line(
     alloc: Global,
-    glyphs: &GlyphTable,
+    glyphs: &NamedGlyphs,
     fields: &[&[u8]],
 ) -> Result<(Corner, (u16, Kern)), LineRefusal>
     requires { length glyphs.now ≤ 65535 }
@@ -41,7 +42,7 @@ fn are_pairs(words: &[&[u8]]) -> bool
 
 fn kern_with(
     alloc: Global,
-    glyphs: &GlyphTable,
+    glyphs: &NamedGlyphs,
     base: &[u8],
     at: &[u8],
     lowest: &[u8],

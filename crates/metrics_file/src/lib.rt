@@ -20,6 +20,7 @@ mod kern_lines; // lines of kerns
 mod keyword; // the first word of a line
 pub mod laws; // of all files: what their lines say, their first fault, their print
 mod lines; // the fields of each kind of line
+mod named_glyphs; // NamedGlyphs: glyphs by name, while a file is read
 mod named_lines; // those that name a glyph
 mod pieces; // lines of a file, words of a line
 mod print; // print_metrics

@@ -5,13 +5,14 @@ ghost use Rattle.metrics_file.specs.Said.{item_of};
 
 use crate::choices::extender;
 use crate::lines::length;
+use crate::named_glyphs::NamedGlyphs;
 use crate::said::Said;
 use crate::steps::both;
 use crate::words::{glyph_name, letter};
-use font_metrics::{GlyphId, GlyphTable, LineFault, Part, Variant};
+use font_metrics::{GlyphId, LineFault, Part, Variant};
 
 /// `char CODE NAME`: a character, and the place of the glyph of that name.
-pub fn character_line<'a>(glyphs: &GlyphTable, fields: &[&'a [u8]]) -> Result<Said<'a>, LineFault>
+pub fn character_line<'a>(glyphs: &NamedGlyphs, fields: &[&'a [u8]]) -> Result<Said<'a>, LineFault>
     requires { length glyphs.now ≤ 65535 }
     ensures { step_map item_of result
         ≡ step_map SaysCharacter (character_in glyphs.now (lent fields.now)) }
@@ -23,7 +24,7 @@ pub fn character_line<'a>(glyphs: &GlyphTable, fields: &[&'a [u8]]) -> Result<Sa
 }
 
 /// `BASE VARIANT MEASURE`: the base's place, and its variant.
-pub fn variant_line(glyphs: &GlyphTable, fields: &[&[u8]]) -> Result<(u16, Variant), LineFault>
+pub fn variant_line(glyphs: &NamedGlyphs, fields: &[&[u8]]) -> Result<(u16, Variant), LineFault>
     requires { length glyphs.now ≤ 65535 }
     ensures { result ≡ variant_in glyphs.now (lent fields.now) }
 {
@@ -34,7 +35,7 @@ pub fn variant_line(glyphs: &GlyphTable, fields: &[&[u8]]) -> Result<(u16, Varia
 }
 
 fn variant_with(
-    glyphs: &GlyphTable,
+    glyphs: &NamedGlyphs,
     base: &[u8],
     variant: &[u8],
     measure: &[u8],
@@ -52,7 +53,7 @@ fn variant_with(
 }
 
 /// `BASE PART FIX|EXT START END FULL`: the base's place, and a part of its assembly.
-pub fn part_line(glyphs: &GlyphTable, fields: &[&[u8]]) -> Result<(u16, Part), LineFault>
+pub fn part_line(glyphs: &NamedGlyphs, fields: &[&[u8]]) -> Result<(u16, Part), LineFault>
     requires { length glyphs.now ≤ 65535 }
     ensures { result ≡ part_in glyphs.now (lent fields.now) }
 {
@@ -66,7 +67,7 @@ pub fn part_line(glyphs: &GlyphTable, fields: &[&[u8]]) -> Result<(u16, Part), L
 }
 
 fn part_with(
-    glyphs: &GlyphTable,
+    glyphs: &NamedGlyphs,
     name: &[u8],
     role: &[u8],
     start: &[u8],
@@ -89,7 +90,7 @@ fn part_with(
 }
 
 /// The place of a glyph that a line before has named.
-pub fn named(glyphs: &GlyphTable, word: &[u8]) -> Result<u16, LineFault>
+pub fn named(glyphs: &NamedGlyphs, word: &[u8]) -> Result<u16, LineFault>
     requires { length glyphs.now ≤ 65535 }
     ensures { result ≡ named_in glyphs.now word.now }
 {

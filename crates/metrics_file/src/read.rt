@@ -1,12 +1,15 @@
-ghost use Rattle.std.specs.Prelude.{◌≤◌, length};
+ghost use Rattle.std.specs.Prelude.{◌≡◌, ◌≤◌, length, IfOk};
 ghost use Rattle.metrics_file.specs.Reads.{Reads, Begins};
 ghost use Rattle.metrics_file.specs.Reading.{lines_of, metrics_of, most_file_bytes};
 
+use crate::named_glyphs::{Given, NamedGlyphs};
 use crate::pieces::first_line;
 use crate::reader::{begun, take_lines};
 use crate::refusal::{LineRefusal, MetricsRefusal};
-use font_metrics::{Given, Metrics};
+use fixed_units::Memory;
+use font_metrics::{GlyphTable, Metrics};
 use std::alloc::Global;
+use std::mem;
 
 /// The most bytes that a metrics file may have: 8 MiB.
 pub const MOST_FILE_BYTES: usize = 8_388_608;
@@ -33,7 +36,16 @@ fn read_rest(alloc: Global, bytes: &[u8], mut given: Given) -> Result<Metrics, M
     ensures reads { Reads (metrics_of bytes.now) result }
 {
     match take_lines(&mut given, alloc, bytes) {
-        Ok(needs) => Ok(Metrics::of(needs, given)),
+        Ok(needs) => Ok(Metrics::of(needs, kept(alloc, given)?)),
         Err(refusal) => Err(refusal),
     }
+}
+
+/// What lines have given, with the glyphs as metrics keep them.
+fn kept(alloc: Global, mut given: Given) -> Result<font_metrics::Given<GlyphTable>, Memory>
+    ensures { IfOk result (λ kept. kept ≡ given) }
+{
+    let named = mem::replace(&mut given.glyphs, NamedGlyphs::new(alloc));
+    let glyphs = named.into_table(alloc)?;
+    Ok(given.with_glyphs(glyphs))
 }

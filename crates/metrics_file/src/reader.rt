@@ -8,12 +8,13 @@ ghost use Rattle.metrics_file.specs.Said.{IsOfNoTable};
 
 use crate::choices::choice_of;
 use crate::keyword::{Keyword, keyword_of};
+use crate::named_glyphs::Given;
 use crate::pieces::{LineWords, cut, first_line, is_comment, is_foreign};
 use crate::refusal::{LineRefusal, MetricsRefusal};
 use crate::said::line_says;
 use crate::taking::{allow, nothing, put, take_kern, take_part, take_variant};
 use crate::texts::is_text;
-use font_metrics::{Given, LineFault, Needed};
+use font_metrics::{LineFault, Needed};
 use std::alloc::Global;
 
 /// What the first line gives, from which the other lines begin. It takes no memory.

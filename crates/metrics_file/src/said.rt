@@ -7,8 +7,9 @@ use crate::keyword::Keyword;
 use crate::lines::{
     constant_line, extent_line, glyph_line, operator_line, overlap_line, upem_line, x_height_line,
 };
+use crate::named_glyphs::NamedGlyphs;
 use crate::named_lines::character_line;
-use font_metrics::{GlyphTable, LineFault, Measures};
+use font_metrics::{LineFault, Measures};
 use op_dictionary::OperatorLine;
 
 /// What a line of no table behind the first says. A glyph is given by its place.
@@ -31,7 +32,7 @@ pub enum Said<'a> {
 
 /// What a line of no table says, by its first word and its fields.
 pub fn line_says<'a>(
-    glyphs: &GlyphTable,
+    glyphs: &NamedGlyphs,
     keyword: Keyword,
     fields: &[&'a [u8]],
 ) -> Result<Said<'a>, LineFault>

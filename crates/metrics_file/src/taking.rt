@@ -9,13 +9,14 @@ ghost use Rattle.metrics_file.specs.Said.{item_of, HasLineText};
 ghost use Rattle.metrics_file.specs.declared.keyword.Keyword.TheVariants.{Variants as VariantsOf, Parts as PartsOf, Kern as KernOf};
 
 use crate::kern_lines::kern_line;
+use crate::named_glyphs::{Given, NamedGlyphs};
 use crate::named_lines::{part_line, variant_line};
 use crate::refusal::LineRefusal;
 use crate::said::Said;
 use crate::steps::fault_if;
 use crate::table_entries::{take_along, take_at};
 use fixed_units::Memory;
-use font_metrics::{CharacterMap, ConstantTable, Given, GlyphTable, LineFault, Tables};
+use font_metrics::{CharacterMap, ConstantTable, LineFault, Tables};
 use op_dictionary::{Axis, Extra, OperatorLine};
 use std::alloc::Global;
 
@@ -30,14 +31,14 @@ const MOST_PARTS: usize = 16;
 pub fn nothing(alloc: Global, version: u8) -> Given
     ensures { result ≡ nothing version }
 {
-    Given {
+    font_metrics::Given {
         version,
         upem: None,
         line: None,
         x_height: None,
         overlap: None,
         constants: ConstantTable::new(alloc),
-        glyphs: GlyphTable::new(alloc),
+        glyphs: NamedGlyphs::new(alloc),
         characters: CharacterMap::new(alloc),
         tables: Tables::new(alloc),
         operators: Extra::make(alloc),

@@ -11,7 +11,7 @@ use Rattle.op_dictionary.specs.Dictionary.{is_named, line_of, same_pair, AreDist
 use Rattle.font_metrics.specs.Slot.{Words}
 use Rattle.font_metrics.specs.Metrics.{NamedGlyph, ByGlyph, items_of, with_item}
 use Rattle.metrics_file.specs.Print.{constant_words, glyph_words, character_words, operator_words}
-use Rattle.font_metrics.specs.declared.given.Given.{Given}
+use Rattle.font_metrics.specs.Whole.{Given}
 use Rattle.font_metrics.specs.Taken.{IsGlyph, IsConstant, IsCharacter, IsOperatorText, names_of, most_glyphs}
 use Rattle.metrics_file.proofs.ReadBack.Feeds.{are_words}
 use Rattle.metrics_file.proofs.ReadBack.Fields.{AreNamed}

@@ -7,7 +7,7 @@ use Rattle.font_metrics.specs.declared.table.Table.{Table}
 use Rattle.font_metrics.specs.declared.table.Tables.{Tables}
 use Rattle.font_metrics.specs.Metrics.{MetricsValue, ByGlyph, items_of, with_item}
 use Rattle.metrics_file.specs.Print.{entry_words, table_lines, growth_lines}
-use Rattle.font_metrics.specs.declared.given.Given.{Given}
+use Rattle.font_metrics.specs.Whole.{Given}
 use Rattle.font_metrics.specs.Tables.{EntryOf, slot, entries, no_tables, all_tables, AreFilled, IsSound}
 use Rattle.font_metrics.specs.Taken.{IsEntry, IsTable}
 use Rattle.metrics_file.proofs.ReadBack.Fields.{AreNamed}

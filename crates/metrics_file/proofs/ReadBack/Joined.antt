@@ -7,7 +7,7 @@ use Rattle.std.proofs.lemmas.List.Elements.{All-from_recursion}
 use Rattle.std.proofs.lemmas.List.Splits.{slice_split_none, slice_split_at}
 use Rattle.font_metrics.specs.Slot.{Words}
 use Rattle.metrics_file.specs.Lines.{keyword_of, known_in}
-use Rattle.font_metrics.specs.declared.given.Given.{Given}
+use Rattle.font_metrics.specs.Whole.{Given}
 use Rattle.metrics_file.specs.Reading.{is_blank, is_empty, words_of, is_comment, is_plain, is_foreign, after_fields, after}
 
 -- ---- what printed words are made of

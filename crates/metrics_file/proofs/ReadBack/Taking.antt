@@ -7,7 +7,7 @@ use Rattle.std.specs.Map.{lookup}
 use Rattle.std.proofs.lemmas.Bool.{lt-leb, and_from}
 use Rattle.op_dictionary.specs.declared.extra.OperatorLine.{OperatorLine}
 use Rattle.op_dictionary.specs.Dictionary.{is_named}
-use Rattle.font_metrics.specs.declared.given.Given.{Given}
+use Rattle.font_metrics.specs.Whole.{Given}
 use Rattle.metrics_file.specs.declared.keyword.Keyword.{Keyword}
 use Rattle.font_metrics.specs.declared.table.Table.{Table}
 use Rattle.font_metrics.specs.Faults.{◌>>=◌, fault_if}

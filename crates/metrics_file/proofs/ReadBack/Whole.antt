@@ -3,13 +3,12 @@ use Rattle.std.proofs.Common.{◌≡◌, ◌∙◌, ap, sym, refl, subst, ℕ, z
 use Rattle.std.specs.Fmt.{digits}
 use Rattle.std.specs.List.{join_with_byte, list_all, range_with_len}
 use Rattle.std.proofs.lemmas.Bool.{and_from}
-use Rattle.font_metrics.specs.declared.given.Given.{Given}
 use Rattle.font_metrics.specs.Faults.{step_map}
 use Rattle.font_metrics.specs.Slot.{Words}
 use Rattle.font_metrics.specs.Metrics.{MetricsValue, place_of_name}
 use Rattle.metrics_file.specs.Print.{version_words, upem_words, line_words, x_height_words, overlap_lines, constant_words, glyph_words, character_words, growth_lines, operator_words, line_text, print_of, PrintReadsBack}
 use Rattle.metrics_file.specs.Reading.{lines_of, nothing, is_foreign, words_of, after, after_first, kept, given_from, given_by, fault_or, first_fault_behind, finished, numbered, metrics_or, metrics_of}
-use Rattle.font_metrics.specs.Whole.{needed_of, metrics_with}
+use Rattle.font_metrics.specs.Whole.{Given, needed_of, metrics_with}
 use Rattle.font_metrics.specs.Tables.{no_tables}
 use Rattle.font_metrics.specs.Taken.{IsTaken, IsVersion}
 use Rattle.metrics_file.proofs.Forward.{given_from-push}

@@ -1,5 +1,5 @@
 use Rattle.std.proofs.Common.{◌∙◌, ap, sym, Ok}
-use Rattle.font_metrics.specs.declared.given.Given.{Given}
+use Rattle.font_metrics.specs.Whole.{Given}
 use Rattle.font_metrics.specs.Faults.{Step, ◌>>=◌, step_map}
 use Rattle.metrics_file.specs.Lines.{Item, lent}
 use Rattle.metrics_file.specs.Reading.{allowed, put}

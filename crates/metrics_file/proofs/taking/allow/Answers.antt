@@ -1,6 +1,6 @@
 use Rattle.std.proofs.Common.{◌≡◌, ◌∙◌, ap, sym}
 use Rattle.font_metrics.specs.declared.fault.LineFault.TheVariants.{Repeated}
-use Rattle.font_metrics.specs.declared.given.Given.{Given}
+use Rattle.font_metrics.specs.Whole.{Given}
 use Rattle.metrics_file.specs.declared.said.Said.{Said}
 use Rattle.font_metrics.specs.Faults.{fault_if}
 use Rattle.metrics_file.specs.Reading.{allowed}

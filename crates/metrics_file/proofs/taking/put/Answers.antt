@@ -1,6 +1,6 @@
 use Rattle.std.proofs.Common.{◌≡◌, ◌∙◌, ap, sym}
 use Rattle.std.proofs.lemmas.Result.{on_ok_weaker}
-use Rattle.font_metrics.specs.declared.given.Given.{Given}
+use Rattle.font_metrics.specs.Whole.{Given}
 use Rattle.metrics_file.specs.declared.said.Said.{Said}
 use Rattle.metrics_file.specs.Reading.{put}
 use Rattle.metrics_file.specs.Said.{item_of}

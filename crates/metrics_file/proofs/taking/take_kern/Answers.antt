@@ -1,7 +1,7 @@
 use Rattle.std.proofs.Common.{sym, subst, ℕ, not, Ok}
 use Rattle.font_metrics.specs.declared.corner.Corner.{Corner}
 use Rattle.font_metrics.specs.declared.fault.LineFault.TheVariants.{Repeated, NotRising}
-use Rattle.font_metrics.specs.declared.given.Given.{Given}
+use Rattle.font_metrics.specs.Whole.{Given}
 use Rattle.font_metrics.specs.declared.kern.Kern.{Kern}
 use Rattle.font_metrics.specs.Faults.{Step, ◌>>=◌, step_map}
 use Rattle.font_metrics.specs.Heights.{do_rise, heights_of}

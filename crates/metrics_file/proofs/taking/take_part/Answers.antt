@@ -1,6 +1,6 @@
 use Rattle.std.proofs.Common.{◌∙◌, ap, sym, subst, ℕ, Ok}
 use Rattle.font_metrics.specs.declared.fault.LineFault.TheVariants.{TooMany}
-use Rattle.font_metrics.specs.declared.given.Given.{Given}
+use Rattle.font_metrics.specs.Whole.{Given}
 use Rattle.font_metrics.specs.declared.growth.Part.{Part}
 use Rattle.font_metrics.specs.declared.table.Table.TheVariants.{Parts}
 use Rattle.font_metrics.specs.Faults.{Step, ◌>>=◌, step_map}

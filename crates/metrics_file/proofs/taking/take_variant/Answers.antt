@@ -1,6 +1,6 @@
 use Rattle.std.proofs.Common.{◌∙◌, ap, sym, subst, ℕ, Ok}
 use Rattle.font_metrics.specs.declared.fault.LineFault.TheVariants.{TooMany}
-use Rattle.font_metrics.specs.declared.given.Given.{Given}
+use Rattle.font_metrics.specs.Whole.{Given}
 use Rattle.font_metrics.specs.declared.growth.Variant.{Variant}
 use Rattle.font_metrics.specs.declared.table.Table.TheVariants.{Variants}
 use Rattle.font_metrics.specs.Faults.{Step, ◌>>=◌, step_map}

@@ -1,5 +1,5 @@
 use Rattle.std.proofs.Common.{◌≡◌, subst, Result, Ok, IfOk}
-use Rattle.font_metrics.proofs.given.Given.copy.Goals as goal
+use Rattle.font_metrics.proofs.copy.Given+GlyphTable.copy.Goals as goal
 
 -- what holds of a result, where it is known
 known : {X E : Type 0} (P : X → Type 0) (r : Result X E) (x : X) → IfOk r P → r ≡ Ok x → P x

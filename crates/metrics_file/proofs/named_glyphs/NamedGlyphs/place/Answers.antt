@@ -1,7 +1,7 @@
 use Rattle.std.proofs.Common.{◌∙◌, ap}
 use Rattle.font_metrics.specs.Metrics.{place_of_name}
-use Rattle.font_metrics.proofs.FileOrder.{key_place}
-use Rattle.font_metrics.proofs.glyphs.GlyphTable.place.Goals as goal
+use Rattle.metrics_file.proofs.NamedGlyphs.{key_place}
+use Rattle.metrics_file.proofs.named_glyphs.NamedGlyphs.place.Goals as goal
 
 pub returns : goal.returns
 returns c =

@@ -1,8 +1,9 @@
 use Rattle.std.proofs.Common.{◌∙◌, ◌≡◌, ap, ◌++◌, ◌∷◌, [], string_bytes, None}
-use Rattle.font_metrics.specs.Kept.{glyph_of_measures, named_glyphs}
+use Rattle.font_metrics.specs.Kept.{glyph_of_measures}
 use Rattle.font_metrics.specs.Metrics.{place_of_name}
-use Rattle.font_metrics.proofs.FileOrder.{named_insert}
-use Rattle.font_metrics.proofs.glyphs.GlyphTable.add.Goals as goal
+use Rattle.metrics_file.specs.NamedGlyphs.{named_glyphs}
+use Rattle.metrics_file.proofs.NamedGlyphs.{named_insert}
+use Rattle.metrics_file.proofs.named_glyphs.NamedGlyphs.add.Goals as goal
 
 pub returns-clause-ok : goal.returns-clause-ok
 returns-clause-ok c =
