@@ -1,47 +1,40 @@
--- What is found first in a list, and in the map that the list was put into.
-use Rattle.std.proofs.Common.{◌≡◌, ℕ, zero, suc, ◌<◌, Bool, true, false, cond, List, [], ◌∷◌, ◌++◌, map, length, get_or, Contains, Option, Some, None, is_some, refl, ap, sym, ◌∙◌, arith}
-use Rattle.std.proofs.lemmas.List.Folds.{Any-from_list_any, list_any_at}
+-- What is found first in a list.
+use Rattle.std.proofs.Common.{◌≡◌, ℕ, zero, suc, ◌<◌, ◌||◌, Bool, true, false, cond, List, [], ◌∷◌, ◌++◌, length, get_or, Contains, Option, Some, None, is_some, refl, ap, sym, ◌∙◌, arith}
+use Rattle.std.proofs.lemmas.List.Folds.{Any-from_list_any, list_any_at, find-append}
 use Rattle.std.proofs.lemmas.Map.Keys.{apart_from_distinct}
 use Rattle.std.proofs.lemmas.Option.{none-some}
 use Rattle.std.specs.List.{find, list_any, IsDistinct}
-use Rattle.std.specs.Map.{lookup}
 use Rattle.std.specs.Option.{option_map, option_or}
 
-option_map-cond : {X Y : Type 0} (f : X → Y) (b : Bool) (x y : Option X)
-    → option_map f (cond b x y) ≡ cond b (option_map f x) (option_map f y)
-option_map-cond f true x y = refl
-option_map-cond f false x y = refl
+option_map-option_or : {X Y : Type 0} (f : X → Y) (o p : Option X)
+    → option_map f (option_or o p) ≡ option_or (option_map f o) (option_map f p)
+option_map-option_or f None p = refl
+option_map-option_or f (Some x) p = refl
 
--- the first entry with the key is the first item that passes, each entry shown as an item
-pub find-shown : {K X Y Z : Type 0} (key : K → Bool) (test : Y → Bool) (show : K × X → Y) (f : X → Z) (g : Y → Z)
-    → ((e : K × X) → test (show e) ≡ key e.0) → ((e : K × X) → g (show e) ≡ f e.1)
-    → (es : List (K × X)) → option_map g (find test (map show es)) ≡ option_map f (lookup key es)
-find-shown key test show f g tests shows [] = refl
-find-shown key test show f g tests shows (e ∷ es) =
-    option_map-cond g (test (show e)) (Some (show e)) (find test (map show es))
-    ∙ (λ i. cond (tests e i) (Some (shows e i)) (find-shown key test show f g tests shows es i))
-    ∙ sym (option_map-cond f (key e.0) (Some e.1) (lookup key es))
+-- the first item that passes, after one more item
+pub found-push : {X Y : Type 0} (f : X → Y) (p : X → Bool) (xs : List X) (x : X)
+    → option_map f (find p (xs ++ x ∷ [])) ≡ option_or (option_map f (find p xs)) (cond (p x) (Some (f x)) None)
+found-push f p xs x =
+    ap (option_map f) (find-append p xs (x ∷ []))
+    ∙ option_map-option_or f (find p xs) (find p (x ∷ []))
+    ∙ ap (option_or (option_map f (find p xs))) (one (p x))
+  where
+    one : (b : Bool) → option_map f (cond b (Some x) None) ≡ cond b (Some (f x)) None
+    one true = refl
+    one false = refl
 
 pub is_some-option_map : {X Y : Type 0} (f : X → Y) (o : Option X) → is_some (option_map f o) ≡ is_some o
 is_some-option_map f None = refl
 is_some-option_map f (Some x) = refl
 
-pub option_map-option_or : {X Y : Type 0} (f : X → Y) (o p : Option X)
-    → option_map f (option_or o p) ≡ option_or (option_map f o) (option_map f p)
-option_map-option_or f None p = refl
-option_map-option_or f (Some x) p = refl
-
-option_or-cond : {X : Type 0} (b : Bool) (x : X) (o p : Option X)
-    → cond b (Some x) (option_or o p) ≡ option_or (cond b (Some x) o) p
-option_or-cond true x o p = refl
-option_or-cond false x o p = refl
-
--- the first entry with the key, after more entries
-pub lookup-append : {K X : Type 0} (key : K → Bool) (es fs : List (K × X))
-    → lookup key (es ++ fs) ≡ option_or (lookup key es) (lookup key fs)
-lookup-append key [] fs = refl
-lookup-append key (e ∷ es) fs =
-    ap (cond (key e.0) (Some e.1)) (lookup-append key es fs) ∙ option_or-cond (key e.0) e.1 (lookup key es) (lookup key fs)
+-- one is found where any passes
+pub found-any : {X : Type 0} (p : X → Bool) (xs : List X) → is_some (find p xs) ≡ list_any p xs
+found-any p [] = refl
+found-any p (x ∷ xs) = by (p x) (found-any p xs)
+  where
+    by : (b : Bool) → is_some (find p xs) ≡ list_any p xs → is_some (cond b (Some x) (find p xs)) ≡ (b || list_any p xs)
+    by true rest = refl
+    by false rest = rest
 
 -- ---- one item that passes a test
 

@@ -1,130 +1,133 @@
--- The operator lines, and the maps that keep them.
-use Rattle.std.proofs.Common.{◌≡◌, ℕ, ◌&&◌, Bool, true, false, cond, List, [], ◌∷◌, ◌++◌, Option, Some, None, is_some, slice_get, refl, subst, ap, sym, ◌∙◌}
-use Rattle.std.specs.List.{find, All, IsDistinct, AllByRecursion}
-use Rattle.std.specs.Map.{lookup, keys_of}
-use Rattle.std.specs.Option.{option_map, option_or}
-use Rattle.std.specs.declared.hash.BuildHasherDefault.{BuildHasherDefault}
-use Rattle.std.specs.declared.hash.FoldHasher.{FoldHasher}
-use Rattle.std.proofs.lemmas.List.{map-append}
-use Rattle.std.proofs.lemmas.Option.{slice_get-map, slice_get_within, get_or_from_slice_get}
-use Rattle.std.proofs.lemmas.List.Folds.{find-append}
-use Rattle.indexmap.specs.IndexMap.{IndexMap, insert_entry}
-use Rattle.indexmap.proofs.CallerLemmas.{insert_entry-new}
-use Rattle.op_dictionary.specs.declared.extra.Listing.{Listing}
+-- The operator lines, and the maps that are kept beside them.
+use Rattle.std.proofs.Common.{◌≡◌, ◌&&◌, Bool, true, false, cond, List, [], ◌∷◌, ◌++◌, Option, Some, None, is_some, refl, subst, ap, sym, ◌∙◌, arith}
+use Rattle.std.specs.Cmp.{IsEquivalence}
+use Rattle.std.specs.List.{All, IsDistinct}
+use Rattle.std.specs.Map.{lookup}
+use Rattle.std.specs.Option.{option_or}
+use Rattle.std.proofs.lemmas.List.Elements.{All-push}
+use Rattle.std.proofs.lemmas.Map.Keys.{IsDistinct-push}
+use Rattle.op_dictionary.specs.declared.extra.Extra.TheInside.{Inside}
 use Rattle.op_dictionary.specs.declared.extra.OperatorLine.{OperatorLine}
 use Rattle.op_dictionary.specs.declared.extra.Pair.{Pair}
-use Rattle.op_dictionary.specs.declared.operator.Axis.{Axis}
-use Rattle.op_dictionary.specs.declared.operator.Form.{Form}
+use Rattle.op_dictionary.specs.declared.operator.Category.{Category}
 use Rattle.op_dictionary.specs.declared.text.OpText.{OpText}
 use Rattle.op_dictionary.specs.Pairs.{same_text, same_form, IsLineText}
 use Rattle.op_dictionary.specs.Dictionary.{line_of, is_named, line_category, line_axis, same_pair, AreDistinct}
-use Rattle.op_dictionary.specs.Kept.{line_of_entry, lines_of_entries, Axes, AddsAxis}
-use Rattle.op_dictionary.specs.contracts.text.OpTextPartialEq.TheImpl as texts
-use Rattle.op_dictionary.specs.contracts.extra.PairPartialEq.TheImpl as pairs
-use Rattle.op_dictionary.proofs.Found.{find-shown, is_some-option_map, lookup-append, option_map-option_or}
-use Rattle.op_dictionary.proofs.Keys.{eq-same_pair}
+use Rattle.op_dictionary.specs.Kept.{same_key, Axes, AddsAxis, IsKept}
+use Rattle.op_dictionary.proofs.Found.{found-push, found-any, is_some-option_map}
+use Rattle.op_dictionary.proofs.Same.{same_pairs, same_keys}
 
--- whether a key is the pair
-abbrev is_pair : OpText → Form → Pair → Bool
-is_pair t f = pairs.eq-value.it (record { text = t; form = f })
+-- ---- a map after one more entry
 
-module _ (es : List (Pair × Listing)) (t : OpText) (f : Form) where
-  -- the category that a line gives is that of its entry
-  pub line_category-entries : line_category (lines_of_entries es) t f
-      ≡ option_map (λ k. k.category) (lookup (is_pair t f) es)
-  line_category-entries =
-      find-shown (is_pair t f) (λ l. same_text t l.text && same_form f l.form) line_of_entry
-      (λ k. k.category) (λ l. l.category)
-      (λ e. sym (eq-same_pair (record { text = t; form = f }) e.0)) (λ e. refl) es
+none-from_is_some : {X : Type 0} (o : Option X) → is_some o ≡ false → o ≡ None
+none-from_is_some None h = refl
+none-from_is_some (Some x) h = cc
 
-  -- a line names the pair where there is an entry
-  pub is_named-entries : is_named (lines_of_entries es) t f ≡ is_some (lookup (is_pair t f) es)
-  is_named-entries =
-      sym (is_some-option_map (λ l. l.category) (line_of (lines_of_entries es) t f))
-      ∙ ap is_some line_category-entries
-      ∙ is_some-option_map (λ k. k.category) (lookup (is_pair t f) es)
+or_none : {X : Type 0} (o : Option X) → option_or o None ≡ o
+or_none None = refl
+or_none (Some x) = refl
 
--- the axis of a text after one more line
-line_axis-append : (lines : List OperatorLine) (l : OperatorLine) (t : OpText)
-    → line_axis (lines ++ l ∷ []) t ≡ option_or (line_axis lines t) (cond (same_text t l.text) (Some l.axis) None)
-line_axis-append lines l t =
-    ap (option_map (λ line. line.axis)) (find-append (λ line. same_text t line.text) lines (l ∷ []))
-    ∙ option_map-option_or (λ line. line.axis) (find (λ line. same_text t line.text) lines)
-    (find (λ line. same_text t line.text) (l ∷ []))
-    ∙ ap (option_or (line_axis lines t)) (one (same_text t l.text))
-  where
-    one : (b : Bool) → option_map (λ line. line.axis) (cond b (Some l) None) ≡ cond b (Some l.axis) None
-    one true = refl
-    one false = refl
+module _ {K X : Type 0} {e : K → K → Bool} (laws : IsEquivalence e) (old : List (K × X)) (key : K) (x : X) where
+  -- what is found under a key is found under one that is the same
+  found_alike : (q : K) → e key q ≡ true → lookup (e q) old ≡ lookup (e key) old
+  found_alike q h = sym (λ i. lookup (λ k. laws.congr key q k h i) old)
+
+  -- another key finds nothing more
+  other_key : (q : K) → e key q ≡ false → option_or (lookup (e q) old) (cond (e q key) (Some x) None) ≡ lookup (e q) old
+  other_key q h =
+      ap (λ b. option_or (lookup (e q) old) (cond b (Some x) None)) (laws.symm q key ∙ h)
+      ∙ or_none (lookup (e q) old)
+
+  -- under a new key
+  pub put-new : (new : List (K × X)) → is_some (lookup (e key) old) ≡ false
+      → ((q : K) → lookup (e q) new ≡ cond (e key q) (Some x) (lookup (e q) old))
+      → (q : K) → lookup (e q) new ≡ option_or (lookup (e q) old) (cond (e q key) (Some x) None)
+  put-new new absent put q = put q ∙ by (e key q) refl
+    where
+      by : (b : Bool) → e key q ≡ b
+          → cond b (Some x) (lookup (e q) old) ≡ option_or (lookup (e q) old) (cond (e q key) (Some x) None)
+      by true h =
+          let none = found_alike q h ∙ none-from_is_some (lookup (e key) old) absent in
+          sym (λ i. option_or (none i) (cond ((laws.symm q key ∙ h) i) (Some x) None))
+      by false h = sym (other_key q h)
 
 -- ---- one more line
 
 abbrev pair_of : OperatorLine → Pair
 pair_of line = record { text = line.text; form = line.form }
 
-abbrev listing_of : OperatorLine → Listing
-listing_of line = record { category = line.category; axis = line.axis }
+-- the categories of pairs stay those of the lines
+pub categories-after : (old new : List (Pair × Category)) (lines : List OperatorLine) (line : OperatorLine)
+    → ((pair : Pair) → lookup (same_key pair) old ≡ line_category lines pair.text pair.form)
+    → is_named lines line.text line.form ≡ false
+    → ((pair : Pair) → lookup (same_key pair) new
+    ≡ cond (same_key (pair_of line) pair) (Some line.category) (lookup (same_key pair) old))
+    → (pair : Pair) → lookup (same_key pair) new ≡ line_category (lines ++ line ∷ []) pair.text pair.form
+categories-after old new lines line kept free put pair =
+    put-new same_keys old (pair_of line) line.category new
+    (ap is_some (kept (pair_of line)) ∙ is_some-option_map (λ l. l.category) (line_of lines line.text line.form) ∙ free)
+    put pair
+    ∙ ap (λ o. option_or o (cond (same_key pair (pair_of line)) (Some line.category) None)) (kept pair)
+    ∙ sym (found-push (λ l. l.category) (λ l. same_text pair.text l.text && same_form pair.form l.form) lines line)
 
--- what isn't there is none
-none-from_is_some : {X : Type 0} (o : Option X) → is_some o ≡ false → o ≡ None
-none-from_is_some None h = refl
-none-from_is_some (Some x) h = cc
+-- the axes of texts stay those of their first lines
+pub axes-after : (old new : Axes) (lines : List OperatorLine) (line : OperatorLine)
+    → ((text : OpText) → lookup (same_text text) old ≡ line_axis lines text)
+    → AddsAxis old new line
+    → (text : OpText) → lookup (same_text text) new ≡ line_axis (lines ++ line ∷ []) text
+axes-after old new lines line kept adds text =
+    adds.added text
+    ∙ ap (λ o. option_or o (cond (same_text text line.text) (Some line.axis) None)) (kept text)
+    ∙ sym (found-push (λ l. l.axis) (λ l. same_text text l.text) lines line)
 
--- a line under a new pair goes last
-pub lines-insert : (m : IndexMap Pair Listing (BuildHasherDefault FoldHasher)) (line : OperatorLine)
-    → is_named (lines_of_entries m.entries) line.text line.form ≡ false
-    → lines_of_entries (insert_entry pairs.eq-value.it m.entries (pair_of line) (listing_of line))
-    ≡ lines_of_entries m.entries ++ line ∷ []
-lines-insert m line h =
-    let at = lookup (is_pair line.text line.form) m.entries in
-    let absent : is_some at ≡ false = sym (is_named-entries m.entries line.text line.form) ∙ h in
-    ap lines_of_entries
-    (insert_entry-new pairs.eq-value.it m (pair_of line) (listing_of line) (none-from_is_some at absent))
-    ∙ map-append line_of_entry m.entries ((pair_of line, listing_of line) ∷ [])
+-- lines stay distinct where the pair is new
+pub distinct-after : (lines : List OperatorLine) (line : OperatorLine) → AreDistinct lines
+    → is_named lines line.text line.form ≡ false → AreDistinct (lines ++ line ∷ [])
+distinct-after lines line distinct free =
+    IsDistinct-push same_pairs lines line distinct (sym (found-any (same_pair line) lines) ∙ free)
 
--- ---- the axes of texts
+-- ---- what is kept
 
--- the axes that are kept are those of the lines, before and after one more line
-pub axes-after : (old new : Axes) (before after : List OperatorLine) (line : OperatorLine)
-    → ((t : OpText) → lookup (same_text t) old ≡ line_axis before t)
-    → AddsAxis old new line → after ≡ before ++ line ∷ []
-    → (t : OpText) → lookup (same_text t) new ≡ line_axis after t
-axes-after old new before after line kept adds is t =
-    adds.added t
-    ∙ ap (λ o. option_or o (cond (same_text t line.text) (Some line.axis) None)) (kept t)
-    ∙ sym (line_axis-append before line t)
-    ∙ ap (λ lines. line_axis lines t) (sym is)
-
--- a text that isn't there gets the axis
-pub axes-added : (m : IndexMap OpText Axis (BuildHasherDefault FoldHasher)) (line : OperatorLine)
-    → is_some (lookup (texts.eq-value.it line.text) m.entries) ≡ false
-    → AddsAxis m.entries (insert_entry texts.eq-value.it m.entries line.text line.axis) line
-axes-added m line free =
-    let none = none-from_is_some (lookup (texts.eq-value.it line.text) m.entries) free in
-    record {
-      added = λ t.
-          ap (lookup (same_text t)) (insert_entry-new texts.eq-value.it m line.text line.axis none)
-          ∙ lookup-append (same_text t) m.entries ((line.text, line.axis) ∷ []);
-    }
-
--- ---- distinct keys are distinct lines
-apart-entries : (p : Pair) (k : Listing) (es : List (Pair × Listing))
-    → AllByRecursion (λ q. pairs.eq-value.it p q ≡ false) (keys_of es)
-    → AllByRecursion (λ l. same_pair (line_of_entry (p, k)) l ≡ false) (lines_of_entries es)
-apart-entries p k [] h = tt
-apart-entries p k (e ∷ es) h = (sym (eq-same_pair p e.0) ∙ h.0, apart-entries p k es h.1)
-
-pub distinct-entries : (es : List (Pair × Listing)) → IsDistinct pairs.eq-value.it (keys_of es)
-    → AreDistinct (lines_of_entries es)
+-- of no line
+pub kept-none : (extra : Inside) → extra.lines.items ≡ [] → extra.categories.entries ≡ [] → extra.axes.entries ≡ []
+    → IsKept extra
 unfolding IsDistinct
-distinct-entries [] h = tt
-distinct-entries (e ∷ es) h = (apart-entries e.0 e.1 es h.0, distinct-entries es h.1)
+kept-none extra lines categories axes = record {
+  categories = λ pair.
+      ap (lookup (same_key pair)) categories ∙ sym (ap (λ l. line_category l pair.text pair.form) lines);
+  axes = λ text. ap (lookup (same_text text)) axes ∙ sym (ap (λ l. line_axis l text) lines);
+  distinct = subst AreDistinct (sym lines) tt;
+  texts = subst (All (λ line. IsLineText line.text)) (sym lines) (λ i line at. absurd (omega (arith, at)));
+}
 
--- ---- the line at an index
-pub line_text-at : (es : List (Pair × Listing)) (i : ℕ) (e : Pair × Listing) → slice_get es i ≡ Some e
-    → All (λ l. IsLineText l.text) (lines_of_entries es) → IsLineText e.0.text
-line_text-at es i e h all =
-    let at : slice_get (lines_of_entries es) i ≡ Some (line_of_entry e) =
-    slice_get-map line_of_entry es i ∙ ap (option_map line_of_entry) h in
-    subst (λ l. IsLineText l.text) (get_or_from_slice_get (lines_of_entries es) i (line_of_entry e) (line_of_entry e) at)
-    (all i (line_of_entry e) (slice_get_within (lines_of_entries es) i (line_of_entry e) at))
+-- of the same lines, by maps in which the same is found
+pub kept-same : (extra other : Inside) → IsKept extra → other.lines.items ≡ extra.lines.items
+    → ((pair : Pair) → lookup (same_key pair) other.categories.entries ≡ lookup (same_key pair) extra.categories.entries)
+    → other.axes.entries ≡ extra.axes.entries → IsKept other
+kept-same extra other kept lines categories axes = record {
+  categories = λ pair.
+      categories pair ∙ kept.categories pair ∙ sym (ap (λ l. line_category l pair.text pair.form) lines);
+  axes = λ text. ap (lookup (same_text text)) axes ∙ kept.axes text ∙ sym (ap (λ l. line_axis l text) lines);
+  distinct = subst AreDistinct (sym lines) kept.distinct;
+  texts = subst (All (λ line. IsLineText line.text)) (sym lines) kept.texts;
+}
+
+-- of one more line, under a new pair
+pub kept-more : (extra other : Inside) (line : OperatorLine) → IsKept extra → IsLineText line.text
+    → is_named extra.lines.items line.text line.form ≡ false
+    → other.lines.items ≡ extra.lines.items ++ line ∷ []
+    → ((pair : Pair) → lookup (same_key pair) other.categories.entries
+    ≡ cond (same_key (pair_of line) pair) (Some line.category) (lookup (same_key pair) extra.categories.entries))
+    → AddsAxis extra.axes.entries other.axes.entries line → IsKept other
+kept-more extra other line kept text free lines categories axes = record {
+  categories = λ pair.
+      categories-after extra.categories.entries other.categories.entries extra.lines.items line kept.categories free
+      categories pair
+      ∙ sym (ap (λ l. line_category l pair.text pair.form) lines);
+  axes = λ text.
+      axes-after extra.axes.entries other.axes.entries extra.lines.items line kept.axes axes text
+      ∙ sym (ap (λ l. line_axis l text) lines);
+  distinct = subst AreDistinct (sym lines) (distinct-after extra.lines.items line kept.distinct free);
+  texts = subst (All (λ line. IsLineText line.text)) (sym lines)
+      (All-push (λ line. IsLineText line.text) extra.lines.items line kept.texts text);
+}

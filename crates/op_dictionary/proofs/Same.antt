@@ -8,6 +8,7 @@ use Rattle.op_dictionary.specs.declared.operator.Form.TheVariants.{Prefix, Infix
 use Rattle.op_dictionary.specs.declared.text.OpText.{OpText}
 use Rattle.op_dictionary.specs.declared.text.OpText.TheVariants.{Empty, One, Two, Other}
 use Rattle.op_dictionary.specs.Dictionary.{same_pair}
+use Rattle.op_dictionary.specs.Kept.{same_key}
 use Rattle.op_dictionary.specs.Pairs.{same_text, same_form}
 
 pub same_text-equal : (t u : OpText) → same_text t u ≡ true → t ≡ u
@@ -82,5 +83,15 @@ equivalence {K} E f to from = record {
 pub same_pairs : IsEquivalence same_pair
 same_pairs =
     equivalence {T = OpText × Form} same_pair (λ l. (l.text, l.form))
+    (λ x y h. let p = same-parts x.text y.text x.form y.form h in λ i. (p.0 i, p.1 i))
+    (λ x y h. same-from_parts x.text y.text x.form y.form (ap (λ p. p.0) h) (ap (λ p. p.1) h))
+
+pub same_texts : IsEquivalence same_text
+same_texts =
+    equivalence same_text (λ t. t) same_text-equal (λ t u e. ap (same_text t) (sym e) ∙ same_text-self t)
+
+pub same_keys : IsEquivalence same_key
+same_keys =
+    equivalence {T = OpText × Form} same_key (λ k. (k.text, k.form))
     (λ x y h. let p = same-parts x.text y.text x.form y.form h in λ i. (p.0 i, p.1 i))
     (λ x y h. same-from_parts x.text y.text x.form y.form (ap (λ p. p.0) h) (ap (λ p. p.1) h))

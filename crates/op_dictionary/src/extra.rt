@@ -6,8 +6,8 @@ ghost use Rattle.op_dictionary.specs.Kept.{AddsAxis};
 use crate::memory::Memory;
 use crate::operator::{Axis, Category, Form};
 use crate::text::OpText;
-use indexmap::IndexMap;
 use std::alloc::Global;
+use std::collections::HashMap;
 use std::marker::Model;
 
 /// An operator line of a metrics file: what a user says of a text in a form.
@@ -22,27 +22,22 @@ pub struct OperatorLine {
     pub axis: Axis,
 }
 
-// The key by which a line is looked up.
+// The key by which a category is looked up.
 #[derive(Clone, Copy, Debug, PartialEq, Eq, Hash)]
 pub struct Pair {
     pub text: OpText,
     pub form: Form,
 }
 
-// How the dictionary lists a pair.
-#[derive(Clone, Copy, Debug, Drop)]
-pub struct Listing {
-    pub category: Category,
-    pub axis: Axis,
-}
-
 /// The operator lines of a metrics file in file order, which come before the built-in dictionary.
 /// Contracts see their list.
 #[derive(Drop)]
 pub struct Extra {
-    lines: IndexMap<Pair, Listing>,
+    lines: Vec<OperatorLine>,
+    // The category that a line gives each pair.
+    categories: HashMap<Pair, Category>,
     // The axis of the first line of each text.
-    axes: IndexMap<OpText, Axis>,
+    axes: HashMap<OpText, Axis>,
 }
 
 impl Model for Extra {
@@ -51,9 +46,9 @@ impl Model for Extra {
 
     ghost Value = { List OperatorLine };
 
-    ghost use Rattle.op_dictionary.specs.Kept.{lines_of_entries, IsKept};
+    ghost use Rattle.op_dictionary.specs.Kept.{IsKept};
 
-    ghost view = { λ extra. lines_of_entries extra.lines.entries };
+    ghost view = { λ extra. extra.lines.items };
 
     ghost invariant = { IsKept };
 }
@@ -64,8 +59,9 @@ impl Extra {
         ensures { result ≡ [] }
     {
         Extra {
-            lines: IndexMap::new(alloc),
-            axes: IndexMap::new(alloc),
+            lines: Vec::new(alloc),
+            categories: HashMap::new(alloc),
+            axes: HashMap::new(alloc),
         }
     }
 
@@ -77,17 +73,13 @@ impl Extra {
         ensures ok { OnOk result (self.new ≡ self.old ++ line ∷ []) }
         ensures err { OnErr result (self.new ≡ self.old) }
     {
-        let OperatorLine {
-            text,
-            form,
-            category,
-            axis,
-        } = line;
-        // Room comes first, so that a refusal leaves no axis without its line.
+        let OperatorLine { text, form, .. } = line;
+        // Room comes first, so that a refusal leaves no axis and no category without its line.
         self.lines.reserve(1)?;
+        self.categories.reserve(1)?;
         add_axis(&mut self.axes, line)?;
-        self.lines
-            .insert(Pair { text, form }, Listing { category, axis })?;
+        self.categories.insert(Pair { text, form }, line.category)?;
+        self.lines.push(line)?;
         Ok(())
     }
 
@@ -97,6 +89,7 @@ impl Extra {
     {
         Ok(Extra {
             lines: self.lines.clone()?,
+            categories: self.categories.clone()?,
             axes: self.axes.clone()?,
         })
     }
@@ -105,7 +98,7 @@ impl Extra {
     pub fn has(&self, text: OpText, form: Form) -> bool
         ensures { result ≡ is_named self.now text form }
     {
-        self.lines.contains_key(&Pair { text, form })
+        self.categories.contains_key(&Pair { text, form })
     }
 
     /// How many lines there are. No two of them name one pair.
@@ -122,21 +115,14 @@ impl Extra {
         ensures value { slice_get self.now index ≡ Some result }
         ensures text { IsLineText result.text }
     {
-        let (pair, listing) = self.lines.get_index(index).unwrap();
-        OperatorLine {
-            text: pair.text,
-            form: pair.form,
-            category: listing.category,
-            axis: listing.axis,
-        }
+        self.lines[index]
     }
 
     /// The category that a line gives the text in the form.
     pub(crate) fn category(&self, text: OpText, form: Form) -> Option<Category>
         ensures { result ≡ line_category self.now text form }
     {
-        let listing = self.lines.get(&Pair { text, form })?;
-        Some(listing.category)
+        self.categories.get(&Pair { text, form }).copied()
     }
 
     /// The axis that the first line with the text gives it.
@@ -148,7 +134,7 @@ impl Extra {
 }
 
 // Keeps the line's axis where it is the first line with its text.
-fn add_axis(axes: &mut IndexMap<OpText, Axis>, line: OperatorLine) -> Result<(), Memory>
+fn add_axis(axes: &mut HashMap<OpText, Axis>, line: OperatorLine) -> Result<(), Memory>
     ensures ok { OnOk result (AddsAxis axes.old.entries axes.new.entries line) }
     ensures err { OnErr result (axes.new.entries ≡ axes.old.entries) }
 {

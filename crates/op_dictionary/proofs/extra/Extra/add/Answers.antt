@@ -1,30 +1,29 @@
-use Rattle.std.proofs.Common.{◌≡◌, ◌∙◌, ap, sym, subst, [], ◌∷◌, ◌++◌}
-use Rattle.std.specs.List.{All}
-use Rattle.std.proofs.lemmas.List.Elements.{All-push}
+use Rattle.std.proofs.Common.{◌≡◌, ◌∙◌, ap, subst, [], ◌∷◌, ◌++◌, cond, Some}
+use Rattle.std.specs.Map.{lookup}
+use Rattle.op_dictionary.specs.declared.extra.Pair.{Pair}
 use Rattle.op_dictionary.specs.Dictionary.{is_named}
-use Rattle.op_dictionary.specs.Kept.{lines_of_entries}
-use Rattle.op_dictionary.specs.Pairs.{IsLineText}
-use Rattle.op_dictionary.proofs.Lines.{lines-insert, axes-after}
+use Rattle.op_dictionary.proofs.Keys.{pair_eq}
+use Rattle.op_dictionary.proofs.Lines.{kept-same, kept-more}
 use Rattle.op_dictionary.proofs.extra.Extra.add.Goals as goal
 
--- the lines after the insertion
-lines-are : (c : goal.In_ok-insert)
-    → lines_of_entries c.insert.new.self.entries ≡ lines_of_entries c.self.inside.lines.entries ++ c.args.line ∷ []
-lines-are c =
-    let same = ap lines_of_entries c.in_ok-reserve.ensures.entries in
-    ap lines_of_entries c.in_ok-insert.ensures.entries
-    ∙ lines-insert c.reserve.new.self c.args.line
-    (ap (λ lines. is_named lines c.args.line.text c.args.line.form) (same ∙ c.self.view_is) ∙ c.requires.pair)
-    ∙ ap (λ lines. lines ++ c.args.line ∷ []) same
+pub invariant_of-self-in_err-add_axis : goal.invariant_of-self-in_err-add_axis
+invariant_of-self-in_err-add_axis c =
+    let before = c.self.inside.categories.entries in
+    let after = c.reserve-2.new.self.entries in
+    kept-same _ _ c.self.invariant c.in_ok-reserve.ensures.items
+    (subst (λ eq. (pair : Pair) → lookup (eq pair) after ≡ lookup (eq pair) before) pair_eq c.in_ok-reserve-2.ensures.entries.2)
+    c.in_err-add_axis.ensures.err
 
 pub invariant_of-self-2 : goal.invariant_of-self-2
-invariant_of-self-2 c = record {
-  axes = axes-after c.self.inside.axes.entries c.add_axis.new.axes.entries
-      (lines_of_entries c.self.inside.lines.entries) (lines_of_entries c.insert.new.self.entries)
-      c.args.line c.self.invariant.axes c.in_ok-add_axis.ensures.ok (lines-are c);
-  texts = subst (All (λ line. IsLineText line.text)) (sym (lines-are c))
-      (All-push (λ line. IsLineText line.text) _ _ c.self.invariant.texts c.requires.text);
-}
-
-pub returns-clause-ok : goal.returns-clause-ok
-returns-clause-ok c = lines-are c ∙ ap (λ lines. lines ++ c.args.line ∷ []) c.self.view_is
+invariant_of-self-2 c =
+    let line = c.args.line in
+    let key : Pair = record { text = line.text; form = line.form } in
+    let before = c.self.inside.categories.entries in
+    let after = c.insert.new.self.entries in
+    kept-more _ _ line c.self.invariant c.requires.text
+    (ap (λ lines. is_named lines line.text line.form) c.self.view_is ∙ c.requires.pair)
+    (c.in_ok-push.ensures.items ∙ ap (λ lines. lines ++ line ∷ []) c.in_ok-reserve.ensures.items)
+    (subst (λ eq. (pair : Pair) → lookup (eq pair) after ≡ cond (eq key pair) (Some line.category) (lookup (eq pair) before))
+    pair_eq
+    (λ pair. c.in_ok-insert.ensures.updates.0 pair ∙ ap (cond _ (Some line.category)) (c.in_ok-reserve-2.ensures.entries.2 pair)))
+    c.in_ok-add_axis.ensures.ok

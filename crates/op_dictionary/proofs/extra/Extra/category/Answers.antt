@@ -1,18 +1,14 @@
-use Rattle.std.proofs.Common.{◌∙◌, ap, sym}
-use Rattle.std.specs.Option.{option_map}
+use Rattle.std.proofs.Common.{◌∙◌, ap}
+use Rattle.std.specs.Map.{lookup}
+use Rattle.op_dictionary.specs.declared.extra.Pair.{Pair}
 use Rattle.op_dictionary.specs.Dictionary.{line_category}
-use Rattle.op_dictionary.proofs.Lines.{line_category-entries}
+use Rattle.op_dictionary.proofs.Keys.{pair_eq}
 use Rattle.op_dictionary.proofs.extra.Extra.category.Goals as goal
-
-pub returns-in_err-listing : goal.returns-in_err-listing
-returns-in_err-listing c =
-    c.from_residual.ensures
-    ∙ ap (option_map (λ listing. listing.category)) c.in_err-listing.ensures.value
-    ∙ sym (line_category-entries c.self.inside.lines.entries c.args.text c.args.form)
-    ∙ ap (λ lines. line_category lines c.args.text c.args.form) c.self.view_is
 
 pub returns : goal.returns
 returns c =
-    ap (option_map (λ listing. listing.category)) c.in_ok-listing.ensures.value
-    ∙ sym (line_category-entries c.self.inside.lines.entries c.args.text c.args.form)
+    let pair : Pair = record { text = c.args.text; form = c.args.form } in
+    c.copied.ensures ∙ c.get.ensures.value
+    ∙ ap (λ eq. lookup (eq pair) c.self.inside.categories.entries) pair_eq
+    ∙ c.self.invariant.categories pair
     ∙ ap (λ lines. line_category lines c.args.text c.args.form) c.self.view_is
