@@ -1,9 +1,10 @@
 //! What the program reads from and writes to: named files, a sink, and whole files and pieces; and
 //! the words of its command line.
 //!
-//! `Inputs` and `Sink` are the only ways to the outside, and everything above is generic in them:
-//! one proof serves `FileInputs` and `StdSink`, which are the system's, and `MemoryInputs` and
-//! `MemorySink`, with which a test lets any call fail.
+//! `Inputs` and `Sink` are the only ways to files and streams, and everything above is generic in
+//! them: one proof serves `FileInputs` and `StdSink`, which are the system's, and `MemoryInputs`
+//! and `MemorySink`, with which a test lets any call fail. `command_line` alone reads the
+//! environment, and promises nothing.
 //!
 //! - Models: `std::io::Read` and `Write`, with counts of failures in place of the error's value.
 //! - Proved: `read_all` gives the whole file and `write_all` appends the whole piece, or a count

@@ -106,8 +106,9 @@ impl Given<GlyphTable> {
     }
 }
 
-/// Both, where neither was refused memory. A function that copies many parts so owns none of them
-/// where it may return, which is dear to prove.
+/// Both, where neither was refused memory. By it a function that copies many parts owns none of
+/// them where it returns a refusal: to own some there is dear to prove. All are asked for, also
+/// those behind one that was refused.
 fn both<A: Drop, B: Drop>(
     first: Result<A, Memory>,
     second: Result<B, Memory>,

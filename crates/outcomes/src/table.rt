@@ -33,7 +33,7 @@ pub fn table_row_outcome<V: View>(alloc: Global, e: &Element<V>) -> Result<Outco
     outcome
 }
 
-/// The same over the widths of its cells, and the row that these make.
+/// The same over the widths of its cells, and the cells as they are placed.
 fn over_row<V: View>(
     alloc: Global,
     e: &Element<V>,

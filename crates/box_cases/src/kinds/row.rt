@@ -50,7 +50,7 @@ fn kid_of(value: &Value) -> Result<RowKid, Fault>
     })
 }
 
-/// Adds the box and the offsets of a row.
+/// Adds the box and the offsets of a row or a table.
 pub fn add_row(frame: &MathBox, offsets: &List<i64>, words: &mut String) -> Result<(), AllocError> {
     add_box(frame, words)?;
     words.push_str("; ")?;

@@ -57,7 +57,7 @@ fn add_table(alloc: Global, rows: &List<List<SpanCell>>, words: &mut String) -> 
     add_slots(alloc, rows, &firsts, &widths, words)
 }
 
-/// Adds in which columns cells begin, and how wide columns are.
+/// Adds in which columns cells begin, and how wide columns are, each with `; ` behind it.
 fn add_columns_of(
     firsts: &List<List<u32>>,
     widths: &List<i64>,
