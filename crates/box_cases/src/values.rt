@@ -8,7 +8,6 @@ mod numbers; // sizes, numbers, lists of them
 mod places; // places and marks
 mod pulls; // pulls
 mod with_metrics; // kinds whose values name metrics
-mod written; // what came of writing
 
 pub use boxes::{boxes_in, stored_box, wide_box};
 pub use cells::rows_in;
@@ -17,4 +16,3 @@ pub use numbers::{add_numbers, items_in, items_of, numbers_in, size_in, stored};
 pub use places::{add_mark, add_place};
 pub use pulls::{add_pull, pull_in, stretch_in};
 pub use with_metrics::{ByMetrics, by_metrics};
-pub use written::written;

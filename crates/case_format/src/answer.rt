@@ -1,5 +1,7 @@
+use crate::fault::Fault;
 use crate::files::is_line_feed;
 use doc_io::MemorySink;
+use std::alloc::AllocError;
 use std::io::{self, Write};
 
 /// What came of a case.
@@ -19,6 +21,12 @@ pub struct Ended {
     pub written: MemorySink,
     /// Whether only the sum of what it wrote is told.
     pub summed: bool,
+}
+
+/// What came of writing the last words of an answer. It's asked at the end of a function in place
+/// of a `?`, since each `?` makes the proof of its function longer.
+pub fn written(outcome: Result<(), AllocError>) -> Result<(), Fault> {
+    Ok(outcome?)
 }
 
 impl Answer {

@@ -27,7 +27,7 @@ mod numbered; // lines from a number up to another, and texts that have a number
 mod program; // the whole of a program that carries cases out
 mod session; // line after line
 
-pub use answer::{Answer, Ended};
+pub use answer::{Answer, Ended, written};
 pub use boxes::{add_box, box_of};
 pub use fault::Fault;
 pub use fields::{Fields, count_in, text_in};

@@ -15,7 +15,6 @@ mod shown;
 mod style;
 mod tree;
 mod word;
-mod written;
 
 use axis::OfAxis;
 use case_format::{Answer, Case, Fault, Kinds};

@@ -138,14 +138,14 @@ fn lay_again<F: Finish, L: Ledger>(
     let view = WholeView::of(node, memo);
     let entry = &memo.entries.as_slice()[entry];
     let outcome = outcome_of::<F, _>(alloc, &view, context, metrics, &entry.one, steps)?;
-    match keep(alloc, store, outcome) {
+    match keep_again(alloc, store, outcome) {
         Ok(laid) => Ok(laid),
         Err(Memory) => Err(LayRefusal::Memory),
     }
 }
 
 /// Keeps an outcome as the layout of an entry. Where memory is refused, the store is as it was.
-fn keep(alloc: Global, store: &mut Store, outcome: Outcome) -> Result<LaidAgain, Memory>
+fn keep_again(alloc: Global, store: &mut Store, outcome: Outcome) -> Result<LaidAgain, Memory>
     requires begun { IsSome store.old.checkpoint }
     ensures put { IfOk result (λ laid. PutsOutcome store.old store.new laid.run.0 outcome) }
     ensures answer { IfOk result (λ laid. laid.answer ≡ outcome.answer) }

@@ -2,8 +2,8 @@
 //! their children.
 ghost use Rattle.std.specs.Prelude.{◌≤◌, length, IfOk};
 
-use crate::values::{add_pull, boxes_in, pull_in, written};
-use case_format::{Case, Fault, Fields};
+use crate::values::{add_pull, boxes_in, pull_in};
+use case_format::{Case, Fault, Fields, written};
 use fixed_units::{List, MathBox, Memory, Pull};
 use op_dictionary::Axis;
 use row_stretch::{Ask, KidPull, row_wave_one, row_wave_two};
@@ -25,20 +25,20 @@ pub enum Wave {
     Two,
 }
 
-const KEYS_OF_ONE: [&str; 2] = ["kids", "own"];
+const KEYS_IN_WAVE_ONE: [&str; 2] = ["kids", "own"];
 
 const KEYS_OF_TWO: [&str; 3] = ["kids", "own", "first"];
 
 pub fn answer(asking: Asking, wave: Wave, case: Case, words: &mut String) -> Result<(), Fault> {
     let keys: &[&'static str] = match wave {
-        Wave::One => &KEYS_OF_ONE,
+        Wave::One => &KEYS_IN_WAVE_ONE,
         Wave::Two => &KEYS_OF_TWO,
     };
     let fields = Fields::of_value(case.value, keys)?;
     let kids = kids_in(case.alloc, fields)?;
     let made = match wave {
-        Wave::One => asked_first(asking, case.alloc, fields, &kids),
-        Wave::Two => asked_second(asking, case.alloc, fields, &kids),
+        Wave::One => asked_in_wave_one(asking, case.alloc, fields, &kids),
+        Wave::Two => asked_in_wave_two(asking, case.alloc, fields, &kids),
     };
     // Dropped by a call, here and below, so that the `?` that follows doesn't drop it.
     drop(kids);
@@ -47,7 +47,7 @@ pub fn answer(asking: Asking, wave: Wave, case: Case, words: &mut String) -> Res
 }
 
 /// What is asked in the first wave.
-fn asked_first(
+fn asked_in_wave_one(
     asking: Asking,
     alloc: Global,
     fields: Fields,
@@ -64,7 +64,7 @@ fn asked_first(
 }
 
 /// What is asked in the second wave.
-fn asked_second(
+fn asked_in_wave_two(
     asking: Asking,
     alloc: Global,
     fields: Fields,

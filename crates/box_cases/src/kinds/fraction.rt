@@ -1,7 +1,7 @@
 //! `fraction`: the box of a fraction or a stack, and the places of its parts and its rule.
 
-use crate::values::{ByMetrics, add_mark, add_place, size_in, written};
-use case_format::{Fault, Fields, add_box};
+use crate::values::{ByMetrics, add_mark, add_place, size_in};
+use case_format::{Fault, Fields, add_box, written};
 use font_metrics::Metrics;
 use fractions::{Fraction, fraction};
 use std::alloc::{AllocError, Global};

@@ -1,8 +1,8 @@
 //! `token`, `operator`, `space`: elements without children.
 ghost use Rattle.token_boxes.specs.Operator.{IsPull};
 
-use crate::values::{ByMetrics, add_mark, element_in, pull_in, size_in, written};
-use case_format::{Fault, Fields, add_box};
+use crate::values::{ByMetrics, add_mark, element_in, pull_in, size_in};
+use case_format::{Fault, Fields, add_box, written};
 use embellished::{Core, known_of};
 use fixed_units::{Pull, fits, is_stored};
 use font_metrics::{Mark, Metrics};

@@ -2,8 +2,8 @@
 ghost use Rattle.std.specs.Prelude.{IfOk, IfSome};
 ghost use Rattle.fixed_units.specs.Boxes.{IsStored};
 
-use crate::values::{ByMetrics, add_place, size_in, written};
-use case_format::{Fault, Fields, add_box};
+use crate::values::{ByMetrics, add_place, size_in};
+use case_format::{Fault, Fields, add_box, written};
 use fixed_units::MathBox;
 use font_metrics::Metrics;
 use scripts::{LimitCase, Limits, under_over};

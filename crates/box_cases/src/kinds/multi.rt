@@ -3,8 +3,8 @@ ghost use Rattle.std.specs.Prelude.{◌≤◌, length, IfOk};
 ghost use Rattle.std.specs.List.{All};
 ghost use Rattle.multiscripts.specs.Along.{IsPairStored};
 
-use crate::values::{ByMetrics, add_place, items_in, size_in, stored_box, written};
-use case_format::{Fault, Fields, add_box};
+use crate::values::{ByMetrics, add_place, items_in, size_in, stored_box};
+use case_format::{Fault, Fields, add_box, written};
 use fixed_units::List;
 use font_metrics::Metrics;
 use multiscripts::{Multi, Pair, multi};

@@ -2,8 +2,8 @@
 ghost use Rattle.std.specs.Prelude.{IfOk};
 ghost use Rattle.radicals.specs.Equation.{IsRow};
 
-use crate::values::{ByMetrics, add_mark, add_place, size_in, wide_box, written};
-use case_format::{Fault, Fields, add_box};
+use crate::values::{ByMetrics, add_mark, add_place, size_in, wide_box};
+use case_format::{Fault, Fields, add_box, written};
 use font_metrics::Metrics;
 use radicals::{Radical, root_with_index, square_root};
 use std::alloc::{AllocError, Global};

@@ -3,8 +3,8 @@ ghost use Rattle.std.specs.Prelude.{◌≤◌, length, IfOk};
 ghost use Rattle.std.specs.List.{All};
 ghost use Rattle.row_stretch.specs.Equation.{IsKidStored};
 
-use crate::values::{add_numbers, items_in, stored, stored_box, written};
-use case_format::{Case, Fault, Fields, add_box};
+use crate::values::{add_numbers, items_in, stored, stored_box};
+use case_format::{Case, Fault, Fields, add_box, written};
 use fixed_units::{List, MathBox};
 use row_stretch::{RowKid, row_finish};
 use serde_json::Value;

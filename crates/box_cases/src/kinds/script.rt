@@ -1,7 +1,7 @@
 //! `sub`, `sup`, `sub_sup`: the box of a base with scripts, and their places.
 
-use crate::values::{ByMetrics, add_place, size_in, written};
-use case_format::{Fault, Fields, add_box};
+use crate::values::{ByMetrics, add_place, size_in};
+use case_format::{Fault, Fields, add_box, written};
 use font_metrics::Metrics;
 use scripts::{NO_CORNERS, Scripted, sub, sub_sup, sup};
 use std::alloc::{AllocError, Global};

@@ -1,7 +1,7 @@
 //! `shape`: what is made of a glyph to reach a target. `display_variant`: what a large operator is.
 
-use crate::values::{ByMetrics, add_mark, size_in, written};
-use case_format::{Fault, Fields, add_box};
+use crate::values::{ByMetrics, add_mark, size_in};
+use case_format::{Fault, Fields, add_box, written};
 use font_metrics::{GlyphId, Metrics};
 use glyph_assembly::{Shaped, display_variant, shape};
 use op_dictionary::Axis;

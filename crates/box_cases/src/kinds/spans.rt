@@ -6,8 +6,8 @@ ghost use Rattle.span_tables.specs.Heights.{IsHeightStored};
 ghost use Rattle.span_tables.specs.Standing.{first_columns_of};
 ghost use Rattle.span_tables.specs.Widths.{span_columns_of, IsColumn};
 
-use crate::values::{add_numbers, rows_in, written};
-use case_format::{Case, Fault, Fields};
+use crate::values::{add_numbers, rows_in};
+use case_format::{Case, Fault, Fields, written};
 use fixed_units::List;
 use span_tables::laws::{cells_stand_inside, rows_of_stored_cells_are_stored};
 use span_tables::{
@@ -52,13 +52,13 @@ fn add_table(alloc: Global, rows: &List<List<SpanCell>>, words: &mut String) -> 
 {
     let firsts = first_columns(alloc, rows)?;
     let widths = span_columns(alloc, rows, &firsts)?;
-    add_columns_of(&firsts, &widths, words)?;
+    add_firsts_and_widths(&firsts, &widths, words)?;
     add_heights(alloc, rows, words)?;
     add_slots(alloc, rows, &firsts, &widths, words)
 }
 
 /// Adds in which columns cells begin, and how wide columns are, each with `; ` behind it.
-fn add_columns_of(
+fn add_firsts_and_widths(
     firsts: &List<List<u32>>,
     widths: &List<i64>,
     words: &mut String,

@@ -7,9 +7,8 @@ ghost use Rattle.fixed_units.specs.Numbers.{IsWithin};
 use crate::kinds::row::add_row;
 use crate::values::{
     ByMetrics, add_numbers, boxes_in, items_in, items_of, numbers_in, size_in, stored, wide_box,
-    written,
 };
-use case_format::{Case, Fault, Fields, add_box};
+use case_format::{Case, Fault, Fields, add_box, written};
 use fixed_units::{List, MathBox};
 use font_metrics::Metrics;
 use math_tables::{cell, cell_start, columns, row_of_cells, row_of_slots, table_finish};
@@ -76,11 +75,18 @@ pub enum Across {
     Slots,
 }
 
+impl Across {
+    /// The key of the numbers by which they are placed.
+    fn key(self) -> &'static str {
+        match self {
+            Across::Columns => "widths",
+            Across::Slots => "slots",
+        }
+    }
+}
+
 pub fn answer_row(across: Across, case: Case, words: &mut String) -> Result<(), Fault> {
-    let key = match across {
-        Across::Columns => "widths",
-        Across::Slots => "slots",
-    };
+    let key = across.key();
     let fields = Fields::of_value(case.value, &["cells", key, "total"])?;
     let cells = boxes_in(case.alloc, fields, "cells")?;
     let numbers = numbers_in(case.alloc, fields, key)?;
@@ -103,15 +109,12 @@ fn row_across(
     requires cells { All IsStored cells.now }
     requires numbers { All (IsWithin farthest) numbers.now }
 {
-    let is_each = match across {
+    let counts_agree = match across {
         Across::Columns => numbers.len() == cells.len(),
         Across::Slots => numbers.len() == 2 * cells.len(),
     };
-    if !is_each {
-        return Err(Fault::out_of_range(match across {
-            Across::Columns => "widths",
-            Across::Slots => "slots",
-        }));
+    if !counts_agree {
+        return Err(Fault::out_of_range(across.key()));
     }
     let total = fields.number("total")?;
     let made = match across {

@@ -1,8 +1,8 @@
 //! `target`: what a stretched operator is to cover.
 ghost use Rattle.std.specs.Prelude.{◌≤ℤ◌, ◌^◌, pos, IfOk, IfSome};
 
-use crate::values::{stretch_in, written};
-use case_format::{Case, Fault, Fields};
+use crate::values::stretch_in;
+use case_format::{Case, Fault, Fields, written};
 use glyph_assembly::target;
 use op_dictionary::{Category, properties};
 use std::fmt::Write;

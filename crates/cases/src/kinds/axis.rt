@@ -1,8 +1,7 @@
 //! `axis`: the axis along which an operator stretches.
 
 use crate::kinds::operators::{ByLines, axis_name, op_text};
-use crate::kinds::written::written;
-use case_format::{Case, Fault, Fields};
+use case_format::{Case, Fault, Fields, written};
 use op_dictionary::{Extra, axis};
 
 pub struct OfAxis;

@@ -1,8 +1,7 @@
 //! `category`: the category of an operator in the dictionary.
 
 use crate::kinds::operators::{ByLines, form_in, op_text};
-use crate::kinds::written::written;
-use case_format::{Case, Fault, Fields};
+use case_format::{Case, Fault, Fields, written};
 use op_dictionary::{Category, Extra, category};
 
 pub struct OfCategory;

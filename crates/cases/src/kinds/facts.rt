@@ -2,8 +2,7 @@
 //! same of an element that a file holds.
 
 use crate::kinds::elements::{add_code, element_of, form_letter, truth_letter};
-use crate::kinds::written::written;
-use case_format::{Case, Fault};
+use case_format::{Case, Fault, written};
 use embellished::{Core, Facts, NodeView, View, fences_of, form_within, known_of};
 use fixed_units::Memory;
 use math_tree::{Kind, Node};

@@ -1,8 +1,7 @@
 //! `fits`: whether a box can be stored.
 
 use crate::kinds::elements::yes_or_no;
-use crate::kinds::written::written;
-use case_format::{Case, Fault, box_of};
+use case_format::{Case, Fault, box_of, written};
 use fixed_units::fits;
 
 pub fn answer(case: Case, words: &mut String) -> Result<(), Fault> {

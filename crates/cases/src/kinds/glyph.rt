@@ -1,8 +1,7 @@
 //! `glyph`: what metrics say of a character's glyph, in design units.
 
 use crate::kinds::operators::axis_name;
-use crate::kinds::written::written;
-use case_format::{Case, Fault, Fields};
+use case_format::{Case, Fault, Fields, written};
 use font_metrics::{Glyph, GlyphId, Metrics, Part, Variant};
 use op_dictionary::Axis;
 use std::alloc::AllocError;

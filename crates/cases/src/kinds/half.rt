@@ -1,7 +1,6 @@
 //! `half`: half of a number, rounded down.
 
-use crate::kinds::written::written;
-use case_format::{Case, Fault};
+use case_format::{Case, Fault, written};
 use fixed_units::half;
 use std::fmt::Write;
 

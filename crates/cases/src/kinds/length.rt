@@ -1,7 +1,6 @@
 //! `length`: which length a text is.
 
-use crate::kinds::written::written;
-use case_format::{Case, Fault};
+use case_format::{Case, Fault, written};
 use fixed_units::{LengthText, Unit, read_length};
 use std::alloc::AllocError;
 use std::fmt::Write;

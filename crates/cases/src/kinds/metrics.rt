@@ -1,7 +1,6 @@
 //! `metrics`: whether a metrics file is sound, as it is or with other lines in place of one.
 
-use crate::kinds::written::written;
-use case_format::{Case, Fault, Fields, is_line_feed, text_in};
+use case_format::{Case, Fault, Fields, is_line_feed, text_in, written};
 use fixed_units::List;
 use metrics_file::{MOST_FILE_BYTES, MetricsRefusal, read_metrics};
 use serde_json::Value;

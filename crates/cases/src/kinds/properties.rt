@@ -2,8 +2,7 @@
 
 use crate::kinds::elements::{element_of, truth_letter};
 use crate::kinds::operators::{ByLines, form_in};
-use crate::kinds::written::written;
-use case_format::{Case, Fault, Fields};
+use case_format::{Case, Fault, Fields, written};
 use embellished::{Core, known_of, operator_properties};
 use math_tree::{Kind, Node};
 use op_dictionary::{Extra, Properties};

@@ -1,8 +1,7 @@
 //! `resolve`: how many units a length text is, where an em, an ex and what percentages are of are
 //! so many.
 
-use crate::kinds::written::written;
-use case_format::{Case, Fault, Fields};
+use case_format::{Case, Fault, Fields, written};
 use fixed_units::{read_length, resolve};
 use std::fmt::Write;
 

@@ -2,8 +2,7 @@
 ghost use Rattle.std.specs.Prelude.{◌^◌, pos, ◌<ℤ◌};
 ghost use Rattle.fixed_units.specs.Numbers.{IsWithin};
 
-use crate::kinds::written::written;
-use case_format::{Case, Fault, Fields};
+use case_format::{Case, Fault, Fields, written};
 use fixed_units::{Ratio, round};
 use std::fmt::Write;
 

@@ -1,8 +1,7 @@
 //! `shown`: the text that an element with a text shows.
 
 use crate::kinds::elements::add_code;
-use crate::kinds::written::written;
-use case_format::{Case, Fault};
+use case_format::{Case, Fault, written};
 use embellished::shown_text;
 use std::alloc::AllocError;
 

@@ -3,8 +3,7 @@ ghost use Rattle.std.specs.Prelude.{IfOk};
 ghost use Rattle.style_scope.specs.Sizes.{IsStyle};
 
 use crate::kinds::elements::{element_of, truth_letter};
-use crate::kinds::written::written;
-use case_format::{Case, Fault, Fields};
+use case_format::{Case, Fault, Fields, written};
 use font_metrics::Metrics;
 use math_tree::{Kind, Node};
 use serde_json::Value;

@@ -1,7 +1,6 @@
 //! `tree`: whether a value is a tree. `treefile`: whether a file is one, however long it is.
 
-use crate::kinds::written::written;
-use case_format::{Case, Fault};
+use case_format::{Case, Fault, written};
 use math_tree::{TreeRefusal, read_tree};
 use serde_json::Value;
 use std::alloc::Global;

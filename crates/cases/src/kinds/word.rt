@@ -1,8 +1,7 @@
 //! `word`: whether a text is a word, in any case of ASCII letters.
 
 use crate::kinds::elements::yes_or_no;
-use crate::kinds::written::written;
-use case_format::{Case, Fault, Fields};
+use case_format::{Case, Fault, Fields, written};
 use fixed_units::is_word;
 
 pub fn answer(case: Case, words: &mut String) -> Result<(), Fault> {

@@ -48,7 +48,7 @@ pub returns-in-Ok-clause-put : goal.returns-in-Ok-clause-put
 returns-in-Ok-clause-put g c =
     let one : one_at (out-Memo c.args.memo.now) c.args.entry ≡ c.index-as_slice-entry.result.one =
     ap (λ o. option_map_or (λ e. e.one) o []) (slice_get_read (out-Memo c.args.memo.now).entries _ c.args.entry c.index-as_slice-entry.result refl c.requires.entry (c.index-as_slice-entry.is ∙ ap (λ l. get_or l c.args.entry c.index-as_slice-entry.result) c.as_slice.ensures)) in
-    subst (PutsOutcome c.args.store.now c.keep.new.store c.in-Ok.laid.run.0)
+    subst (PutsOutcome c.args.store.now c.keep_again.new.store c.in-Ok.laid.run.0)
     ((c.in_ok-outcome.ensures {u = tt}).ok
     ∙ ap (λ n. equation c.args.metrics.now (seen_of n) c.args.context.now (answers_in c.index-as_slice-entry.result.one) []) c.of-view.ensures
     ∙ ap (λ l. equation c.args.metrics.now (seen_of c.args.node.now) c.args.context.now (answers_in l) []) (sym one))
