@@ -2,7 +2,7 @@
 
 use crate::kinds::written::written;
 use case_format::{Case, Fault};
-use fixed_units::{LengthText, Unit, read_length};
+use css_lengths::{LengthText, Unit, read_length};
 use std::alloc::AllocError;
 use std::fmt::Write;
 

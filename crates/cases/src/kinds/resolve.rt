@@ -3,7 +3,7 @@
 
 use crate::kinds::written::written;
 use case_format::{Case, Fault, Fields};
-use fixed_units::{read_length, resolve};
+use css_lengths::{read_length, resolve};
 use std::fmt::Write;
 
 pub fn answer(case: Case, words: &mut String) -> Result<(), Fault> {
