@@ -13,8 +13,8 @@ import tempfile
 
 HERE = os.path.dirname(os.path.abspath(__file__))
 NEEDED = (
-    "fixed_units", "op_dictionary", "math_tree", "font_metrics", "metrics_file", "glyph_assembly", "embellished", "style_scope",
-    "token_boxes")
+    "fixed_units", "css_lengths", "op_dictionary", "math_tree", "font_metrics", "metrics_file", "glyph_assembly", "embellished",
+    "style_scope", "token_boxes")
 
 
 def main():

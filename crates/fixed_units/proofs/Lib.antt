@@ -1,9 +1,6 @@
-pub mod Digits
-pub mod Parts
 pub mod Products
 pub mod Rounding
 pub mod Signed
-pub mod Sizes
 pub mod Stored
 pub mod Sums
 pub mod Unions

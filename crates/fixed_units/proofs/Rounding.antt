@@ -1,8 +1,8 @@
 -- Quotients rounded down, halves, and quotients rounded to the nearest.
-use Rattle.std.proofs.Common.{◌≡◌, ◌↔◌, ℕ, ◌+◌, ◌*◌, ◌<◌, ◌≤◌, sym, ap, subst, arith, ◌∙◌, ℤ, pos, negsuc, ◌+ℤ◌, ◌-ℤ◌, ◌*ℤ◌, ◌≤ℤ◌, ◌<ℤ◌}
-use Rattle.std.proofs.Math.Nat.{mul-le-mul_right}
-use Rattle.std.proofs.lemmas.Int.{by_lt_z}
-use Rattle.std.specs.Int.{int_div_euclid, int_rem_euclid}
+use Rattle.std.proofs.Common.{◌≡◌, ◌↔◌, ℕ, ◌+◌, ◌*◌, ◌<◌, ◌≤◌, sym, ap, subst, arith, ◌∙◌, ℤ, pos, negsuc, ◌+ℤ◌, ◌-ℤ◌, ◌*ℤ◌, ◌≤ℤ◌, ◌<ℤ◌, FitsSigned, to_z, of_z, ◌≢◌}
+use Rattle.std.proofs.Math.Nat.{mul-le-mul_right, pos_of_ne-zero}
+use Rattle.std.proofs.lemmas.Int.{by_lt_z, to_z-of_z}
+use Rattle.std.specs.Int.{IsNonZero, Width, int_div_euclid, int_rem_euclid}
 use borrow.Author.Differences.{up, down}
 use Rattle.fixed_units.specs.Numbers.{IsRound, IsHalf, rounded, halved}
 use Rattle.fixed_units.proofs.Signed.{signed}
@@ -50,6 +50,19 @@ int_div_euclid_only a b q h = (
   λ p. int_div_euclid_unique a b q h p.0 p.1,
   λ e. subst (λ n. ((n *ℤ b) ≤ℤ a) × (a <ℤ (n *ℤ b +ℤ b))) (sym e) (int_div_euclid_bounds a b h),
 )
+
+-- ---- a positive divisor, as bits
+-- its bits are not those of 0 or of -1
+pub bits_apart : (w : Width) (b z : ℤ) (m : ℕ) → FitsSigned w b → pos 0 <ℤ b → to_z w m ≡ z → z ≤ℤ pos 0 → of_z w (to_z w (of_z w b)) ≡ m → ⊥
+bits_apart w b z m f h is low e =
+    let back = to_z-of_z w b f in
+    let same : b ≡ z = sym back ∙ ap (to_z w) (sym (ap (of_z w) back) ∙ e) ∙ is in
+    absurd (omega (arith, signed, same))
+
+pub divisor_nonzero : (w : Width) (b : ℤ) → FitsSigned w b → pos 0 <ℤ b → to_z w 0 ≡ pos 0 → IsNonZero w (to_z w (of_z w b))
+divisor_nonzero w b f h is =
+    let apart : of_z w (to_z w (of_z w b)) ≢ 0 = bits_apart w b (pos 0) 0 f h is (omega (arith, signed)) in
+    pos_of_ne-zero apart
 
 -- ---- halves
 pub halved-parts : (n : ℤ)

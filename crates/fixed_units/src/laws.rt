@@ -1,19 +1,16 @@
-//! The laws of numbers, lengths and boxes that layout rests on.
+//! The laws of numbers and boxes that layout rests on.
 //!
 //! A law is proved where it is a contract, so each function here has one and computes nothing.
 //! Proofs cite the lemmas themselves: `proofs/Signed` for `omega`, `proofs/Within` for bounds of
-//! numbers and `proofs/Unions` for those of boxes, `proofs/Products`, `proofs/Rounding`,
-//! `proofs/Sums`, and `proofs/Parts` for the form of lengths.
-ghost use Rattle.std.specs.Prelude.{◌≡◌, ◌↔◌, ℕ, ◌+◌, ◌*◌, ◌^◌, ◌<◌, max, ℤ, pos, ◌+ℤ◌, ◌-ℤ◌, ◌*ℤ◌, ◌≤ℤ◌, ◌<ℤ◌, FitsSigned, List, ◌∷◌, length, slice_get, Some, None, true};
+//! numbers and `proofs/Unions` for those of boxes, `proofs/Products`, `proofs/Rounding` and
+//! `proofs/Sums`.
+ghost use Rattle.std.specs.Prelude.{◌≡◌, ◌↔◌, ℕ, ◌+◌, ◌*◌, ◌^◌, ◌<◌, max, ℤ, pos, ◌+ℤ◌, ◌-ℤ◌, ◌*ℤ◌, ◌≤ℤ◌, ◌<ℤ◌, FitsSigned, List, ◌∷◌, length, slice_get, Some, true};
 ghost use Rattle.std.specs.Int.{w64, w128, int_max, int_min, int_div_euclid};
 ghost use Rattle.std.specs.List.{All};
 ghost use Rattle.fixed_units.specs.Boxes.{is_box_stored, IsStored, IsBoxWithin, raised, joined, all_joined, IsUnion};
-ghost use Rattle.fixed_units.specs.Grammar.{Writes};
-ghost use Rattle.fixed_units.specs.Lengths.{length_of};
 ghost use Rattle.fixed_units.specs.Numbers.{IsRound, IsHalf, IsWithin, rounded, halved};
 ghost use Rattle.fixed_units.specs.Sums.{sum_to, list_to};
 ghost use Rattle.fixed_units.specs.declared.boxes.MathBox.{MathBox};
-ghost use Rattle.fixed_units.specs.declared.lengths.LengthText.{LengthText};
 
 /// `rounded a b` is nearest to `a / b`, and no other number is.
 pub fn rounded_is_the_nearest()
@@ -72,14 +69,6 @@ pub fn results_stay_within()
 pub fn what_is_within_fits()
     ensures fits_i64 { (m : ℕ) (a : ℤ) → IsWithin m a → m < 2 ^ 63 → FitsSigned w64 a }
     ensures fits_i128 { (m : ℕ) (a : ℤ) → IsWithin m a → m < 2 ^ 127 → FitsSigned w128 a }
-{}
-
-/// A text is a length exactly where it has the form of one, and the length that it writes.
-pub fn lengths_have_their_form()
-    ensures written { (text : List ℕ) (length : LengthText) →
-        (length_of text ≡ Some length) ↔ Writes text length }
-    ensures none { (text : List ℕ) →
-        (length_of text ≡ None) ↔ ¬ ((length : LengthText) × Writes text length) }
 {}
 
 /// What stands behind the first `n` of something is a sum over places. A sum of `n` numbers within

@@ -6,7 +6,7 @@ use Rattle.std.proofs.lemmas.List.Elements.{All-contains}
 use Rattle.std.specs.List.{AllByRecursion, flat_map}
 use Rattle.std.specs.Option.{option_and_then, option_map, option_map_or}
 use Rattle.fixed_units.specs.Sums.{list_to}
-use Rattle.fixed_units.specs.declared.lengths.LengthText.{LengthText}
+use Rattle.css_lengths.specs.declared.lengths.LengthText.{LengthText}
 use Rattle.font_metrics.specs.Metrics.{MetricsValue}
 use Rattle.font_metrics.specs.declared.corner.Corner.{Corner}
 use Rattle.font_metrics.specs.declared.corner.Corner.TheVariants.{TopRight, TopLeft, BottomRight, BottomLeft}

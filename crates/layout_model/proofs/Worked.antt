@@ -2,7 +2,7 @@
 -- compute them, and a wrong one is refused at its line.
 use Rattle.std.proofs.Common.{◌≡◌, refl, ℕ, ℤ, pos, neg_ℤ, Bool, true, false, List, [], ◌∷◌, map, codes, ◌∙◌, ap, Some, None}
 use Rattle.fixed_units.specs.Boxes.{joined, raised}
-use Rattle.fixed_units.specs.Lengths.{behind_digits, behind_sign, digits_in_front, fraction_of, is_negative, length_of, number_of, resolved, size_of as unit_size, trimmed, unit_at, unit_of}
+use Rattle.css_lengths.specs.Lengths.{behind_digits, behind_sign, digits_in_front, fraction_of, is_negative, length_of, number_of, resolved, size_of as unit_size, trimmed, unit_at, unit_of}
 use Rattle.fixed_units.specs.Numbers.{halved, rounded}
 use Rattle.fixed_units.specs.Sums.{list_to, sum_to}
 use Rattle.fixed_units.specs.declared.boxes.MathBox.{MathBox}

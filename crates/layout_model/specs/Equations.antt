@@ -4,7 +4,7 @@ use Rattle.std.specs.Prelude.{ℕ, ◌+◌, ◌*◌, ◌-◌, ◌/◌, ◌%◌, 
 use Rattle.std.specs.Int.{int_max}
 use Rattle.std.specs.Option.{option_and_then, option_map_or}
 use Rattle.embellished.specs.declared.facts.Core.{Core}
-use Rattle.fixed_units.specs.Lengths.{length_of, resolved}
+use Rattle.css_lengths.specs.Lengths.{length_of, resolved}
 use Rattle.fixed_units.specs.Sums.{list_to}
 use Rattle.fixed_units.specs.declared.boxes.MathBox.{MathBox}
 use Rattle.font_metrics.specs.Metrics.{constant_of, ex_of}

@@ -2,12 +2,12 @@
 use Rattle.std.specs.Prelude.{ℕ, ℤ, pos, ◌+ℤ◌, ◌-ℤ◌, codes, Option, Some, None, List}
 use Rattle.std.specs.Int.{int_max}
 use Rattle.std.specs.Option.{option_and_then, option_map_or}
-use Rattle.fixed_units.specs.Lengths.{length_of, resolved}
+use Rattle.css_lengths.specs.Lengths.{length_of, resolved}
 use Rattle.fixed_units.specs.Numbers.{halved}
 use Rattle.fixed_units.specs.declared.boxes.MathBox.{MathBox}
-use Rattle.fixed_units.specs.declared.lengths.LengthText.{LengthText}
-use Rattle.fixed_units.specs.declared.lengths.Unit.{Unit as LengthUnit}
-use Rattle.fixed_units.specs.declared.lengths.Unit.TheVariants.{Percent}
+use Rattle.css_lengths.specs.declared.lengths.LengthText.{LengthText}
+use Rattle.css_lengths.specs.declared.lengths.Unit.{Unit as LengthUnit}
+use Rattle.css_lengths.specs.declared.lengths.Unit.TheVariants.{Percent}
 use Rattle.font_metrics.specs.Metrics.{MetricsValue, ex_of}
 use Rattle.math_tree.specs.Attributes.{value_of}
 use Rattle.math_tree.specs.declared.attributes.Attribute.{Attribute}

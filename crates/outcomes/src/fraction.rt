@@ -1,7 +1,7 @@
 ghost use Rattle.std.specs.Prelude.{◌≡◌, ◌*◌, ◌^◌, pos, ◌≤ℤ◌, codes, IfOk, IfSome};
 ghost use Rattle.std.specs.Int.{int_max};
 ghost use Rattle.std.specs.Option.{option_and_then, option_map_or};
-ghost use Rattle.fixed_units.specs.Lengths.{length_of, resolved};
+ghost use Rattle.css_lengths.specs.Lengths.{length_of, resolved};
 ghost use Rattle.fixed_units.specs.Numbers.{IsWithin};
 ghost use Rattle.font_metrics.specs.Metrics.{constant_of, ex_of};
 ghost use Rattle.font_metrics.specs.declared.constants.ConstName.TheVariants.{FractionRuleThickness};
@@ -11,8 +11,9 @@ ghost use Rattle.layout_model.specs.Equations.{fraction_outcome, over_and_under,
 
 use crate::element::Element;
 use crate::listing::{list_of, marks_if};
+use css_lengths::{LengthText, read_length, resolve};
 use embellished::View;
-use fixed_units::{LengthText, Memory, read_length, resolve};
+use fixed_units::Memory;
 use font_metrics::{ConstName, Metrics};
 use fractions::{Fraction, Spot, fraction};
 use layout_model::{Offset, Outcome};

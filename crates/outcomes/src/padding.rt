@@ -1,15 +1,16 @@
 ghost use Rattle.std.specs.Prelude.{◌≡◌, ◌*◌, ◌^◌, ◌≤ℤ◌, pos, IfOk, IfSome};
 ghost use Rattle.fixed_units.specs.Boxes.{IsBoxWithin};
 ghost use Rattle.fixed_units.specs.Numbers.{IsWithin};
-ghost use Rattle.fixed_units.specs.Lengths.{resolved};
+ghost use Rattle.css_lengths.specs.Lengths.{resolved};
 ghost use Rattle.font_metrics.specs.Metrics.{ex_of};
 ghost use Rattle.layout_model.specs.Equations.{padded_outcome};
 ghost use Rattle.layout_model.specs.Rows.{absolute, length_in, measure, padded_of, padded_rise, padded_start};
 
 use crate::element::Element;
 use crate::row::{along, row_in};
+use css_lengths::{LengthText, Unit, read_length, resolve};
 use embellished::View;
-use fixed_units::{LengthText, List, MathBox, Memory, Unit, half, read_length, resolve};
+use fixed_units::{List, MathBox, Memory, half};
 use font_metrics::Metrics;
 use layout_model::Outcome;
 use math_tree::Attributes;

@@ -11,10 +11,10 @@ use Rattle.fixed_units.specs.Numbers.{IsWithin, rounded}
 use Rattle.fixed_units.proofs.Products.{*ℤ-*ℤ, -ℤ-*ℤ, +ℤ-*ℤ, product_below, product_at_most, below_from_product, at_most_from_product, product_not_negative}
 use Rattle.fixed_units.proofs.Rounding.{rounded-parts, rounded_is_round, rounded_unique, rounded-*ℤ, rounded_at_most}
 use Rattle.fixed_units.proofs.Signed.{signed}
-use Rattle.fixed_units.specs.Lengths.{inch, millionths_of, ratio, resolved, size_of}
-use Rattle.fixed_units.specs.declared.lengths.LengthText.{LengthText}
-use Rattle.fixed_units.specs.declared.lengths.Unit.{Unit as LengthUnit}
-use Rattle.fixed_units.specs.declared.lengths.Unit.TheVariants.{Em, Ex, Px, Pt, Pc, Inch, Cm, Mm, Quarter, Percent}
+use Rattle.css_lengths.specs.Lengths.{inch, millionths_of, ratio, resolved, size_of}
+use Rattle.css_lengths.specs.declared.lengths.LengthText.{LengthText}
+use Rattle.css_lengths.specs.declared.lengths.Unit.{Unit as LengthUnit}
+use Rattle.css_lengths.specs.declared.lengths.Unit.TheVariants.{Em, Ex, Px, Pt, Pc, Inch, Cm, Mm, Quarter, Percent}
 use Rattle.fixed_units.specs.declared.numbers.Ratio.{Ratio}
 use Rattle.font_metrics.specs.Metrics.{MetricsValue, ex_of, scale_of}
 use Rattle.style_scope.specs.Sizes.{IsPercent, IsScale, IsSize, in_range_of, scale_from, size_of as style_size}

@@ -1,6 +1,6 @@
 -- Worked cases: the definitions compute them, and a wrong one is refused at its line.
 use Rattle.std.proofs.Common.{◌≡◌, refl, ℕ, pos, true, false, List, [], ◌∷◌, codes, Some, None}
-use Rattle.fixed_units.specs.Lengths.{length_of, trimmed, is_negative, behind_sign, number_of as number_in, digits_in_front, behind_digits, fraction_of, unit_at, unit_of, resolved, size_of as unit_size}
+use Rattle.css_lengths.specs.Lengths.{length_of, trimmed, is_negative, behind_sign, number_of as number_in, digits_in_front, behind_digits, fraction_of, unit_at, unit_of, resolved, size_of as unit_size}
 use Rattle.fixed_units.specs.Numbers.{rounded}
 use Rattle.font_metrics.specs.Metrics.{MetricsValue, percent_of}
 use Rattle.font_metrics.specs.declared.constants.ConstName.TheVariants.{ScriptPercentScaleDown, ScriptScriptPercentScaleDown}

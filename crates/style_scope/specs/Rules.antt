@@ -2,8 +2,8 @@
 -- (Appendix A) and on the properties `math-depth`, `math-style` and `math-shift` (4.3 to 4.5).
 use Rattle.std.specs.Prelude.{ℕ, ◌+◌, Bool, true, false, not, ◌&&◌, ◌||◌, min, nat_eq, nat_lt, int_le, ℤ, pos, if◌then◌else◌, List, Option, Some, None, codes, unwrap_or}
 use Rattle.std.specs.Option.{option_and_then}
-use Rattle.fixed_units.specs.Lengths.{length_of, resolved}
-use Rattle.fixed_units.specs.declared.lengths.LengthText.{LengthText}
+use Rattle.css_lengths.specs.Lengths.{length_of, resolved}
+use Rattle.css_lengths.specs.declared.lengths.LengthText.{LengthText}
 use Rattle.font_metrics.specs.Metrics.{MetricsValue, ex_of}
 use Rattle.math_tree.specs.Attributes.{truth_of_word, value_of}
 use Rattle.math_tree.specs.Kinds.{is_scripted}

@@ -4,7 +4,7 @@
 -- percents for the first two levels. Own choice: each level below the second is 71 hundredths of
 -- the one above it.
 use Rattle.std.specs.Prelude.{◌≡◌, ℕ, zero, suc, ◌-◌, ◌*◌, ◌^◌, ◌≤◌, ℤ, pos, ◌*ℤ◌, ◌≤ℤ◌, int_le, if◌then◌else◌, Option, Some, None}
-use Rattle.fixed_units.specs.Lengths.{ratio}
+use Rattle.css_lengths.specs.Lengths.{ratio}
 use Rattle.fixed_units.specs.Numbers.{IsWithin, rounded}
 use Rattle.fixed_units.specs.declared.numbers.Ratio.{Ratio}
 use Rattle.font_metrics.specs.Metrics.{MetricsValue, percent_of}

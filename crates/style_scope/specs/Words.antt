@@ -4,7 +4,7 @@ use Rattle.std.specs.Char.{is_ascii_digit}
 use Rattle.std.specs.List.{list_all}
 use Rattle.std.specs.Option.{option_map}
 use Rattle.std.specs.Str.Parse.{digits_value}
-use Rattle.fixed_units.specs.Lengths.{plus, minus}
+use Rattle.css_lengths.specs.Lengths.{plus, minus}
 use Rattle.fixed_units.specs.Words.{is_word}
 
 -- whether a direction is from right to left

@@ -8,7 +8,8 @@ ghost use Rattle.math_tree.specs.Attributes.{truth_of_word, value_of};
 ghost use Rattle.style_scope.specs.Rules.{size_written};
 ghost use Rattle.style_scope.specs.Words.{direction_of_word, number_of, level_of};
 
-use fixed_units::{LengthText, is_word, read_length};
+use css_lengths::{LengthText, read_length};
+use fixed_units::is_word;
 use math_tree::{Attributes, truth_of_word};
 
 /// The truth value that `displaystyle` gives.

@@ -6,7 +6,7 @@ ghost use Rattle.style_scope.specs.Sizes.{IsStyle};
 
 use crate::attributes::{direction, displaystyle, scriptlevel};
 use crate::style::{Place, Style};
-use fixed_units::{LengthText, resolve};
+use css_lengths::{LengthText, resolve};
 use font_metrics::Metrics;
 use math_tree::{Attributes, Kind};
 

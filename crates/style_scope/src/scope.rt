@@ -8,7 +8,8 @@ use crate::attributes::mathsize;
 use crate::rules::{by_direction, by_display, by_level, by_name, by_place, by_size};
 use crate::size::font_size;
 use crate::style::{Place, Style};
-use fixed_units::{LengthText, is_word};
+use css_lengths::LengthText;
+use fixed_units::is_word;
 use font_metrics::Metrics;
 use math_tree::{Attributes, Head};
 

@@ -3,7 +3,7 @@
 use Rattle.std.proofs.Common.{◌≡◌, ◌∙◌, ap, refl, encode_utf8_all, ℕ, ℤ, pos, negsuc, Bool, true, false, List, [], ◌∷◌, codes, chars, Some, None}
 use Rattle.embellished.specs.Texts.{joined, pieces_of, shown}
 use Rattle.fixed_units.specs.Boxes.{joined as joined_boxes}
-use Rattle.fixed_units.specs.Lengths.{length_of, trimmed, is_negative, behind_sign, number_of, digits_in_front, behind_digits, fraction_of, unit_at, unit_of, resolved, size_of}
+use Rattle.css_lengths.specs.Lengths.{length_of, trimmed, is_negative, behind_sign, number_of, digits_in_front, behind_digits, fraction_of, unit_at, unit_of, resolved, size_of}
 use Rattle.fixed_units.specs.Numbers.{rounded, halved}
 use Rattle.fixed_units.specs.Sums.{list_to}
 use Rattle.fixed_units.specs.declared.boxes.MathBox.{MathBox}

@@ -1,10 +1,10 @@
 -- Lengths that attributes of leaves give.
 use Rattle.std.specs.Prelude.{ℕ, ℤ, pos, List, Option, Some, None}
 use Rattle.std.specs.Option.{option_map, option_and_then}
-use Rattle.fixed_units.specs.Lengths.{length_of, resolved}
-use Rattle.fixed_units.specs.declared.lengths.LengthText.{LengthText}
-use Rattle.fixed_units.specs.declared.lengths.Unit.{Unit as LengthUnit}
-use Rattle.fixed_units.specs.declared.lengths.Unit.TheVariants.{Percent}
+use Rattle.css_lengths.specs.Lengths.{length_of, resolved}
+use Rattle.css_lengths.specs.declared.lengths.LengthText.{LengthText}
+use Rattle.css_lengths.specs.declared.lengths.Unit.{Unit as LengthUnit}
+use Rattle.css_lengths.specs.declared.lengths.Unit.TheVariants.{Percent}
 use Rattle.font_metrics.specs.Metrics.{MetricsValue, ex_of}
 use Rattle.math_tree.specs.Attributes.{value_of}
 use Rattle.math_tree.specs.declared.attributes.Attribute.{Attribute}

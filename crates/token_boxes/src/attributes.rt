@@ -2,7 +2,7 @@ ghost use Rattle.std.specs.Prelude.{◌≡◌, ◌*◌, ◌^◌, ◌≤ℤ◌, p
 ghost use Rattle.fixed_units.specs.Numbers.{IsWithin};
 ghost use Rattle.token_boxes.specs.Lengths.{length_in, absolute_in, length_named, absolute_named, at_size};
 
-use fixed_units::{LengthText, Unit, read_length, resolve};
+use css_lengths::{LengthText, Unit, read_length, resolve};
 use font_metrics::Metrics;
 use math_tree::Attributes;
 

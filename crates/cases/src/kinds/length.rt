@@ -1,7 +1,7 @@
 //! `length`: which length a text is.
 
 use case_format::{Case, Fault, written};
-use fixed_units::{LengthText, Unit, read_length};
+use css_lengths::{LengthText, Unit, read_length};
 use std::alloc::AllocError;
 use std::fmt::Write;
 

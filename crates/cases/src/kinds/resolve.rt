@@ -2,7 +2,7 @@
 //! so many.
 
 use case_format::{Case, Fault, Fields, written};
-use fixed_units::{read_length, resolve};
+use css_lengths::{read_length, resolve};
 use std::fmt::Write;
 
 pub fn answer(case: Case, words: &mut String) -> Result<(), Fault> {

@@ -1,6 +1,6 @@
 use Rattle.std.proofs.Common.{rules, ◌≡◌, subst, sym, pos, ◌≤ℤ◌, FitsSigned, w64, arith, IfSome}
 use Rattle.std.proofs.lemmas.Int.{to_z-of_z}
-use Rattle.fixed_units.specs.Lengths.{resolved}
+use Rattle.css_lengths.specs.Lengths.{resolved}
 use Rattle.fixed_units.proofs.Signed.{signed}
 use Rattle.font_metrics.specs.Metrics.{ex_of}
 use Rattle.style_scope.proofs.Scales.{ex_low, resolved_low}

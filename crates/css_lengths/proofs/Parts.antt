@@ -10,12 +10,12 @@ use Rattle.std.proofs.lemmas.Slice.Eq.{bytes_eq-Decides}
 use Rattle.std.specs.Char.{is_ascii_digit, is_ascii_whitespace, to_ascii_lowercase}
 use Rattle.std.specs.List.{AllPass, list_all, prefix_len, suffix_len}
 use Rattle.std.specs.Str.Parse.{digits_value}
-use Rattle.fixed_units.specs.Grammar.{AreParts, IsFraction, IsSign, LengthParts, Writes, millionths_in, number_and_unit}
-use Rattle.fixed_units.specs.Lengths.{signed, plus, minus, point, trimmed, without_start, without_end, is_negative, behind_sign, digits_in_front, behind_digits, behind_point, fraction_of, fraction_value, number_of, unit_of, unit_at, length_of}
-use Rattle.fixed_units.specs.Optional.{◌>>=◌, ◌>>◌, only_if}
+use Rattle.css_lengths.specs.Grammar.{AreParts, IsFraction, IsSign, LengthParts, Writes, millionths_in, number_and_unit}
+use Rattle.css_lengths.specs.Lengths.{signed, plus, minus, point, trimmed, without_start, without_end, is_negative, behind_sign, digits_in_front, behind_digits, behind_point, fraction_of, fraction_value, number_of, unit_of, unit_at, length_of}
+use Rattle.css_lengths.specs.Optional.{◌>>=◌, ◌>>◌, only_if}
 use Rattle.fixed_units.specs.Words.{is_word}
-use Rattle.fixed_units.specs.declared.lengths.LengthText.{LengthText}
-use Rattle.fixed_units.specs.declared.lengths.Unit.{Unit as LengthUnit}
+use Rattle.css_lengths.specs.declared.lengths.LengthText.{LengthText}
+use Rattle.css_lengths.specs.declared.lengths.Unit.{Unit as LengthUnit}
 
 -- ---- a front that passes a test, before what doesn't begin so
 prefix_of : (p : ℕ → Bool) (front rest : List ℕ) → list_all p front ≡ true → prefix_len p rest ≡ 0 → prefix_len p (front ++ rest) ≡ length front

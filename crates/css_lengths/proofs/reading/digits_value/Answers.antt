@@ -1,7 +1,7 @@
 use Rattle.std.proofs.Common.{get_or, arith}
 use Rattle.std.proofs.lemmas.Int.Digits.{digits_value_more}
-use Rattle.fixed_units.proofs.Digits.{digit_behind_zero, one_digit_more}
-use Rattle.fixed_units.proofs.reading.digits_value.Goals as goal
+use Rattle.css_lengths.proofs.Digits.{digit_behind_zero, one_digit_more}
+use Rattle.css_lengths.proofs.reading.digits_value.Goals as goal
 
 pub loop-byte-preserved : goal.loop-byte-preserved
 loop-byte-preserved c =

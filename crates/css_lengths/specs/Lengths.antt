@@ -6,12 +6,12 @@ use Rattle.std.specs.Prelude.{ℕ, ◌+◌, ◌-◌, ◌*◌, ◌^◌, ℤ, pos,
 use Rattle.std.specs.Char.{is_ascii_digit, is_ascii_whitespace}
 use Rattle.std.specs.List.{prefix_len, suffix_len}
 use Rattle.std.specs.Str.Parse.{digits_value}
-use Rattle.fixed_units.specs.declared.lengths.LengthText.{LengthText}
-use Rattle.fixed_units.specs.declared.lengths.Unit.{Unit as LengthUnit}
-use Rattle.fixed_units.specs.declared.lengths.Unit.TheVariants.{Em, Ex, Px, Pt, Pc, Inch, Cm, Mm, Quarter, Percent}
+use Rattle.css_lengths.specs.declared.lengths.LengthText.{LengthText}
+use Rattle.css_lengths.specs.declared.lengths.Unit.{Unit as LengthUnit}
+use Rattle.css_lengths.specs.declared.lengths.Unit.TheVariants.{Em, Ex, Px, Pt, Pc, Inch, Cm, Mm, Quarter, Percent}
 use Rattle.fixed_units.specs.declared.numbers.Ratio.{Ratio}
 use Rattle.fixed_units.specs.Numbers.{rounded}
-use Rattle.fixed_units.specs.Optional.{◌>>=◌, ◌>>◌, only_if}
+use Rattle.css_lengths.specs.Optional.{◌>>=◌, ◌>>◌, only_if}
 use Rattle.fixed_units.specs.Words.{is_word}
 
 -- ---- the parts of a text

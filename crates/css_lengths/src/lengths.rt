@@ -1,8 +1,8 @@
 ghost use Rattle.std.specs.Prelude.{◌≡◌, ◌^◌, ◌*◌, pos, ◌≤ℤ◌};
 ghost use Rattle.fixed_units.specs.Numbers.{IsWithin};
-ghost use Rattle.fixed_units.specs.Lengths.{size_of, millionths_of, resolved, IsSize};
+ghost use Rattle.css_lengths.specs.Lengths.{size_of, millionths_of, resolved, IsSize};
 
-use crate::numbers::{Ratio, round};
+use fixed_units::{Ratio, round};
 
 /// A unit of lengths or percentages (CSS Values and Units 4, 6, "Distance Units").
 #[derive(Clone, Copy, Debug, PartialEq, Eq)]

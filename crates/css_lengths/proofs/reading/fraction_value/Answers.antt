@@ -1,6 +1,6 @@
 use Rattle.std.proofs.Common.{◌-◌, ◌*◌, ◌<◌, length, length-take, take, sym, subst, arith}
-use Rattle.fixed_units.proofs.Digits.{six_digits}
-use Rattle.fixed_units.proofs.reading.fraction_value.Goals as goal
+use Rattle.css_lengths.proofs.Digits.{six_digits}
+use Rattle.css_lengths.proofs.reading.fraction_value.Goals as goal
 
 pub returns-clause-small : goal.returns-clause-small
 returns-clause-small c =

@@ -1,6 +1,6 @@
 use Rattle.std.proofs.Common.{◌≡◌, ◌<◌, ◌^◌, take}
 use Rattle.std.specs.Str.Parse.{digits_value}
-use Rattle.fixed_units.proofs.reading.digits_value.Given as goal
+use Rattle.css_lengths.proofs.reading.digits_value.Given as goal
 
 -- what the digits so far write
 abbrev pub invariant-loop-byte : goal.invariant-loop-byte

@@ -5,7 +5,7 @@ ghost use Rattle.std.specs.Option.{option_map};
 ghost use Rattle.std.specs.Str.Parse.{digits_value};
 ghost use Rattle.fixed_units.specs.Numbers.{IsWithin};
 ghost use Rattle.fixed_units.specs.Words.{is_word};
-ghost use Rattle.fixed_units.specs.Lengths.{trimmed, is_negative, behind_sign, digits_in_front, behind_digits, fraction_of, fraction_value, number_of, unit_of, unit_at, length_of, AreDigits};
+ghost use Rattle.css_lengths.specs.Lengths.{trimmed, is_negative, behind_sign, digits_in_front, behind_digits, fraction_of, fraction_value, number_of, unit_of, unit_at, length_of, AreDigits};
 
 use crate::lengths::{LengthText, Unit};
 

@@ -1,6 +1,6 @@
 use Rattle.std.proofs.Common.{◌∙◌, ap, take}
-use Rattle.fixed_units.proofs.Digits.{front_digits}
-use Rattle.fixed_units.proofs.reading.split_digits.Goals as goal
+use Rattle.css_lengths.proofs.Digits.{front_digits}
+use Rattle.css_lengths.proofs.reading.split_digits.Goals as goal
 
 pub returns-clause-digits : goal.returns-clause-digits
 returns-clause-digits c =

@@ -6,7 +6,7 @@ use Rattle.std.proofs.lemmas.List.Sums.{prefix_len_passes}
 use Rattle.std.proofs.lemmas.Nat.{pow-add}
 use Rattle.std.specs.Char.{digit_value, is_ascii_digit}
 use Rattle.std.specs.List.{prefix_len}
-use Rattle.fixed_units.specs.Lengths.{AreDigits}
+use Rattle.css_lengths.specs.Lengths.{AreDigits}
 
 -- a digit is as far behind the digit 0 as its value says
 pub digit_behind_zero : (b : ℕ) → IsTrue (is_ascii_digit b) → (b - 48 ≡ digit_value b) × (digit_value b < 10)

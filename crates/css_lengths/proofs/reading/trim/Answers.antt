@@ -1,7 +1,7 @@
 use Rattle.std.proofs.Common.{refl}
 use Rattle.std.proofs.lemmas.Str.Ascii.{trim_ascii_is}
-use Rattle.fixed_units.specs.Lengths.{trimmed, without_start}
-use Rattle.fixed_units.proofs.reading.trim.Goals as goal
+use Rattle.css_lengths.specs.Lengths.{trimmed, without_start}
+use Rattle.css_lengths.proofs.reading.trim.Goals as goal
 
 pub returns : goal.returns
 unfolding trimmed

@@ -1,11 +1,24 @@
-use Rattle.std.proofs.Common.{◌≡◌, ◌∙◌, sym, subst, lit<, ◌^◌, ◌*◌, arith}
+use Rattle.std.proofs.Common.{◌≡◌, ◌∙◌, sym, subst, lit<, ◌^◌, ◌*◌, pos, ◌<ℤ◌, arith}
 use Rattle.std.proofs.lemmas.Int.{to_z-of_z}
-use Rattle.fixed_units.specs.Lengths.{millionths_of}
+use Rattle.css_lengths.specs.Lengths.{millionths_of}
 use Rattle.fixed_units.specs.Numbers.{IsWithin}
 use Rattle.fixed_units.proofs.Signed.{signed}
-use Rattle.fixed_units.proofs.Sizes.{numerator_back, quotient_back, product_small, millionths_small}
+use Rattle.css_lengths.proofs.Sizes.{divisor_positive, numerator_product, numerator_back, divisor_product, divisor_back, quotient_back, product_small, millionths_small}
 use Rattle.fixed_units.proofs.Within.{widened, fits_i64}
-use Rattle.fixed_units.proofs.lengths.millionths_of.Goals as goal
+use Rattle.css_lengths.proofs.lengths.millionths_of.Goals as goal
+
+pub overflow_mul-from : goal.overflow_mul-from
+overflow_mul-from c =
+    let e : c.from.result ≡ c.args.number = omega (arith, signed, c.from.ensures) in
+    rw e (numerator_product c.args.number c.args.size c.requires.number_in c.requires.size_in)
+
+pub overflow_mul-size : goal.overflow_mul-size
+overflow_mul-size c = divisor_product c.args.number c.args.size c.requires.number_in c.requires.size_in
+
+pub round-requires-clause-positive : goal.round-requires-clause-positive
+round-requires-clause-positive c =
+    subst (λ z. pos 0 <ℤ z) (sym (divisor_back c.args.number c.args.size c.requires.number_in c.requires.size_in))
+    (divisor_positive c.args.size c.requires.size_in)
 
 pub round-requires-clause-num_in : goal.round-requires-clause-num_in
 round-requires-clause-num_in c =

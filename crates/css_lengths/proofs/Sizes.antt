@@ -2,7 +2,7 @@
 use Rattle.std.proofs.Common.{◌≡◌, ◌∙◌, ap, ℕ, ◌*◌, ◌^◌, ◌<◌, ℤ, pos, negsuc, ◌*ℤ◌, ◌<ℤ◌, FitsSigned, lit<, refl, to_z, of_z, arith}
 use Rattle.std.proofs.lemmas.Int.{to_z-of_z}
 use Rattle.std.specs.Int.{w128}
-use Rattle.fixed_units.specs.Lengths.{IsSize, millionths_of, ratio}
+use Rattle.css_lengths.specs.Lengths.{IsSize, millionths_of, ratio}
 use Rattle.fixed_units.specs.Numbers.{IsWithin, rounded}
 use Rattle.fixed_units.specs.declared.numbers.Ratio.{Ratio}
 use Rattle.fixed_units.proofs.Signed.{signed}
@@ -41,6 +41,19 @@ module _ (n : ℤ) (size : Ratio) (p : IsWithin (10 ^ 15) n) (s : IsSize size) w
 
   divisor_fits : FitsSigned w128 size.den
   divisor_fits = omega (arith, signed, s)
+
+  pub numerator_product : FitsSigned w128 (back n *ℤ back size.num)
+  numerator_product =
+      let f = numerator_fits in
+      let g : FitsSigned w128 n = omega (arith, signed, p) in
+      let h : FitsSigned w128 (n *ℤ size.num) = fits_i128 (product_small n size p s) (lit< tt) in
+      simp to_z-of_z h
+
+  pub divisor_product : FitsSigned w128 (pos 1000000 *ℤ back size.den)
+  divisor_product =
+      let f = divisor_fits in
+      let h : FitsSigned w128 (pos 1000000 *ℤ size.den) = omega (arith, signed, s) in
+      simp to_z-of_z h
 
   pub numerator_back : back (back n *ℤ back size.num) ≡ n *ℤ size.num
   numerator_back =

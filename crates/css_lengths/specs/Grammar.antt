@@ -5,8 +5,8 @@ use Rattle.std.specs.Prelude.{◌≡◌, ℕ, ◌+◌, ◌*◌, ◌<◌, ◌≤�
 use Rattle.std.specs.Char.{is_ascii_digit, is_ascii_whitespace}
 use Rattle.std.specs.List.{AllPass}
 use Rattle.std.specs.Str.Parse.{digits_value}
-use Rattle.fixed_units.specs.Lengths.{plus, minus, point, is_negative, fraction_value, unit_at, signed}
-use Rattle.fixed_units.specs.declared.lengths.LengthText.{LengthText}
+use Rattle.css_lengths.specs.Lengths.{plus, minus, point, is_negative, fraction_value, unit_at, signed}
+use Rattle.css_lengths.specs.declared.lengths.LengthText.{LengthText}
 
 -- the parts of a text, in their order
 pub record LengthParts : Type 0 where

@@ -1,5 +1,0 @@
-use Rattle.fixed_units.proofs.Parts.{length_of_writes, length_of_none}
-use Rattle.fixed_units.proofs.laws.lengths_have_their_form.Goals as goal
-
-pub returns : goal.returns
-returns c = record { written = length_of_writes; none = length_of_none }
