@@ -2,10 +2,10 @@
 
 use crate::kinds::written::written;
 use case_format::{Case, Fault};
-use math_tree::{TreeRefusal, read_tree};
 use serde_json::Value;
 use std::alloc::Global;
 use std::fmt::Write;
+use tree_json::{TreeRefusal, read_tree};
 
 pub fn answer(case: Case, words: &mut String) -> Result<(), Fault> {
     add_reading(case.alloc, case.value, words)
