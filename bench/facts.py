@@ -14,9 +14,10 @@ import tempfile
 HERE = os.path.dirname(os.path.abspath(__file__))
 CRATES = """fixed_units: thiserror
 op_dictionary: indexmap thiserror
-math_tree: fixed_units serde_json thiserror
-embellished: fixed_units math_tree op_dictionary unicode_normalization serde_json thiserror
-facts: fixed_units math_tree op_dictionary embellished serde_json anyhow
+math_tree: fixed_units
+tree_json: fixed_units math_tree serde_json thiserror
+embellished: fixed_units math_tree op_dictionary unicode_normalization
+facts: fixed_units math_tree tree_json op_dictionary embellished serde_json anyhow
 """
 
 
@@ -33,7 +34,7 @@ def main():
     with tempfile.TemporaryDirectory() as folder:
         with open(os.path.join(folder, "crates.txt"), "w") as file:
             file.write(CRATES)
-        for name in ("fixed_units", "op_dictionary", "math_tree", "embellished"):
+        for name in ("fixed_units", "op_dictionary", "math_tree", "tree_json", "embellished"):
             source = os.path.join(HERE, "..", "crates", name)
             shutil.copytree(source, os.path.join(folder, "crates", name))
         program = os.path.join(folder, "crates", "facts")

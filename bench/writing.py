@@ -12,7 +12,7 @@ import subprocess
 import tempfile
 
 HERE = os.path.dirname(os.path.abspath(__file__))
-NEEDED = ("fixed_units", "doc_io", "op_dictionary", "math_tree", "font_metrics", "metrics_file", "box_writer")
+NEEDED = ("fixed_units", "doc_io", "op_dictionary", "math_tree", "tree_json", "font_metrics", "metrics_file", "box_writer")
 
 
 def copy_proofs(source, target):
@@ -30,7 +30,7 @@ def main():
     with tempfile.TemporaryDirectory() as folder:
         with open(os.path.join(folder, "crates.txt"), "w") as file:
             file.writelines(lines)
-            file.write("writing: fixed_units doc_io math_tree font_metrics metrics_file box_writer serde_json anyhow\n")
+            file.write("writing: fixed_units doc_io math_tree tree_json font_metrics metrics_file box_writer serde_json anyhow\n")
         for crate in NEEDED:
             source = os.path.join(HERE, "..", "crates", crate)
             shutil.copytree(source, os.path.join(folder, "crates", crate))

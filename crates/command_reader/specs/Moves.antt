@@ -5,7 +5,7 @@ use Rattle.std.specs.Option.{option_and_then, option_map_or}
 use Rattle.std.specs.Str.{bytes_eq}
 use Rattle.serde_json.specs.Data.{Data}
 use Rattle.serde_json.specs.Find.{get, as_str}
-use Rattle.math_tree.specs.Elements.{keys_in}
+use Rattle.tree_json.specs.Elements.{keys_in}
 use Rattle.tree_edits.specs.Commands.{json_in}
 use Rattle.command_reader.specs.declared.moves.Move.{Move}
 use Rattle.command_reader.specs.declared.moves.Move.TheVariants.{Undo, Redo, Other}

@@ -10,8 +10,8 @@ use Rattle.doc_io.specs.declared.whole.ReadRefusal.TheVariants as reading
 use Rattle.font_metrics.specs.Metrics.{MetricsValue}
 use Rattle.metrics_file.specs.Reading.{Fault, metrics_of, most_file_bytes}
 use Rattle.math_tree.specs.Trees.{TreeValue}
-use Rattle.math_tree.specs.Reading.{tree_of}
-use Rattle.math_tree.specs.declared.fault.TreeFault.{TreeFault}
+use Rattle.tree_json.specs.Reading.{tree_of}
+use Rattle.tree_json.specs.declared.fault.TreeFault.{TreeFault}
 use Rattle.serde_json.specs.Data.{Data}
 use Rattle.input_files.specs.Refusals.{of_reading}
 use Rattle.tree_edits.specs.Commands.{json_in}

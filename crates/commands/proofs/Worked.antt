@@ -12,7 +12,7 @@ use Rattle.metrics_file.specs.Lines.{keyword_of}
 use Rattle.metrics_file.specs.Reading.{words_of, is_foreign, after, after_first, finished, metrics_of}
 use Rattle.font_metrics.specs.Metrics.{MetricsValue, NamedGlyph}
 use Rattle.font_metrics.specs.Tables.{no_tables}
-use Rattle.math_tree.proofs.OnLiterals.{math_tree_on_literals}
+use Rattle.tree_json.proofs.OnLiterals.{tree_json_on_literals}
 use Rattle.math_tree.specs.Trees.{TreeValue, Listed, listed}
 use Rattle.math_tree.specs.declared.kind.Kind.{Kind}
 use Rattle.math_tree.specs.declared.kind.Kind.TheVariants.{Math, Mn}
@@ -48,7 +48,7 @@ use Rattle.input_files.specs.declared.refusal.Refusal.TheVariants.{Metrics, Tree
 -- what the definitions are computed by, from literals
 unfoldable on_literals : ⊤
 unfolding
-    math_tree_on_literals digits
+    tree_json_on_literals digits
     value_of_digits numeral_of number_of number_in natural_in code_of letter_in is_glyph_name glyph_name_in
     keyword_of words_of is_foreign after after_first finished metrics_of
     metrics_in
@@ -56,7 +56,7 @@ on_literals = tt
 
 -- and the lines of a script
 unfoldable lines_on_literals : ⊤
-unfolding math_tree_on_literals id_in index_in text_at value_in element_in op_of op_in has_only command_of
+unfolding tree_json_on_literals id_in index_in text_at value_in element_in op_of op_in has_only command_of
 lines_on_literals = tt
 
 -- ---- a metrics file and a tree file
@@ -178,7 +178,7 @@ read_line line text = ap (λ (b : Bool). option_and_then command_of (if b then r
 
 -- tab, space and form feed
 white_line : reply_to session (9 ∷ 32 ∷ 12 ∷ []) ≡ Nothing
-unfolding reply_to math_tree_on_literals
+unfolding reply_to tree_json_on_literals
 white_line = refl
 
 abbrev move : List ℕ
@@ -203,7 +203,7 @@ listing =
     (listed_out 2 (layer 2 (codes "mn") Mn (codes "1") []).head [])
 
 root_stays : (after : List Listed) (next : ℕ) → first_refusal (listed 1 tree_value.root) after next (Remove (record { 0 = 1 })) ≡ Some RootFixed
-unfolding math_tree_on_literals
+unfolding tree_json_on_literals
 root_stays after next = ap (λ elements. first_refusal elements after next (Remove (record { 0 = 1 }))) listing
 
 removed_root : reply_to_edit session (Remove (record { 0 = 1 })) ≡ Refused (Unmade RootFixed)
@@ -229,7 +229,7 @@ remove_told =
     ∙ ap (text_of_reply font) removed_root
 
 white_stays : after_line session (9 ∷ []) ≡ session
-unfolding after_line math_tree_on_literals
+unfolding after_line tree_json_on_literals
 white_stays = refl
 
 move_stays : after_line session move ≡ session
@@ -237,7 +237,7 @@ move_stays = unchanged session move (λ e. let other = no_move in cc)
 
 -- a line of white space, a line that is no command, and an edit that is refused
 three_replies : replies session ((9 ∷ []) ∷ move ∷ remove ∷ []) ≡ codes "refused line\nrefused root\n"
-unfolding reply_to text_of_reply math_tree_on_literals
+unfolding reply_to text_of_reply tree_json_on_literals
 three_replies =
     ap (λ s. told_of s move ++ (told_of (after_line s move) remove ++ [])) white_stays
     ∙ ap (λ s. told_of session move ++ (told_of s remove ++ [])) move_stays
@@ -255,7 +255,7 @@ accepted_edit edit line black is free =
     ∙ ap (λ reason. unless_refused reason edit) free
 
 white_accepts_none : accepted_in session (9 ∷ []) ≡ None
-unfolding accepted_in math_tree_on_literals
+unfolding accepted_in tree_json_on_literals
 white_accepts_none = refl
 
 move_accepts_none : accepted_in session move ≡ None

@@ -3,7 +3,7 @@ use Rattle.std.specs.Prelude.{ℕ, List, [], ◌∷◌, ◌++◌, Option, Some, 
 use Rattle.doc_io.specs.Causes.{Files}
 use Rattle.font_metrics.specs.Metrics.{MetricsValue}
 use Rattle.metrics_file.specs.Print.{print_of as metrics_print}
-use Rattle.math_tree.specs.Print.{print_of as tree_print}
+use Rattle.tree_json.specs.Print.{print_of as tree_print}
 use Rattle.math_tree.specs.Trees.{TreeValue}
 use Rattle.box_writer.specs.Lines.{text_of}
 use Rattle.edit_session.specs.Session.{SessionValue, page}

@@ -43,6 +43,7 @@ use script_answers::{Respond, answer_lines};
 use seeded_edits::Summary;
 use std::alloc::Global;
 use std::sync::ledger::Ledger;
+use tree_json::print_tree;
 
 /// Does all that the program does: carries out the words after the program's name, reads from the
 /// inputs, writes to the sink, and says how it ended.
@@ -401,7 +402,7 @@ fn print_both(alloc: Global, metrics: &Metrics, tree: &Tree) -> Result<List<u8>,
     ensures { IfOk result (λ text. text ≡ checked metrics.now tree.now) }
 {
     let mut text = print_metrics(alloc, metrics)?;
-    text.push_all(tree.print(alloc)?.as_slice())?;
+    text.push_all(print_tree(alloc, tree)?.as_slice())?;
     text.push(b'\n')?;
     Ok(text)
 }

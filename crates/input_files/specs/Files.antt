@@ -4,9 +4,9 @@ use Rattle.serde_json.specs.Data.{Data}
 use Rattle.font_metrics.specs.Metrics.{MetricsValue}
 use Rattle.metrics_file.specs.Reading.{Fault, metrics_of, most_file_bytes}
 use Rattle.metrics_file.specs.Reads.{told}
-use Rattle.math_tree.specs.Reading.{tree_of}
+use Rattle.tree_json.specs.Reading.{tree_of}
 use Rattle.math_tree.specs.Trees.{TreeValue}
-use Rattle.math_tree.specs.declared.fault.TreeFault.{TreeFault}
+use Rattle.tree_json.specs.declared.fault.TreeFault.{TreeFault}
 use Rattle.tree_edits.specs.Commands.{json_in}
 use Rattle.input_files.specs.declared.refusal.Refusal.{Refusal}
 use Rattle.input_files.specs.declared.refusal.Refusal.TheVariants.{MetricsLong, Metrics, TreeLong, TreeJson, Tree, Memory}

@@ -8,8 +8,8 @@ use Rattle.fixed_units.specs.declared.refusal.LayRefusal.{LayRefusal}
 use Rattle.fixed_units.specs.declared.refusal.LayRefusal.TheVariants as layout
 use Rattle.metrics_file.specs.declared.refusal.MetricsRefusal.{MetricsRefusal}
 use Rattle.metrics_file.specs.declared.refusal.MetricsRefusal.TheVariants as metrics
-use Rattle.math_tree.specs.declared.refusal.TreeRefusal.{TreeRefusal}
-use Rattle.math_tree.specs.declared.refusal.TreeRefusal.TheVariants as tree
+use Rattle.tree_json.specs.declared.refusal.TreeRefusal.{TreeRefusal}
+use Rattle.tree_json.specs.declared.refusal.TreeRefusal.TheVariants as tree
 use Rattle.page_queries.specs.declared.query.QueryRefusal.{QueryRefusal}
 use Rattle.page_queries.specs.declared.query.QueryRefusal.TheVariants as query
 use Rattle.input_files.specs.declared.status.Status.{Status}

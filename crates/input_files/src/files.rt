@@ -3,15 +3,16 @@ ghost use Rattle.std.specs.Prelude.{◌≡◌, ◌≤◌, Err, IfErr, IfOk, Some
 ghost use Rattle.tree_edits.specs.Commands.{json_in};
 ghost use Rattle.input_files.specs.Files.{metrics_in, tree_in, tree_of_json, of_metrics_file, of_tree_file, GivesOr};
 ghost use Rattle.metrics_file.specs.Reading.{metrics_of, most_file_bytes};
-ghost use Rattle.math_tree.specs.Reading.{tree_of};
+ghost use Rattle.tree_json.specs.Reading.{tree_of};
 ghost use Rattle.serde_json.specs.View.{view};
 
 use crate::refusal::Refusal;
 use font_metrics::Metrics;
-use math_tree::{Tree, read_tree};
+use math_tree::Tree;
 use metrics_file::{MOST_FILE_BYTES, read_metrics};
 use serde_json::Value;
 use std::alloc::Global;
+use tree_json::read_tree;
 use tree_reader::tree_by_tokens;
 
 /// The most bytes that a tree file may have: 4 MiB.

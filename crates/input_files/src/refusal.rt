@@ -6,10 +6,11 @@ ghost use Rattle.input_files.specs.Refusals.{fault_line, line_of, status_of, of_
 use crate::status::Status;
 use doc_io::{ReadRefusal, ShortText};
 use fixed_units::{LayRefusal, Memory};
-use math_tree::{NodeId, TreeFault, TreeRefusal};
+use math_tree::NodeId;
 use metrics_file::{MetricsFault, MetricsRefusal};
 use page_queries::QueryRefusal;
 use thiserror::Error;
+use tree_json::{TreeFault, TreeRefusal};
 
 /// Why the files don't give what is asked for.
 #[derive(Clone, Copy, Debug, PartialEq, Eq, Error)]

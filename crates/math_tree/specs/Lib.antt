@@ -1,11 +1,6 @@
 pub mod Kinds
 pub mod Forms
 pub mod Attributes
-pub mod Elements
-pub mod Keys
-pub mod Faults
 pub mod Trees
-pub mod Reading
-pub mod Parts
+pub mod Numbering
 pub mod Laws
-pub mod Print

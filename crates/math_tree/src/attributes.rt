@@ -2,14 +2,9 @@ ghost use Rattle.std.specs.Prelude.{◌≡◌, ◌<◌, [], ◌∷◌, ◌++◌,
 ghost use Rattle.std.specs.Cmp.Lexicographic.{slice_cmp};
 ghost use Rattle.std.specs.List.Sorted.{IsBinarySearchResult, IsSearchInRange};
 ghost use Rattle.std.specs.Ordering.{nat_cmp};
-ghost use Rattle.serde_json.specs.View.{view, members_view};
 ghost use Rattle.math_tree.specs.Attributes.{IsInOrder, put, truth_of_word, value_of, without};
-ghost use Rattle.math_tree.specs.Elements.{attributes_held, attributes_of};
-ghost use Rattle.math_tree.specs.Keys.{IsSaid};
 
-use crate::element::{Keys, attributes_in, text_or_empty};
 use fixed_units::{List, Memory, Room, Txt, is_word};
-use serde_json::{Map, Value};
 use std::alloc::Global;
 use std::cmp::Ordering;
 use std::marker::Model;
@@ -31,7 +26,7 @@ pub struct Attribute {
 
 impl Attribute {
     /// The attribute of that name and that value.
-    fn make(alloc: Global, name: &str, value: &str) -> Result<Attribute, Memory>
+    pub fn make(alloc: Global, name: &str, value: &str) -> Result<Attribute, Memory>
         ensures { IfOk result (λ made. made ≡ record { name = name.now; value = value.now }) }
     {
         Ok(Attribute {
@@ -62,7 +57,7 @@ impl Model for Attributes {
 
 impl Attributes {
     /// No attribute. It takes no memory.
-    #[tactic(auto, using(crate::proofs::Members::none_in_order))]
+    #[tactic(auto, using(crate::proofs::Lists::none_in_order))]
     pub fn make(alloc: Global) -> Attributes
         ensures { result ≡ [] }
     {
@@ -71,28 +66,12 @@ impl Attributes {
         }
     }
 
-    /// The attributes that a JSON value says of an element.
-    #[tactic(auto, using(crate::proofs::Members::none_in_order), unfolding(crate::specs::Elements::attributes_held))]
-    pub(crate) fn of_keys(alloc: Global, keys: &Keys) -> Result<Attributes, Memory>
-        requires said { IsSaid keys.now }
-        ensures { IfOk result
-            (λ attributes. attributes ≡ attributes_held (view keys.now.value.now)) }
+    /// The attributes of a list that stands in order already.
+    pub fn of(items: List<Attribute>) -> Attributes
+        requires { IsInOrder items }
+        ensures { result ≡ items }
     {
-        match attributes_in(keys) {
-            Some(members) => Attributes::of_members(alloc, members),
-            None => Ok(Attributes::make(alloc)),
-        }
-    }
-
-    fn of_members(alloc: Global, members: &Map<String, Value>) -> Result<Attributes, Memory>
-        ensures { IfOk result
-            (λ attributes. attributes ≡ attributes_of (members_view members.now.entries)) }
-    {
-        let mut items = List::make(alloc);
-        for (name, value) in members.iter() {
-            add(alloc, &mut items, name, text_or_empty(value))?;
-        }
-        Ok(Attributes { items })
+        Attributes { items }
     }
 
     /// The value of the attribute of that name, where there is one.

@@ -1,24 +1,5 @@
-//! Laws of the definitions. Each is a contract, so that it is proved; the functions compute
-//! nothing.
-ghost use Rattle.math_tree.specs.Laws.{FirstFaultLaw, TreeLaw, CountLaw};
-ghost use Rattle.math_tree.specs.Print.{PrintReadsBack};
-
-/// The fault of a value is that of an element in document order before which no element has one.
-#[tactic(auto, using(crate::proofs::Firsts::first_fault))]
-pub fn the_first_fault_is_told()
-    ensures { FirstFaultLaw }
-{}
-
-/// A tree lists the elements of its value in document order, and their ids are their places.
-pub fn trees_list_the_elements()
-    ensures { TreeLaw }
-{}
-
-/// The value that a tree is printed as stands for the same tree, with its ids numbered anew.
-#[tactic(auto, using(crate::proofs::RoundTrip::print_reads_back))]
-pub fn a_printed_tree_reads_back()
-    ensures { PrintReadsBack }
-{}
+//! A law of the definitions. It is a contract, so that it is proved; the function computes nothing.
+ghost use Rattle.math_tree.specs.Laws.{CountLaw};
 
 /// The elements in a node are itself and those in its children, and so are the bytes; it has fewer
 /// children than elements. So an element of a whole tree has at most 65,535 children.

@@ -1,9 +1,5 @@
 ghost use Rattle.std.specs.Prelude.{◌≡◌, IfOk};
-ghost use Rattle.serde_json.specs.View.{view};
-ghost use Rattle.math_tree.specs.Keys.{IsSaid};
-ghost use Rattle.math_tree.specs.Reading.{head_of};
 
-use crate::element::{Keys, text_held};
 use crate::{Attributes, Kind};
 use fixed_units::{List, Memory, Txt};
 use std::alloc::Global;
@@ -35,20 +31,6 @@ pub struct Head {
 pub struct NodeId(pub u32);
 
 impl Head {
-    /// What a JSON value says of an element, under this id.
-    pub(crate) fn of_keys(alloc: Global, id: NodeId, keys: &Keys) -> Result<Head, Memory>
-        requires said { IsSaid keys.now }
-        ensures { IfOk result (λ head. head ≡ head_of id.0 (view keys.now.value.now)) }
-    {
-        Ok(Head {
-            id,
-            name: Txt::make(alloc, keys.name)?,
-            kind: keys.kind,
-            attributes: Attributes::of_keys(alloc, keys)?,
-            text: Txt::make(alloc, text_held(keys))?,
-        })
-    }
-
     /// The same again, with its id.
     pub fn copy(&self, alloc: Global) -> Result<Head, Memory>
         ensures { IfOk result (λ copied. copied ≡ self.now) }

@@ -3,15 +3,15 @@ use Rattle.std.proofs.Common.{◌≡◌, ◌∙◌, refl, ap}
 use Rattle.std.specs.Prelude.{Result, Ok, Err}
 use Rattle.fixed_units.specs.Sums.{list_to}
 use Rattle.serde_json.specs.Data.{Data}
-use Rattle.math_tree.proofs.OnLiterals.{math_tree_on_literals}
-use Rattle.math_tree.specs.Reading.{tree_of}
+use Rattle.tree_json.proofs.OnLiterals.{tree_json_on_literals}
+use Rattle.tree_json.specs.Reading.{tree_of}
 use Rattle.math_tree.specs.Trees.{TreeValue}
-use Rattle.math_tree.specs.declared.fault.TreeFault.{TreeFault}
+use Rattle.tree_json.specs.declared.fault.TreeFault.{TreeFault}
 use Rattle.seeded_edits.specs.Document.{document}
 use Rattle.seeded_edits.specs.Start.{start_row, start_tree}
 
 pub document_gives_the_tree : tree_of document ≡ Ok start_tree
-unfolding math_tree_on_literals list_to document start_row start_tree
+unfolding tree_json_on_literals list_to document start_row start_tree
 document_gives_the_tree = refl
 
 both : (read : Result TreeValue TreeFault) (tree : TreeValue) (fault : TreeFault) → read ≡ Ok tree → read ≡ Err fault → ⊥

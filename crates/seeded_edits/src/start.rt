@@ -4,9 +4,10 @@ ghost use Rattle.seeded_edits.specs.Document.{document, row_value};
 ghost use Rattle.seeded_edits.specs.Start.{row_count, row_id, start_tree};
 
 use fixed_units::Memory;
-use math_tree::{Tree, TreeRefusal, read_tree};
+use math_tree::Tree;
 use serde_json::{Value, json};
 use std::alloc::Global;
+use tree_json::{TreeRefusal, read_tree};
 
 /// How many rows the tree has.
 pub const ROW_COUNT: u32 = 64;

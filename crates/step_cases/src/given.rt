@@ -1,8 +1,9 @@
 //! What a case gives.
 
 use case_format::{Fault, Fields};
-use math_tree::{Tree, TreeRefusal, read_tree};
+use math_tree::Tree;
 use std::alloc::Global;
+use tree_json::{TreeRefusal, read_tree};
 
 /// The tree of the key `tree`.
 pub fn tree_in(alloc: Global, fields: Fields) -> Result<Tree, Fault> {

@@ -9,6 +9,7 @@ use math_tree::Tree;
 use memo_tree::MemoTree;
 use std::alloc::Global;
 use std::sync::ledger::Ledger;
+use tree_json::print_tree;
 
 /// What is kept of a tree.
 pub fn kept_of(laid: &MemoTree) -> Kept {
@@ -30,8 +31,8 @@ pub fn is_equal(alloc: Global, one: &MemoTree, other: &MemoTree) -> Result<bool,
 
 /// Whether two trees are printed the same and have the same next id.
 pub fn is_same_tree(alloc: Global, one: &Tree, other: &Tree) -> Result<bool, Fault> {
-    let print = one.print(alloc)?;
-    let other_print = other.print(alloc)?;
+    let print = print_tree(alloc, one)?;
+    let other_print = print_tree(alloc, other)?;
     Ok(one.next_id() == other.next_id() && print.as_slice() == other_print.as_slice())
 }
 

@@ -3,7 +3,7 @@ use Rattle.std.proofs.Common.{◌≡◌, ◌∙◌, ap, refl, ℕ, ◌+◌, List
 use Rattle.std.proofs.lemmas.Cmp.{nat_list_cmp_total, tied_itself}
 use Rattle.std.specs.List.Sorted.{IsStrictlySortedBy}
 use Rattle.math_tree.proofs.Lookup.{compare}
-use Rattle.math_tree.proofs.Members.{bytes_more}
+use Rattle.math_tree.proofs.Lists.{bytes_more}
 use Rattle.math_tree.specs.Attributes.{IsInOrder, bytes_of_attributes, names_of, put, value_of, without}
 use Rattle.math_tree.specs.declared.attributes.Attribute.{Attribute}
 use Rattle.tree_edits.proofs.Inverse.{IsBeforeAll, same_name, further, value_absent, without_absent, put_first, further_on, value_further_on, dropped, value_here}

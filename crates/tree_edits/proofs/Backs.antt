@@ -4,7 +4,7 @@ use Rattle.std.proofs.lemmas.Bool.{eqb-true}
 use Rattle.std.proofs.lemmas.Option.{slice_get_within}
 use Rattle.std.specs.Option.{option_and_then, option_map_or}
 use Rattle.math_tree.specs.Attributes.{value_of}
-use Rattle.math_tree.specs.Print.{renumbered}
+use Rattle.math_tree.specs.Numbering.{renumbered}
 use Rattle.math_tree.specs.Trees.{TreeValue, IsWhole}
 use Rattle.math_tree.specs.declared.node.Head.{Head}
 use Rattle.math_tree.specs.declared.node.Node.{Node}

@@ -10,7 +10,7 @@ use Rattle.std.specs.Str.{bytes_eq}
 use Rattle.math_tree.specs.Attributes.{value_of}
 use Rattle.math_tree.specs.Forms.{most_elements, most_bytes, is_name, is_short_enough}
 use Rattle.math_tree.specs.Kinds.{is_text_kind}
-use Rattle.math_tree.specs.Print.{renumbered}
+use Rattle.math_tree.specs.Numbering.{renumbered}
 use Rattle.math_tree.specs.Trees.{TreeValue, IsProper, IsProperAttribute, IsWhole, Listed, byte_count, element_count, ids_of, listed}
 use Rattle.math_tree.specs.declared.attributes.Attribute.{Attribute}
 use Rattle.math_tree.specs.declared.node.Head.{Head}

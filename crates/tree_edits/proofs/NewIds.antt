@@ -5,7 +5,7 @@ use Rattle.std.proofs.lemmas.List.Sums.{sum_by-cons, sum_by_more_le, sum_by_more
 use Rattle.std.proofs.lemmas.Option.{none-some, same_Some, slice_get_within, get_or_from_slice_get}
 use Rattle.std.specs.List.{sum_by}
 use Rattle.math_tree.proofs.Counts.{elements_are}
-use Rattle.math_tree.specs.Print.{renumbered, with_id}
+use Rattle.math_tree.specs.Numbering.{renumbered, with_id}
 use Rattle.math_tree.specs.Trees.{node, element_count}
 use Rattle.math_tree.specs.declared.node.Node.{Node}
 use Rattle.math_tree.specs.declared.node.Node.TheViews.{roll-out-Node}

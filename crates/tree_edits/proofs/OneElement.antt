@@ -8,7 +8,7 @@ use Rattle.std.specs.List.{AllByRecursion, IsDistinct, filter, insert, remove, s
 use Rattle.std.specs.Option.{option_and_then, option_map_or}
 use Rattle.math_tree.proofs.Counts.{total_is}
 use Rattle.math_tree.proofs.Nodes.{by_children}
-use Rattle.math_tree.specs.Print.{renumbered}
+use Rattle.math_tree.specs.Numbering.{renumbered}
 use Rattle.math_tree.specs.Trees.{Listed, node, listed, ids_of}
 use Rattle.math_tree.specs.declared.node.Head.{Head}
 use Rattle.math_tree.specs.declared.node.Node.{Node}

@@ -9,7 +9,7 @@ use Rattle.serde_json.specs.Read.{read}
 use Rattle.serde_json.specs.View.{view, members_view}
 use Rattle.serde_json.specs.declared.value.Value.{Value, Object}
 use Rattle.serde_json.proofs.Views.{view-Object}
-use Rattle.math_tree.specs.Elements.{keys_of}
+use Rattle.tree_json.specs.Elements.{keys_of}
 use Rattle.tree_edits.specs.Commands.{is_key_of, has_only, json_in}
 use Rattle.tree_edits.specs.declared.read.Op.{Op}
 

@@ -8,8 +8,7 @@ use Rattle.std.specs.List.{AllByRecursion, IsDistinct, flat_map, sum_by}
 use Rattle.math_tree.proofs.Counts.{elements_are}
 use Rattle.math_tree.proofs.Nodes.{by_children, listed_element}
 use Rattle.math_tree.specs.Forms.{most_levels}
-use Rattle.math_tree.specs.Print.{with_id, renumbered_layer, renumbered}
-use Rattle.math_tree.specs.Reading.{Planted, nodes_from}
+use Rattle.math_tree.specs.Numbering.{with_id, renumbered_layer, renumbered, Planted, nodes_from}
 use Rattle.math_tree.specs.Trees.{Listed, node, listed, ids_of, element_count, byte_count, bytes_of_head, IsProper}
 use Rattle.math_tree.specs.declared.node.Node.{Node}
 use Rattle.math_tree.specs.declared.node.Node.TheFolds.{fold-Node, fold_out-Node}

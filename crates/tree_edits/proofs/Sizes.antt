@@ -5,7 +5,7 @@ use Rattle.std.proofs.lemmas.Bool.{le-ltb, or_from}
 use Rattle.std.proofs.lemmas.List.Elements.{recursion_from_All}
 use Rattle.std.specs.List.{AllByRecursion, flat_map, insert, remove}
 use Rattle.math_tree.specs.Forms.{most_levels}
-use Rattle.math_tree.specs.Print.{renumbered}
+use Rattle.math_tree.specs.Numbering.{renumbered}
 use Rattle.math_tree.specs.Trees.{TreeValue, Listed, listed, element_count, byte_count, bytes_of_head, IsWhole}
 use Rattle.math_tree.specs.declared.node.Head.{Head}
 use Rattle.math_tree.specs.declared.node.Node.{Node}

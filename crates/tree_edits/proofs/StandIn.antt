@@ -2,9 +2,9 @@
 use Rattle.std.proofs.Common.{◌≡◌, ◌∙◌, refl, ℕ, ◌≤◌, ◌<◌, [], ◌∷◌, nat_eq, arith}
 use Rattle.std.proofs.lemmas.List.Elements.{All-nil, All-cons}
 use Rattle.std.specs.List.{IsDistinct}
-use Rattle.math_tree.proofs.Members.{none_in_order}
+use Rattle.math_tree.proofs.Lists.{none_in_order}
 use Rattle.math_tree.proofs.Nodes.{listed_element}
-use Rattle.math_tree.proofs.OnLiterals.{math_tree_on_literals}
+use Rattle.tree_json.proofs.OnLiterals.{tree_json_on_literals}
 use Rattle.math_tree.specs.Forms.{most_levels}
 use Rattle.math_tree.specs.Trees.{IsTotalled, IsWhole, IsProper, IsProperAttribute, Listed, listed, bytes_of_head}
 use Rattle.math_tree.specs.declared.node.Node.TheViews.{out-Node, out-roll-Node}
@@ -22,7 +22,7 @@ unfolding spare_root
 head_spare = rw out-roll-Node refl
 
 proper_spare : IsProper spare_element
-unfolding math_tree_on_literals
+unfolding tree_json_on_literals
 proper_spare = record {
   kind = refl;
   name = refl;
@@ -34,7 +34,7 @@ proper_spare = record {
 }
 
 bytes_spare : bytes_of_head spare_head ≡ 4
-unfolding math_tree_on_literals
+unfolding tree_json_on_literals
 bytes_spare = refl
 
 distinct_one : (id : ℕ) → IsDistinct nat_eq (id ∷ [])

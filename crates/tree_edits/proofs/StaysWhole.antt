@@ -6,7 +6,7 @@ use Rattle.std.proofs.lemmas.Option.{slice_get_within}
 use Rattle.std.specs.List.{AllByRecursion, IsDistinct, insert, remove}
 use Rattle.math_tree.specs.Forms.{most_levels, most_elements, most_bytes, is_name, is_short_enough}
 use Rattle.math_tree.specs.Kinds.{is_text_kind}
-use Rattle.math_tree.specs.Print.{renumbered}
+use Rattle.math_tree.specs.Numbering.{renumbered}
 use Rattle.math_tree.specs.Trees.{TreeValue, Listed, node, listed, ids_of, IsWhole, IsProper}
 use Rattle.math_tree.specs.declared.node.Head.{Head}
 use Rattle.math_tree.specs.declared.node.Node.{Node}

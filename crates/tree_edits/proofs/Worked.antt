@@ -1,8 +1,7 @@
 -- Edits of a small tree, and each reason for which one is refused.
 use Rattle.std.proofs.Common.{◌≡◌, ◌∙◌, refl, ap, map, ℕ, ◌+◌, ◌^◌, List, [], ◌∷◌, length, Some, None, true, false, codes}
-use Rattle.math_tree.proofs.OnLiterals.{math_tree_on_literals}
-use Rattle.math_tree.specs.Print.{with_id, renumbered, renumbered_layer}
-use Rattle.math_tree.specs.Reading.{Planted}
+use Rattle.tree_json.proofs.OnLiterals.{tree_json_on_literals}
+use Rattle.math_tree.specs.Numbering.{with_id, renumbered, renumbered_layer, Planted}
 use Rattle.math_tree.specs.Trees.{Listed, node, element_count}
 use Rattle.math_tree.specs.declared.attributes.Attribute.{Attribute}
 use Rattle.math_tree.specs.declared.kind.Kind.{Kind}
@@ -164,63 +163,63 @@ unknown : Refused (Text (id 5) (codes "y")) UnknownNode
 unknown after next = refl
 
 text_of_a_row : Refused (Text (id 3) (codes "y")) NotText
-unfolding math_tree_on_literals
+unfolding tree_json_on_literals
 text_of_a_row after next = refl
 
 -- both hold, and the first is told
 into_a_letter : Refused (Insert (id 2) 7 x) IsText
-unfolding math_tree_on_literals
+unfolding tree_json_on_literals
 into_a_letter after next = refl
 
 behind_the_end : Refused (Insert (id 3) 2 x) IndexPast
-unfolding math_tree_on_literals
+unfolding tree_json_on_literals
 behind_the_end after next = refl
 
 root_removed : Refused (Remove (id 1)) RootFixed
-unfolding math_tree_on_literals
+unfolding tree_json_on_literals
 root_removed after next = refl
 
 root_replaced : Refused (Replace (id 1) x) RootFixed
-unfolding math_tree_on_literals
+unfolding tree_json_on_literals
 root_replaced after next = refl
 
 -- also where nothing would be removed
 name_with_digit_first : Refused (Attr (id 3) (codes "2d") None) BadName
-unfolding math_tree_on_literals
+unfolding tree_json_on_literals
 name_with_digit_first after next = refl
 
 -- elements that stay within all limits
 level_sixty_one : (next : ℕ) → first_refusal elements (listed_at 61 math 0 ∷ []) next (Remove (id 4)) ≡ Some TooDeep
-unfolding math_tree_on_literals
+unfolding tree_json_on_literals
 level_sixty_one next = refl
 
 too_large : (after : List Listed) (next : ℕ) → is_deep after ≡ false → is_large after ≡ true
     → first_refusal elements after next (Remove (id 4)) ≡ Some TooMany
-unfolding math_tree_on_literals
+unfolding tree_json_on_literals
 too_large after next deep large = rw (deep, large) refl
 
 -- 2^32 may be the next id, and no more
 one_id_too_many : first_refusal elements elements (2 ^ 32 + 1) (Insert (id 3) 1 x) ≡ Some IdsSpent
-unfolding math_tree_on_literals
+unfolding tree_json_on_literals
 one_id_too_many = refl
 
 last_id : first_refusal elements elements (2 ^ 32) (Insert (id 3) 1 x) ≡ None
-unfolding math_tree_on_literals
+unfolding tree_json_on_literals
 last_id = refl
 
 -- an id that is kept has to be free: not that of an element, also where that one goes, and given
 id_of_an_element : first_refusal elements elements 9 (Graft (id 3) 1 (y 4)) ≡ Some IdTaken
-unfolding math_tree_on_literals
+unfolding tree_json_on_literals
 id_of_an_element = rw (listed_out 1 (letter 4 (codes "y")) []) refl
 
 id_of_what_goes : first_refusal elements elements 9 (Swap (id 4) (y 4)) ≡ Some IdTaken
-unfolding math_tree_on_literals
+unfolding tree_json_on_literals
 id_of_what_goes = rw (listed_out 1 (letter 4 (codes "y")) []) refl
 
 id_not_given_yet : first_refusal elements elements 9 (Graft (id 3) 1 (y 9)) ≡ Some IdTaken
-unfolding math_tree_on_literals
+unfolding tree_json_on_literals
 id_not_given_yet = rw (listed_out 1 (letter 9 (codes "y")) []) refl
 
 id_that_was_given : first_refusal elements elements 9 (Graft (id 3) 1 (y 8)) ≡ None
-unfolding math_tree_on_literals
+unfolding tree_json_on_literals
 id_that_was_given = rw (listed_out 1 (letter 8 (codes "y")) []) refl

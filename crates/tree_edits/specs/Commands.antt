@@ -6,13 +6,13 @@ use Rattle.std.specs.Str.{bytes_eq, is_utf8}
 use Rattle.serde_json.specs.Data.{Data, null, boolean, number, string, array, object}
 use Rattle.serde_json.specs.Find.{get, as_number, as_str, as_u64}
 use Rattle.serde_json.specs.Read.{read}
-use Rattle.math_tree.specs.Elements.{keys_in}
-use Rattle.math_tree.specs.Reading.{part_of}
-use Rattle.math_tree.specs.declared.fault.TreeFault.{TreeFault}
+use Rattle.tree_json.specs.Elements.{keys_in}
+use Rattle.tree_json.specs.Reading.{part_of}
+use Rattle.tree_json.specs.declared.fault.TreeFault.{TreeFault}
 use Rattle.math_tree.specs.declared.node.Node.{Node}
 use Rattle.math_tree.specs.declared.node.NodeId.{NodeId}
-use Rattle.math_tree.specs.declared.refusal.TreeRefusal.{TreeRefusal}
-use Rattle.math_tree.specs.declared.refusal.TreeRefusal.TheVariants.{Fault, Memory as NoMemory}
+use Rattle.tree_json.specs.declared.refusal.TreeRefusal.{TreeRefusal}
+use Rattle.tree_json.specs.declared.refusal.TreeRefusal.TheVariants.{Fault, Memory as NoMemory}
 use Rattle.tree_edits.specs.Applying.{IsProperEdit}
 use Rattle.tree_edits.specs.declared.command.Command.{Command}
 use Rattle.tree_edits.specs.declared.command.Command.TheVariants.{Show, Change}

@@ -1,7 +1,7 @@
 -- What the map over all elements is: one change at the end of the way to an element.
 use Rattle.std.specs.Prelude.{◌≡◌, ℕ, List, Some, true, slice_get}
 use Rattle.splices.specs.declared.splice.Splice.TheVariants.{Put, Take, Swap as Exchange}
-use Rattle.math_tree.specs.Print.{renumbered}
+use Rattle.math_tree.specs.Numbering.{renumbered}
 use Rattle.math_tree.specs.Trees.{TreeValue, IsWhole}
 use Rattle.math_tree.specs.declared.node.Node.{Node}
 use Rattle.tree_edits.specs.Edits.{named, has_id, head_of, edited}

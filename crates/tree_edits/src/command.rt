@@ -1,7 +1,7 @@
 use crate::Edit;
 use fixed_units::Memory;
-use math_tree::TreeRefusal;
 use thiserror::Error;
+use tree_json::TreeRefusal;
 
 /// What a line of a script asks for.
 #[derive(Debug, Drop)]

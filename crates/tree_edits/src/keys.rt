@@ -6,9 +6,10 @@ ghost use Rattle.tree_edits.specs.Commands.{as_id, id_in, index_in, text_at, val
 
 use crate::CommandRefusal;
 use fixed_units::Txt;
-use math_tree::{Node, NodeId, read_part};
+use math_tree::{Node, NodeId};
 use serde_json::Value;
 use std::alloc::Global;
+use tree_json::read_part;
 
 /// The id under `node`.
 #[tactic(auto, unfolding(crate::specs::Commands::id_in))]

@@ -1,6 +1,6 @@
 //! The ids of new elements.
 ghost use Rattle.std.specs.Prelude.{◌≡◌, ◌+◌, ◌≤◌, ◌^◌};
-ghost use Rattle.math_tree.specs.Print.{renumbered};
+ghost use Rattle.math_tree.specs.Numbering.{renumbered};
 ghost use Rattle.math_tree.specs.Trees.{element_count};
 
 use math_tree::{Node, NodeId};

@@ -1,7 +1,7 @@
 //! An edit as it is planned, by looks at the tree alone. All memory that it and undoing it take is
 //! taken here.
 ghost use Rattle.std.specs.Prelude.{◌≡◌, ◌+◌, ◌≤◌, ◌^◌, length, IfOk, IfErr};
-ghost use Rattle.math_tree.specs.Print.{renumbered};
+ghost use Rattle.math_tree.specs.Numbering.{renumbered};
 ghost use Rattle.math_tree.specs.Trees.{element_count};
 ghost use Rattle.tree_edits.specs.Applying.{IsProperEdit, IsReason};
 ghost use Rattle.tree_edits.specs.declared.edit.EditRefusal.TheVariants.{Memory as OutOfMemory};

@@ -6,7 +6,7 @@ use Rattle.json.specs.Token.{Token}
 use Rattle.json.proofs.Grammar.{items_end, items_more, value-begin_array}
 use Rattle.serde_json.specs.Data.{Data, Items, no_items, item, array}
 use Rattle.serde_json.specs.Read.{converted, of_items, of_json}
-use Rattle.math_tree.specs.Elements.{listed_items}
+use Rattle.tree_json.specs.Elements.{listed_items}
 use Rattle.tree_reader.proofs.Members.{gave}
 
 -- items behind those of a list

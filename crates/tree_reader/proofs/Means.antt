@@ -9,19 +9,19 @@ use Rattle.std.proofs.lemmas.Option.{none-some}
 use Rattle.json.specs.Json.{value}
 use Rattle.serde_json.specs.Data.{Data, object, Items, no_items, item, Members}
 use Rattle.math_tree.specs.Attributes.{bytes_of_attributes}
-use Rattle.math_tree.specs.Elements.{Element, elements, are_attributes, attributes_held, attributes_of, below, bytes_held, has_attributes, has_children, is_map_of_attributes, has_known_keys, has_text, is_object, kind_in, listed_items, may_be_text_of, may_stand_below, name_in, text_held, text_in}
-use Rattle.math_tree.specs.Faults.{fault_at, fault_of, first_fault_after, is_misplaced}
+use Rattle.tree_json.specs.Elements.{Element, elements, are_attributes, attributes_held, attributes_of, below, bytes_held, has_attributes, has_children, is_map_of_attributes, has_known_keys, has_text, is_object, kind_in, listed_items, may_be_text_of, may_stand_below, name_in, text_held, text_in}
+use Rattle.tree_json.specs.Faults.{fault_at, fault_of, first_fault_after, is_misplaced}
 use Rattle.math_tree.specs.Forms.{is_name, is_short_enough, is_white_space, most_bytes, most_elements, most_levels}
 use Rattle.math_tree.specs.Kinds.{is_text_kind, kind_of}
-use Rattle.math_tree.specs.Parts.{AreOrderedAt, ReadsElement, ReadsElements}
-use Rattle.math_tree.specs.Reading.{head_of}
+use Rattle.tree_json.specs.Parts.{AreOrderedAt, ReadsElement, ReadsElements}
+use Rattle.tree_json.specs.Reading.{head_of}
 use Rattle.math_tree.specs.Trees.{node}
 use Rattle.math_tree.specs.declared.attributes.Attribute.{Attribute}
 use Rattle.math_tree.specs.declared.kind.Kind.{Kind}
 use Rattle.math_tree.specs.declared.node.Head.{Head}
 use Rattle.math_tree.specs.declared.node.Node.{Node}
-use Rattle.math_tree.specs.declared.portion.Portion.TheVariants.{Whole}
-use Rattle.math_tree.proofs.ReadParts.{whole_part}
+use Rattle.tree_json.specs.declared.portion.Portion.TheVariants.{Whole}
+use Rattle.tree_json.proofs.ReadParts.{whole_part}
 use Rattle.tree_reader.specs.Read.{HaveRead}
 use Rattle.tree_reader.specs.Said.{members_of}
 use Rattle.tree_reader.specs.declared.seen.Seen.{Seen}

@@ -6,12 +6,12 @@ use Rattle.json.specs.Json.{read_key, value}
 use Rattle.json.specs.Token.{Token}
 use Rattle.serde_json.specs.Data.{Data, string, array, object, Items, Members, put}
 use Rattle.serde_json.specs.Read.{converted, of_json}
-use Rattle.math_tree.specs.Elements.{attributes_of}
+use Rattle.tree_json.specs.Elements.{attributes_of}
 use Rattle.math_tree.specs.Forms.{is_short_enough}
 use Rattle.math_tree.specs.declared.attributes.Attribute.{Attribute}
 use Rattle.math_tree.specs.declared.node.Node.{Node}
-use Rattle.math_tree.specs.declared.portion.Portion.TheVariants.{Whole}
-use Rattle.math_tree.proofs.ReadParts.{side_limits}
+use Rattle.tree_json.specs.declared.portion.Portion.TheVariants.{Whole}
+use Rattle.tree_json.proofs.ReadParts.{side_limits}
 use Rattle.tree_reader.specs.Keys.{text_of}
 use Rattle.tree_reader.specs.Read.{AreRead, HaveRead, SaysMore, depth_at}
 use Rattle.tree_reader.specs.Said.{IsOpen, SaysAttributes, members_of}
@@ -20,8 +20,8 @@ use Rattle.tree_reader.specs.declared.said.Said.{Said}
 use Rattle.tree_reader.specs.declared.seen.Seen.{Seen}
 use Rattle.tree_reader.proofs.Open.{more, text_read}
 use Rattle.tree_reader.proofs.Shapes.{put_attributes, put_children, put_name, put_text}
-use Rattle.math_tree.specs.Elements.{listed_items}
-use Rattle.math_tree.specs.Parts.{ReadsElements}
+use Rattle.tree_json.specs.Elements.{listed_items}
+use Rattle.tree_json.specs.Parts.{ReadsElements}
 use Rattle.std.specs.Prelude.{Ok}
 
 abbrev Holds : Bool → Type 0

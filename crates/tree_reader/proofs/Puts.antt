@@ -6,7 +6,7 @@ use Rattle.std.specs.Cmp.Lexicographic.{slice_cmp}
 use Rattle.std.specs.Ordering.{match_ordering}
 use Rattle.serde_json.specs.Data.{Data, string, Members, no_members, member, put}
 use Rattle.math_tree.specs.Attributes as math
-use Rattle.math_tree.specs.Elements.{are_attributes, attribute_of, attributes_of, is_attribute}
+use Rattle.tree_json.specs.Elements.{are_attributes, attribute_of, attributes_of, is_attribute}
 use Rattle.math_tree.specs.declared.attributes.Attribute.{Attribute}
 use Rattle.math_tree.proofs.Lookup.{tested}
 

@@ -3,7 +3,7 @@ use Rattle.std.proofs.Common.{◌≡◌, refl, ℕ, List, [], true, Option, Some
 use Rattle.std.specs.Prelude.{unwrap_or}
 use Rattle.serde_json.specs.Data.{string, array, object, Items, no_items, Members, put}
 use Rattle.serde_json.specs.Find.{get}
-use Rattle.math_tree.specs.Elements.{name_in, attributes_in, text_in, children_in, has_known_keys}
+use Rattle.tree_json.specs.Elements.{name_in, attributes_in, text_in, children_in, has_known_keys}
 use Rattle.tree_reader.specs.Said.{members_of}
 
 -- ---- one member more

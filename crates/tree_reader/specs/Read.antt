@@ -6,14 +6,14 @@ use Rattle.json.specs.Token.{Token}
 use Rattle.serde_json.specs.Data.{Data, Items, Members, array, object}
 use Rattle.serde_json.specs.Read.{converted, of_json, read}
 use Rattle.math_tree.specs.Attributes.{bytes_of_attributes}
-use Rattle.math_tree.specs.Elements.{are_attributes, attributes_of, listed_items}
+use Rattle.tree_json.specs.Elements.{are_attributes, attributes_of, listed_items}
 use Rattle.math_tree.specs.Forms.{is_short_enough, most_bytes, most_elements, most_levels}
-use Rattle.math_tree.specs.Parts.{AreOrderedAt, IsOrderedAt, ReadsElement, ReadsElements}
-use Rattle.math_tree.specs.Reading.{tree_of}
+use Rattle.tree_json.specs.Parts.{AreOrderedAt, IsOrderedAt, ReadsElement, ReadsElements}
+use Rattle.tree_json.specs.Reading.{tree_of}
 use Rattle.math_tree.specs.Trees.{TreeValue}
 use Rattle.math_tree.specs.declared.node.Head.{Head}
 use Rattle.math_tree.specs.declared.node.Node.{Node}
-use Rattle.math_tree.specs.declared.portion.Portion.TheVariants.{Whole}
+use Rattle.tree_json.specs.declared.portion.Portion.TheVariants.{Whole}
 use Rattle.tree_edits.specs.Commands.{json_in}
 use Rattle.tree_reader.specs.Keys.{text_of}
 use Rattle.tree_reader.specs.Said.{IsOpen, members_of}

@@ -5,14 +5,14 @@ use Rattle.json.specs.Token.{Token}
 use Rattle.serde_json.specs.Data.{Data, string, array, object, Items, Members, no_members, member}
 use Rattle.serde_json.specs.Read.{converted, of_json, of_members}
 use Rattle.math_tree.specs.Attributes.{IsInOrder}
-use Rattle.math_tree.specs.Elements.{are_attributes, attributes_of}
-use Rattle.math_tree.specs.Faults.{is_misplaced}
+use Rattle.tree_json.specs.Elements.{are_attributes, attributes_of}
+use Rattle.tree_json.specs.Faults.{is_misplaced}
 use Rattle.math_tree.specs.Forms.{is_name}
 use Rattle.math_tree.specs.Kinds.{is_text_kind, kind_of}
 use Rattle.math_tree.specs.Trees.{node}
 use Rattle.math_tree.specs.declared.attributes.Attribute.{Attribute}
 use Rattle.math_tree.specs.declared.node.Node.{Node}
-use Rattle.math_tree.specs.declared.portion.Portion.TheVariants.{Whole}
+use Rattle.tree_json.specs.declared.portion.Portion.TheVariants.{Whole}
 use Rattle.tree_reader.specs.declared.keys.Key.{Key}
 use Rattle.tree_reader.specs.declared.keys.Key.TheVariants.{Name, Attributes, Text, Children, End}
 use Rattle.tree_reader.specs.declared.said.Said.{Said}

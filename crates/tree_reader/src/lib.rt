@@ -4,13 +4,13 @@
 //! whatever order an element has its keys. It reads a tree without a fault in which no element has
 //! a key twice, only text elements have a text, and none of these has `children`, be it white space
 //! or an empty array. Whoever calls it reads any other tree from its JSON value, by
-//! `math_tree::read_tree`, which also tells the first fault.
+//! `tree_json::read_tree`, which also tells the first fault.
 //!
 //! - Models: a reader of events in one pass, in place of one that builds a document first.
 //! - Proved: a tree that is given is the one that `tree_of` gives for the value of the bytes
-//!   (`math_tree/specs/Reading.antt`). That one is given isn't: it may be none at any time.
+//!   (`tree_json/specs/Reading.antt`). That one is given isn't: it may be none at any time.
 //! - Knows nothing of: what is at fault, edits, layout.
-//! - Change the keys of an element: `math_tree`, `specs/Elements.antt`, then `specs/Keys.antt`
+//! - Change the keys of an element: `tree_json`, `specs/Elements.antt`, then `specs/Keys.antt`
 //!   with `src/keys.rt`, and `specs/Said.antt` with `src/said.rt`.
 #![tactic(auto)]
 

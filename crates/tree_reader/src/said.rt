@@ -1,9 +1,9 @@
 //! What the members of an element say, in whatever order they come.
 ghost use Rattle.std.specs.Prelude.{◌≡◌, [], None, false, true, unwrap_or, IfOk, IfSome};
-ghost use Rattle.math_tree.specs.Faults.{is_misplaced};
+ghost use Rattle.tree_json.specs.Faults.{is_misplaced};
 ghost use Rattle.math_tree.specs.Forms.{is_name};
 ghost use Rattle.math_tree.specs.Kinds.{is_text_kind};
-ghost use Rattle.math_tree.specs.declared.portion.Portion.TheVariants.{Whole};
+ghost use Rattle.tree_json.specs.declared.portion.Portion.TheVariants.{Whole};
 ghost use Rattle.tree_reader.specs.Said.{IsMadeOf, IsUnsaid};
 
 use crate::keys::Key;

@@ -1,8 +1,9 @@
 //! How elements are read.
 
 use case_format::{Fault, Fields};
-use math_tree::{Node, TreeRefusal, read_part};
+use math_tree::Node;
 use std::alloc::Global;
+use tree_json::{TreeRefusal, read_part};
 
 /// The element of the key `element`, as in a tree file.
 pub fn element_in(alloc: Global, fields: Fields) -> Result<Node, Fault> {

@@ -2,11 +2,12 @@
 //! forms and truth values.
 
 use case_format::Fault;
-use math_tree::{Node, TreeRefusal, read_part};
+use math_tree::Node;
 use op_dictionary::Form;
 use serde_json::Value;
 use std::alloc::{AllocError, Global};
 use std::fmt::Write;
+use tree_json::{TreeRefusal, read_part};
 
 /// The element that a value is.
 pub fn element_of(alloc: Global, value: &Value) -> Result<Node, Fault> {

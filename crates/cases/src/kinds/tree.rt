@@ -1,10 +1,10 @@
 //! `tree`: whether a value is a tree. `treefile`: whether a file is one, however long it is.
 
 use case_format::{Case, Fault, written};
-use math_tree::{TreeRefusal, read_tree};
 use serde_json::Value;
 use std::alloc::Global;
 use std::fmt::Write;
+use tree_json::{TreeRefusal, read_tree};
 
 pub fn answer(case: Case, words: &mut String) -> Result<(), Fault> {
     add_reading(case.alloc, case.value, words)

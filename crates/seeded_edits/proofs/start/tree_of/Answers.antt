@@ -1,8 +1,8 @@
 use Rattle.std.proofs.Common.{subst}
 use Rattle.std.specs.Prelude.{Err}
 use Rattle.serde_json.specs.View.{view}
-use Rattle.math_tree.specs.Reading.{Reads, tree_of}
-use Rattle.math_tree.specs.declared.refusal.TreeRefusal.{TreeRefusal}
+use Rattle.tree_json.specs.Reading.{Reads, tree_of}
+use Rattle.tree_json.specs.declared.refusal.TreeRefusal.{TreeRefusal}
 use Rattle.seeded_edits.proofs.Document.{no_fault, the_tree}
 use Rattle.seeded_edits.proofs.start.tree_of.Goals as goal
 

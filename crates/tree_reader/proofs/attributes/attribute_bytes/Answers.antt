@@ -2,7 +2,8 @@ use Rattle.std.proofs.Common.{◌≡◌, ◌∙◌, ◌∷◌, ◌+◌, ◌<◌,
 use Rattle.std.proofs.lemmas.List.{drop_all, drop_more}
 use Rattle.math_tree.specs.Attributes.{bytes_of_attribute, bytes_of_attributes}
 use Rattle.math_tree.specs.declared.attributes.Attribute.{Attribute}
-use Rattle.math_tree.proofs.Members.{bytes_more, bytes_none, capped_more}
+use Rattle.math_tree.proofs.Lists.{bytes_more, bytes_none}
+use Rattle.tree_json.proofs.Members.{capped_more}
 use Rattle.tree_reader.proofs.attributes.attribute_bytes.Goals as goal
 
 pub loop-attribute-init : goal.loop-attribute-init

@@ -1,6 +1,6 @@
 use Rattle.std.proofs.Common.{◌≡◌, ℕ, ◌<◌, length, true}
 use Rattle.serde_json.specs.Data.{Members}
-use Rattle.math_tree.specs.Elements.{are_attributes, attributes_of}
+use Rattle.tree_json.specs.Elements.{are_attributes, attributes_of}
 use Rattle.math_tree.specs.declared.attributes.Attribute.{Attribute}
 use Rattle.json.specs.Token.{Token}
 use Rattle.std.specs.Prelude.{List}

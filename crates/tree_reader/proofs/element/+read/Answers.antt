@@ -6,13 +6,13 @@ use Rattle.json.specs.Json.{value}
 use Rattle.serde_json.specs.Data.{no_items, object}
 use Rattle.serde_json.specs.Read.{converted, of_json}
 use Rattle.math_tree.specs.Attributes.{IsInOrder, bytes_of_attributes}
-use Rattle.math_tree.specs.Elements.{attributes_of, bytes_held}
+use Rattle.tree_json.specs.Elements.{attributes_of, bytes_held}
 use Rattle.math_tree.specs.Forms.{most_elements, most_levels}
 use Rattle.math_tree.specs.Trees.{node}
 use Rattle.math_tree.specs.declared.node.Node.TheViews.{out-Node, out-roll-Node}
-use Rattle.math_tree.specs.declared.portion.Portion.TheVariants.{Whole}
-use Rattle.math_tree.proofs.Ordered
-use Rattle.math_tree.proofs.ReadParts
+use Rattle.tree_json.specs.declared.portion.Portion.TheVariants.{Whole}
+use Rattle.tree_json.proofs.Ordered
+use Rattle.tree_json.proofs.ReadParts
 use Rattle.tree_reader.specs.Keys.{text_of}
 use Rattle.tree_reader.specs.Read.{HasCounted, HasSaid, IsRead, SaysMore, depth_at}
 use Rattle.tree_reader.specs.Said.{IsMadeOf, members_of}

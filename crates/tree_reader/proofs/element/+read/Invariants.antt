@@ -1,9 +1,9 @@
 use Rattle.std.proofs.Common.{◌+◌, ◌-◌, ◌*◌, ℕ, List, Ok, length}
 use Rattle.json.specs.Token.{Token}
 use Rattle.serde_json.specs.Data.{Data}
-use Rattle.math_tree.specs.Parts.{AreOrderedAt, ReadsElements}
+use Rattle.tree_json.specs.Parts.{AreOrderedAt, ReadsElements}
 use Rattle.math_tree.specs.declared.node.Node.{Node}
-use Rattle.math_tree.specs.declared.portion.Portion.TheVariants.{Whole}
+use Rattle.tree_json.specs.declared.portion.Portion.TheVariants.{Whole}
 use Rattle.tree_reader.specs.Read.{IsOpenWith, depth_at}
 use Rattle.tree_reader.specs.declared.seen.Seen.{Seen}
 use Rattle.tree_reader.proofs.Items.{IsOpenArray}

@@ -3,10 +3,10 @@ use Rattle.std.specs.Prelude.{IfSome}
 use Rattle.json.specs.Json.{value}
 use Rattle.json.specs.Lex.{tokens}
 use Rattle.serde_json.specs.Read.{converted, of_json}
-use Rattle.math_tree.specs.Parts.{IsOrderedAt}
+use Rattle.tree_json.specs.Parts.{IsOrderedAt}
 use Rattle.math_tree.specs.Trees.{TreeValue}
 use Rattle.math_tree.specs.declared.node.Node.{Node}
-use Rattle.math_tree.proofs.Whole.{totalled, tree_is}
+use Rattle.tree_json.proofs.Whole.{totalled, tree_is}
 use Rattle.tree_reader.specs.Read.{IsRead}
 use Rattle.tree_reader.specs.declared.seen.Seen.{Seen}
 use Rattle.tree_reader.proofs.Members.{whole_text}
