@@ -4,9 +4,11 @@ use Rattle.std.proofs.lemmas.List.{append_assoc, take-append-drop, take_more}
 use Rattle.std.proofs.lemmas.Bool.{eqb-false, ne_eqb, leb-false, lt-leb, or_cases, or_parts, or_from}
 use Rattle.std.proofs.lemmas.Bool.Decides.{Decides-eqb}
 use Rattle.std.proofs.lemmas.List.Folds.{list_any-append}
+use Rattle.std.specs.Cmp.{nat_eq_equiv}
 use Rattle.std.specs.List.{AllByRecursion, IsDistinct, list_any}
 use Rattle.tree_edits.proofs.Ids.{AreApart}
 use Rattle.tree_edits.specs.Edits.{are_taken, has_one_of, stands_twice}
+use Rattle.tree_edits.specs.FreeIds.{is_among}
 
 -- ---- from tests that fail
 
@@ -154,19 +156,29 @@ was_absent : (r b : Bool) → r ≡ not b → not r ≡ false → b ≡ false
 was_absent r true e h = absurd (true≢false (sym (ap not e) ∙ h))
 was_absent r false e h = refl
 
-pub found_again : (ids : List ℕ) (i next n : ℕ) (keys : List ℕ) (r : Bool) → i < length ids → n ≡ get_or ids i n → keys ≡ take i ids
+pub found_again : (ids : List ℕ) (i next n : ℕ) (keys : List ℕ) (r : Bool) → i < length ids → n ≡ get_or ids i n
+    → ((id : ℕ) → is_among keys id ≡ is_among (take i ids) id)
     → r ≡ not (list_any (nat_eq n) keys) → not r ≡ true → is_bad ids next ≡ true
 found_again ids i next n keys r within is held added twice =
-    let there = ap (list_any (nat_eq n)) (sym held) ∙ was_there r (list_any (nat_eq n) keys) added twice in
+    let there = sym (held n) ∙ was_there r (list_any (nat_eq n) keys) added twice in
     ap (λ l. is_bad l next) (split_at ids i n within is) ∙ again_found (take i ids) n next (drop (i + 1) ids) there
 
+new_or_held : (new held : Bool) → cond new true held ≡ (held || (new || false))
+new_or_held true true = refl
+new_or_held true false = refl
+new_or_held false true = refl
+new_or_held false false = refl
+
 pub still_free : (ids : List ℕ) (i next n : ℕ) (keys after : List ℕ) (r : Bool) → i < length ids → n ≡ get_or ids i n → is_bad (take i ids) next ≡ false
-    → keys ≡ take i ids → n < next → r ≡ not (list_any (nat_eq n) keys) → not r ≡ false
-    → after ≡ cond (list_any (nat_eq n) keys) keys (keys ++ n ∷ [])
-    → (is_bad (take (i + 1) ids) next ≡ false) × (after ≡ take (i + 1) ids)
+    → ((id : ℕ) → is_among keys id ≡ is_among (take i ids) id) → n < next → r ≡ not (list_any (nat_eq n) keys) → not r ≡ false
+    → ((id : ℕ) → list_any (nat_eq id) after ≡ cond (nat_eq n id) true (list_any (nat_eq id) keys))
+    → (is_bad (take (i + 1) ids) next ≡ false) × ((id : ℕ) → is_among after id ≡ is_among (take (i + 1) ids) id)
 still_free ids i next n keys after r within is good held low added once now =
     let none = was_absent r (list_any (nat_eq n) keys) added once in
     let more : take (i + 1) ids ≡ take i ids ++ n ∷ [] = take_more ids i n within ∙ ap (λ m. take i ids ++ (m ∷ [])) (sym is) in (
-      ap (λ l. is_bad l next) more ∙ still_good (take i ids) n next good (lt-leb next n low) (ap (list_any (nat_eq n)) (sym held) ∙ none),
-      now ∙ ap (λ b. cond b keys (keys ++ n ∷ [])) none ∙ ap (λ l. l ++ n ∷ []) held ∙ sym more,
+      ap (λ l. is_bad l next) more ∙ still_good (take i ids) n next good (lt-leb next n low) (sym (held n) ∙ none),
+      λ id. now id
+          ∙ (λ k. cond (nat_eq_equiv.symm n id k) true (held id k))
+          ∙ new_or_held (nat_eq id n) (is_among (take i ids) id)
+          ∙ sym (ap (λ l. is_among l id) more ∙ list_any-append (nat_eq id) (take i ids) (n ∷ [])),
     )

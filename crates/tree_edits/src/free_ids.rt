@@ -7,9 +7,9 @@ ghost use Rattle.tree_edits.specs.FreeIds.{AreFree, is_among};
 
 use crate::Edit;
 use fixed_units::{List, Memory};
-use indexmap::IndexSet;
 use math_tree::{Node, Tree};
 use std::alloc::Global;
+use std::collections::HashSet;
 
 /// Whether an edit keeps an id that stands twice in the element that it brings, wasn't given yet,
 /// or is that of an element of the tree.
@@ -47,10 +47,10 @@ fn gather(element: &Node, ids: &mut List<u32>) -> Result<(), Memory>
 }
 
 /// These ids as a set, or nothing where one stands twice or isn't below the next id.
-fn set_of_free(alloc: Global, ids: &[u32], next: u64) -> Result<Option<IndexSet<u32>>, Memory>
+fn set_of_free(alloc: Global, ids: &[u32], next: u64) -> Result<Option<HashSet<u32>>, Memory>
     ensures { IfOk result (AreFree ids.now next) }
 {
-    let mut own = IndexSet::new(alloc);
+    let mut own = HashSet::new(alloc);
     for id in ids {
         if u64::from(*id) >= next {
             return Ok(None);
@@ -63,7 +63,7 @@ fn set_of_free(alloc: Global, ids: &[u32], next: u64) -> Result<Option<IndexSet<
 }
 
 /// Whether an element, or one below it, has one of these ids.
-fn holds_one(element: &Node, ids: &IndexSet<u32>) -> bool
+fn holds_one(element: &Node, ids: &HashSet<u32>) -> bool
     ensures { result ≡ list_any (is_among ids.now.keys) (ids_of (listed 1 element.now)) }
 {
     if ids.contains(&element.head.id.0) {

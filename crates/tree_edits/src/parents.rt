@@ -8,9 +8,9 @@ ghost use Rattle.tree_edits.specs.Paths.{Finds, LeadsTo};
 use crate::path::{Path, path_to};
 use arrayvec::ArrayVec;
 use fixed_units::Memory;
-use indexmap::IndexMap;
 use math_tree::{Node, NodeId, Tree};
 use std::alloc::Global;
+use std::collections::HashMap;
 use std::marker::Model;
 
 /// So many notes are kept beside twice as many as a tree has elements.
@@ -21,18 +21,18 @@ const SPARE_NOTES: usize = 512;
 /// see how many notes there are, and how many there may be before they are begun anew.
 #[derive(Drop)]
 pub struct Parents {
-    over: IndexMap<u32, u32>,
+    over: HashMap<u32, u32>,
     /// Where there are more notes than this, the next one begins all of them anew.
     most: usize,
 }
 
 impl Model for Parents {
-    ghost use Rattle.indexmap.specs.IndexMap.{index_map_len};
+    ghost use Rattle.std.specs.HashMap.{hash_map_len};
     ghost use Rattle.tree_edits.specs.Notes.{Notes};
 
     ghost Value = { Notes };
 
-    ghost view = { λ parents. record { count = index_map_len parents.over; most = parents.most } };
+    ghost view = { λ parents. record { count = hash_map_len parents.over; most = parents.most } };
 }
 
 impl Parents {
@@ -41,7 +41,7 @@ impl Parents {
         ensures begun { IfOk result (AreBegun root.now) }
     {
         let mut parents = Parents {
-            over: IndexMap::new(alloc),
+            over: HashMap::new(alloc),
             most: 0,
         };
         parents.note_all(root)?;

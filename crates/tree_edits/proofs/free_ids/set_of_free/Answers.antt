@@ -11,4 +11,4 @@ returns-then-not-branch c =
 pub loop-id-preserved : goal.loop-id-preserved
 loop-id-preserved c =
     still_free c.args.ids.now c.loop-id.id-index c.args.next _ c.loop-id.own.keys c.insert.new.self.keys c.in_ok-insert.field-0 c.loop-id-test.true (search rules)
-    c.loop-id.invariant.0 c.loop-id.invariant.1 (search rules) c.in_ok-insert.ensures.added (search rules) c.in_ok-insert.ensures.keys
+    c.loop-id.invariant.0 c.loop-id.invariant.1 (search rules) c.in_ok-insert.ensures.added (search rules) c.in_ok-insert.ensures.updates.0
