@@ -12,7 +12,7 @@ import subprocess
 import tempfile
 
 HERE = os.path.dirname(os.path.abspath(__file__))
-CRATES = "op_dictionary: indexmap thiserror\nlookups: op_dictionary anyhow\n"
+CRATES = "op_dictionary: thiserror\nlookups: op_dictionary anyhow\n"
 
 
 def main():

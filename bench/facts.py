@@ -13,7 +13,7 @@ import tempfile
 
 HERE = os.path.dirname(os.path.abspath(__file__))
 CRATES = """fixed_units: thiserror
-op_dictionary: indexmap thiserror
+op_dictionary: thiserror
 math_tree: fixed_units
 tree_json: fixed_units math_tree serde_json thiserror
 embellished: fixed_units math_tree op_dictionary unicode_normalization

@@ -13,9 +13,9 @@ import tempfile
 
 HERE = os.path.dirname(os.path.abspath(__file__))
 NEEDED = (
-    "fixed_units", "css_lengths", "op_dictionary", "math_tree", "tree_json", "font_metrics", "metrics_file", "glyph_assembly",
-    "embellished",
-    "style_scope", "token_boxes")
+    "fixed_units", "css_lengths", "op_dictionary", "math_tree", "tree_json", "font_metrics", "metrics_file",
+    "glyph_assembly", "embellished", "style_scope", "token_boxes")
+PROGRAM = "tokens: fixed_units font_metrics metrics_file math_tree tree_json token_boxes serde_json anyhow\n"
 
 
 def main():
@@ -23,7 +23,7 @@ def main():
         lines = [line for line in file if line.split(":")[0] in NEEDED]
     with tempfile.TemporaryDirectory() as folder:
         with open(os.path.join(folder, "crates.txt"), "w") as file:
-            file.writelines(lines + ["tokens: fixed_units font_metrics metrics_file math_tree tree_json token_boxes serde_json anyhow\n"])
+            file.writelines(lines + [PROGRAM])
         for crate in NEEDED:
             source = os.path.join(HERE, "..", "crates", crate)
             shutil.copytree(source, os.path.join(folder, "crates", crate))

@@ -1,5 +1,5 @@
 //! What several kinds share: how the numbers, boxes, pulls, elements and metrics of a case's value
-//! are read, how places and marks are written, and what came of writing.
+//! are read, and how places and marks are written.
 
 mod boxes; // boxes
 mod cells; // the cells of a table that may span

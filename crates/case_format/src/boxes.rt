@@ -14,19 +14,28 @@ pub fn box_of(value: &Value) -> Option<MathBox> {
         ink_descent,
         italic,
         accent,
-    ] = value.as_array()?.as_slice()
-    else {
-        return None;
-    };
+    ] = seven_of(value.as_array()?.as_slice())?;
     Some(MathBox {
-        width: number_of(width)?,
-        ascent: number_of(ascent)?,
-        descent: number_of(descent)?,
-        ink_ascent: number_of(ink_ascent)?,
-        ink_descent: number_of(ink_descent)?,
-        italic: number_of(italic)?,
-        accent: number_of(accent)?,
+        width,
+        ascent,
+        descent,
+        ink_ascent,
+        ink_descent,
+        italic,
+        accent,
     })
+}
+
+/// The whole numbers that seven values are.
+fn seven_of(values: &[Value]) -> Option<[i64; 7]> {
+    if values.len() != 7 {
+        return None;
+    }
+    let mut seven = [0; 7];
+    for place in 0..7 {
+        seven[place] = number_of(&values[place])?;
+    }
+    Some(seven)
 }
 
 /// The whole number that a value is.
@@ -37,12 +46,18 @@ pub fn number_of(value: &Value) -> Option<i64> {
 /// Adds the seven numbers of a box in the same order, one space apart.
 pub fn add_box(frame: &MathBox, words: &mut String) -> Result<(), AllocError> {
     write!(words, "{}", frame.width)?;
-    add_number(frame.ascent, words)?;
-    add_number(frame.descent, words)?;
-    add_number(frame.ink_ascent, words)?;
-    add_number(frame.ink_descent, words)?;
-    add_number(frame.italic, words)?;
-    add_number(frame.accent, words)
+    let others = [
+        frame.ascent,
+        frame.descent,
+        frame.ink_ascent,
+        frame.ink_descent,
+        frame.italic,
+        frame.accent,
+    ];
+    for number in others.as_slice() {
+        add_number(*number, words)?;
+    }
+    Ok(())
 }
 
 /// Adds a number behind a space.

@@ -14,7 +14,7 @@
 //!   `src/contents.rt`. Add a reader of members: `src/fields.rt`.
 #![tactic(auto)]
 
-mod answer; // what came of a case
+mod answer; // what came of a case, and of writing
 mod boxes; // the seven numbers of a box
 mod contents; // what a line adds to a file
 mod cuts; // a text cut in two

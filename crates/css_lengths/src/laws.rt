@@ -1,7 +1,7 @@
 //! The law of the form of lengths.
 //!
-//! A law is proved where it is a contract, so the function here has one and computes nothing. Proofs
-//! cite the lemmas themselves, in `proofs/Parts`.
+//! A law is proved where it is a contract, so the function here has one and computes nothing.
+//! Proofs cite the lemmas themselves, in `proofs/Parts`.
 ghost use Rattle.std.specs.Prelude.{◌≡◌, ◌↔◌, ℕ, List, Some, None};
 ghost use Rattle.css_lengths.specs.Grammar.{Writes};
 ghost use Rattle.css_lengths.specs.Lengths.{length_of};

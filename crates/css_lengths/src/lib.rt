@@ -2,9 +2,10 @@
 //!
 //! - Models: the units of lengths are those of CSS Values and Units 4; the form of a length text is
 //!   this project's own.
-//! - Proved: `read_length` and `resolve` are exact (`specs/Lengths.antt`, and as a grammar
-//!   `specs/Grammar.antt`); that both say the same is a law (`laws`). No call takes memory.
-//! - Knows nothing of: attributes, styles, fonts.
+//! - Proved: `read_length` and `resolve` are exact (`specs/Lengths.antt`); that a text is a length
+//!   exactly where it has the form of `specs/Grammar.antt`, and the one that it writes, is a law
+//!   (`laws`). No call takes memory.
+//! - Knows nothing of: which attribute a length is of, styles, fonts.
 //! - Change the form of lengths: `specs/Lengths.antt` and `specs/Grammar.antt`, then
 //!   `src/reading.rt`, then `rt check`. Change a unit: `specs/Lengths.antt`, then `src/lengths.rt`.
 #![tactic(auto)]

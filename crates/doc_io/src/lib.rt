@@ -3,8 +3,8 @@
 //!
 //! `Inputs` and `Sink` are the only ways to files and streams, and everything above is generic in
 //! them: one proof serves `FileInputs` and `StdSink`, which are the system's, and `MemoryInputs`
-//! and `MemorySink`, with which a test lets any call fail. `command_line` alone reads the
-//! environment, and promises nothing.
+//! and `MemorySink`, with which a test lets any call fail. The words of the command line come by
+//! `command_line` alone, which promises nothing.
 //!
 //! - Models: `std::io::Read` and `Write`, with counts of failures in place of the error's value.
 //! - Proved: `read_all` gives the whole file and `write_all` appends the whole piece, or a count

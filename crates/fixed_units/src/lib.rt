@@ -1,5 +1,5 @@
-//! The ground under every other crate: numbers and boxes in units of 1/1024 px, and lists, texts and
-//! a count of steps that contracts see as lists, texts and numbers.
+//! The ground under every other crate: numbers and boxes in units of 1/1024 px, and lists, texts
+//! and a count of steps that contracts see as lists, texts and numbers.
 //!
 //! - Models: the seven fields of a box are those that MathML Core 3.1.1 gives a box ("Box Model");
 //!   rounding is this project's own.

@@ -1,4 +1,4 @@
-pub mod FileOrder
+pub mod Places
 pub mod Listed
 pub mod Filled
 mod Copies

@@ -1,4 +1,5 @@
--- What is kept of a glyph, and what it stands for.
+-- What is kept of a glyph, and what it stands for; and what lines have given, over another table
+-- of glyphs.
 use Rattle.std.specs.Prelude.{ℕ, pos, List}
 use Rattle.font_metrics.specs.declared.given.Given.{Given}
 use Rattle.font_metrics.specs.declared.glyph.Glyph.{Glyph}

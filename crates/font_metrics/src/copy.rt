@@ -12,7 +12,7 @@ use fixed_units::Memory;
 use op_dictionary::Extra;
 use std::alloc::Global;
 
-/// What a glyph has in a table: it can be made again.
+/// What can be made again: a glyph with its name, or what a glyph has in a table.
 pub trait Copied: Drop {
     /// The same again.
     fn copied(&self, alloc: Global) -> Result<Self, Memory>

@@ -1,4 +1,4 @@
-ghost use Rattle.std.specs.Prelude.{◌≡◌, ◌<◌, [], ◌∷◌, ◌++◌, length, string_bytes, IfOk, OnOk};
+ghost use Rattle.std.specs.Prelude.{◌≡◌, ◌<◌, [], ◌∷◌, ◌++◌, length, string_bytes, IfOk, OnOk, OnErr};
 ghost use Rattle.font_metrics.specs.Metrics.{glyph_in_list, name_in_list};
 ghost use Rattle.font_metrics.specs.Kept.{named_glyph};
 
@@ -56,7 +56,8 @@ impl Copied for NamedGlyph {
     }
 }
 
-/// The glyphs of a file in file order, each with its own name. Contracts see their list.
+/// The glyphs of a file in file order, under their names. That the names differ is asked by
+/// `Metrics::of`. Contracts see their list.
 #[derive(Drop)]
 pub struct GlyphTable {
     glyphs: Vec<NamedGlyph>,
@@ -99,8 +100,9 @@ impl GlyphTable {
 
     /// Adds a glyph at the end.
     pub fn add(&mut self, name: String, measures: Measures) -> Result<(), Memory>
-        ensures { OnOk result
+        ensures ok { OnOk result
             (self.new ≡ self.old ++ named_glyph (string_bytes name) measures ∷ []) }
+        ensures err { OnErr result (self.new ≡ self.old) }
     {
         self.glyphs.push(NamedGlyph::of(name, measures))?;
         Ok(())

@@ -22,7 +22,7 @@ mod by_glyph; // ByGlyph: lists by a glyph's place
 mod characters; // CharacterMap
 mod constant_table; // ConstantTable
 mod constants; // ConstName
-mod copy; // Metrics::copy
+mod copy; // Copied, Metrics::copy
 mod corner; // Corner
 mod fault; // LineFault
 mod given; // Given: what lines have given so far
@@ -45,7 +45,7 @@ pub use corner::Corner;
 pub use fault::LineFault;
 pub use given::{Given, Needed};
 pub use glyph::{Glyph, GlyphId, Measures};
-pub use glyphs::{GlyphTable, NamedGlyph};
+pub use glyphs::GlyphTable;
 pub use growth::{Part, Variant};
 pub use kern::{Kern, KernStep};
 pub use kern_tables::KernTables;

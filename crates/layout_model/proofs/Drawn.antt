@@ -13,7 +13,7 @@ use Rattle.fixed_units.specs.declared.boxes.MathBox.{MathBox}
 use Rattle.fixed_units.specs.declared.pull.Pull.{Pull}
 use Rattle.fixed_units.specs.declared.pull.Pull.TheVariants.{Free, Block, Inline}
 use Rattle.font_metrics.proofs.Bounds.{variants_are_variants}
-use Rattle.font_metrics.proofs.FileOrder.{place_below, place_within}
+use Rattle.font_metrics.proofs.Places.{place_below, place_within}
 use Rattle.font_metrics.specs.Metrics.{MetricsValue, missing_place, place_of_letter, place_of_name, parts_of, variants_of}
 use Rattle.font_metrics.specs.Taken.{IsCharacter, IsTaken, IsVariant}
 use Rattle.font_metrics.specs.declared.glyph.GlyphId.{GlyphId}

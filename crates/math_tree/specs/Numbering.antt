@@ -1,4 +1,4 @@
--- The ids of elements, which rise by one in document order.
+-- Elements whose ids rise by one in document order.
 use Rattle.std.specs.Prelude.{ℕ, ◌+◌, List, [], ◌∷◌, length}
 use Rattle.std.specs.List.{sum_by}
 use Rattle.math_tree.specs.Trees.{TreeValue, node, listed}

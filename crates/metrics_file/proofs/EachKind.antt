@@ -21,7 +21,7 @@ use Rattle.font_metrics.specs.Whole.{IsUpem, IsLine}
 use Rattle.metrics_file.specs.Words.{number_of, is_between, number_in, natural_in, code_of, in_pair, letter_in, text_of_codes, operator_text_in, name_in, form_in, category_in, axis_in, plus}
 use Rattle.font_metrics.specs.Names.{is_scalar, is_in_pair, is_name}
 use Rattle.font_metrics.proofs.Steps.{same_Ok, no_value, had, found, holds}
-use Rattle.font_metrics.proofs.FileOrder.{place_within}
+use Rattle.font_metrics.proofs.Places.{place_within}
 
 -- ---- numbers
 

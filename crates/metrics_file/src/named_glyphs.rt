@@ -3,13 +3,13 @@ ghost use Rattle.font_metrics.specs.Kept.{named_glyph};
 ghost use Rattle.font_metrics.specs.Metrics.{place_of_name};
 
 use fixed_units::Memory;
-use font_metrics::{GlyphTable, Measures};
+use font_metrics::{Given, GlyphTable, Measures};
 use indexmap::IndexMap;
 use std::alloc::Global;
 use std::marker::Model;
 
 /// What the lines of a file have given so far, with glyphs that are found by name.
-pub type Given = font_metrics::Given<NamedGlyphs>;
+pub type NamedGiven = Given<NamedGlyphs>;
 
 /// The glyphs of a file while it is read: by name, each at its place in file order, which is its
 /// number. Contracts see their list.

@@ -2,12 +2,12 @@ ghost use Rattle.std.specs.Prelude.{◌≡◌, ◌≤◌, length, IfOk};
 ghost use Rattle.metrics_file.specs.Reads.{Reads, Begins};
 ghost use Rattle.metrics_file.specs.Reading.{lines_of, metrics_of, most_file_bytes};
 
-use crate::named_glyphs::{Given, NamedGlyphs};
+use crate::named_glyphs::{NamedGiven, NamedGlyphs};
 use crate::pieces::first_line;
 use crate::reader::{begun, take_lines};
 use crate::refusal::{LineRefusal, MetricsRefusal};
 use fixed_units::Memory;
-use font_metrics::{GlyphTable, Metrics};
+use font_metrics::{Given, GlyphTable, Metrics};
 use std::alloc::Global;
 use std::mem;
 
@@ -30,20 +30,20 @@ pub fn read_metrics(alloc: Global, bytes: &[u8]) -> Result<Metrics, MetricsRefus
 }
 
 /// Reads the lines behind the first, which gave this.
-fn read_rest(alloc: Global, bytes: &[u8], mut given: Given) -> Result<Metrics, MetricsRefusal>
+fn read_rest(alloc: Global, bytes: &[u8], mut given: NamedGiven) -> Result<Metrics, MetricsRefusal>
     requires few { length bytes.now ≤ most_file_bytes }
     requires begun { Begins (lines_of bytes.now) given }
     ensures reads { Reads (metrics_of bytes.now) result }
 {
     match take_lines(&mut given, alloc, bytes) {
-        Ok(needs) => Ok(Metrics::of(needs, kept(alloc, given)?)),
+        Ok(needs) => Ok(Metrics::of(needs, with_list(alloc, given)?)),
         Err(refusal) => Err(refusal),
     }
 }
 
 /// What lines have given, with the glyphs as metrics keep them.
-fn kept(alloc: Global, mut given: Given) -> Result<font_metrics::Given<GlyphTable>, Memory>
-    ensures { IfOk result (λ kept. kept ≡ given) }
+fn with_list(alloc: Global, mut given: NamedGiven) -> Result<Given<GlyphTable>, Memory>
+    ensures { IfOk result (λ whole. whole ≡ given) }
 {
     let named = mem::replace(&mut given.glyphs, NamedGlyphs::new(alloc));
     let glyphs = named.into_table(alloc)?;

@@ -8,7 +8,7 @@ ghost use Rattle.metrics_file.specs.Said.{IsOfNoTable};
 
 use crate::choices::choice_of;
 use crate::keyword::{Keyword, keyword_of};
-use crate::named_glyphs::Given;
+use crate::named_glyphs::NamedGiven;
 use crate::pieces::{LineWords, cut, first_line, is_comment, is_foreign};
 use crate::refusal::{LineRefusal, MetricsRefusal};
 use crate::said::line_says;
@@ -19,7 +19,7 @@ use std::alloc::Global;
 
 /// What the first line gives, from which the other lines begin. It takes no memory.
 #[tactic(auto, unfolding(crate::specs::Reading::after_first))]
-pub fn begun(alloc: Global, line: &[u8]) -> Result<Given, LineFault>
+pub fn begun(alloc: Global, line: &[u8]) -> Result<NamedGiven, LineFault>
     ensures { result ≡ after_first line.now }
 {
     let version = take_first(line)?;
@@ -28,7 +28,11 @@ pub fn begun(alloc: Global, line: &[u8]) -> Result<Given, LineFault>
 
 /// Takes all lines of a file behind the first, from which `given` was begun, and tells what
 /// metrics need of them.
-pub fn take_lines(given: &mut Given, alloc: Global, bytes: &[u8]) -> Result<Needed, MetricsRefusal>
+pub fn take_lines(
+    given: &mut NamedGiven,
+    alloc: Global,
+    bytes: &[u8],
+) -> Result<Needed, MetricsRefusal>
     requires few { length bytes.now ≤ most_file_bytes }
     requires begun { Begins (lines_of bytes.now) given.old }
     ensures { Ends (metrics_of bytes.now) given.new result }
@@ -51,7 +55,7 @@ pub fn take_lines(given: &mut Given, alloc: Global, bytes: &[u8]) -> Result<Need
 
 /// Takes a line behind the first, without its line feed.
 #[tactic(auto, unfolding(crate::specs::Reading::after))]
-fn take(given: &mut Given, alloc: Global, line: &[u8]) -> Result<(), LineRefusal>
+fn take(given: &mut NamedGiven, alloc: Global, line: &[u8]) -> Result<(), LineRefusal>
     requires { length given.old.glyphs ≤ most_glyphs }
     ensures { Takes (after given.old line.now) given.new result }
 {
@@ -66,7 +70,7 @@ fn take(given: &mut Given, alloc: Global, line: &[u8]) -> Result<(), LineRefusal
     take_words(given, alloc, words.as_slice())
 }
 
-fn take_words(given: &mut Given, alloc: Global, words: &[&[u8]]) -> Result<(), LineRefusal>
+fn take_words(given: &mut NamedGiven, alloc: Global, words: &[&[u8]]) -> Result<(), LineRefusal>
     requires { length given.old.glyphs ≤ most_glyphs }
     ensures { Takes (after_words given.old (lent words.now)) given.new result }
 {
@@ -80,7 +84,7 @@ fn take_words(given: &mut Given, alloc: Global, words: &[&[u8]]) -> Result<(), L
 }
 
 fn take_fields(
-    given: &mut Given,
+    given: &mut NamedGiven,
     alloc: Global,
     keyword: Keyword,
     fields: &[&[u8]],
@@ -98,7 +102,7 @@ fn take_fields(
 
 /// Takes the fields of a line of no table.
 fn take_said(
-    given: &mut Given,
+    given: &mut NamedGiven,
     alloc: Global,
     keyword: Keyword,
     fields: &[&[u8]],
@@ -114,7 +118,7 @@ fn take_said(
 }
 
 /// What metrics need of what is given.
-fn needed(given: &Given) -> Result<Needed, LineFault>
+fn needed(given: &NamedGiven) -> Result<Needed, LineFault>
     requires { length given.now.glyphs ≤ most_glyphs }
     ensures { result ≡ needed given.now }
 {

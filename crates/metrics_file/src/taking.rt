@@ -9,14 +9,14 @@ ghost use Rattle.metrics_file.specs.Said.{item_of, HasLineText};
 ghost use Rattle.metrics_file.specs.declared.keyword.Keyword.TheVariants.{Variants as VariantsOf, Parts as PartsOf, Kern as KernOf};
 
 use crate::kern_lines::kern_line;
-use crate::named_glyphs::{Given, NamedGlyphs};
+use crate::named_glyphs::{NamedGiven, NamedGlyphs};
 use crate::named_lines::{part_line, variant_line};
 use crate::refusal::LineRefusal;
 use crate::said::Said;
 use crate::steps::fault_if;
 use crate::table_entries::{take_along, take_at};
 use fixed_units::Memory;
-use font_metrics::{CharacterMap, ConstantTable, LineFault, Tables};
+use font_metrics::{CharacterMap, ConstantTable, Given, LineFault, Tables};
 use op_dictionary::{Axis, Extra, OperatorLine};
 use std::alloc::Global;
 
@@ -28,10 +28,10 @@ const MOST_VARIANTS: usize = 64;
 const MOST_PARTS: usize = 16;
 
 /// Nothing yet, in a file of this version. It takes no memory.
-pub fn nothing(alloc: Global, version: u8) -> Given
+pub fn nothing(alloc: Global, version: u8) -> NamedGiven
     ensures { result ≡ nothing version }
 {
-    font_metrics::Given {
+    Given {
         version,
         upem: None,
         line: None,
@@ -46,7 +46,7 @@ pub fn nothing(alloc: Global, version: u8) -> Given
 }
 
 /// Whether a line may say this behind the others: what is repeated, then what is too many.
-pub fn allow(given: &Given, said: Said<'_>) -> Result<(), LineFault>
+pub fn allow(given: &NamedGiven, said: Said<'_>) -> Result<(), LineFault>
     ensures { result ≡ allowed given.now (item_of said.entry) }
 {
     match said {
@@ -77,7 +77,7 @@ pub fn allow(given: &Given, said: Said<'_>) -> Result<(), LineFault>
 }
 
 /// Keeps what a line says, where it may.
-pub fn put(given: &mut Given, alloc: Global, said: Said<'_>) -> Result<(), Memory>
+pub fn put(given: &mut NamedGiven, alloc: Global, said: Said<'_>) -> Result<(), Memory>
     requires free { allowed given.old (item_of said) ≡ Ok tt }
     requires text { HasLineText said }
     ensures { OnOk result (given.new ≡ put given.old (item_of said.entry)) }
@@ -108,7 +108,7 @@ pub fn put(given: &mut Given, alloc: Global, said: Said<'_>) -> Result<(), Memor
 
 /// Takes the fields of a line of a variant.
 pub fn take_variant(
-    given: &mut Given,
+    given: &mut NamedGiven,
     alloc: Global,
     axis: Axis,
     fields: &[&[u8]],
@@ -124,7 +124,7 @@ pub fn take_variant(
 
 /// Takes the fields of a line of a part.
 pub fn take_part(
-    given: &mut Given,
+    given: &mut NamedGiven,
     alloc: Global,
     axis: Axis,
     fields: &[&[u8]],
@@ -138,7 +138,7 @@ pub fn take_part(
 }
 
 /// Takes the fields of a line of a kern.
-pub fn take_kern(given: &mut Given, alloc: Global, fields: &[&[u8]]) -> Result<(), LineRefusal>
+pub fn take_kern(given: &mut NamedGiven, alloc: Global, fields: &[&[u8]]) -> Result<(), LineRefusal>
     requires { length given.old.glyphs ≤ most_glyphs }
     ensures { Takes (after_fields given.old KernOf (lent fields.now)) given.new result }
 {

@@ -95,7 +95,7 @@ impl Beside {
             Command::Change(edit) => match self.sweep_where_due(alloc) {
                 Ok(()) => edit_counted(alloc, &mut self.laid, edit, steps),
                 Err(fault) => {
-                    // Dropped by a call, so that this proof doesn't go through all parts.
+                    // Dropped by a call, so that the proof here doesn't go through all parts.
                     drop(edit);
                     Err(fault)
                 }
@@ -144,7 +144,7 @@ fn edit_counted<L: Ledger>(
         Ok(()) => {
             let made = laid.kept().saturating_sub(before);
             laid.seal();
-            // Dropped by a call, so that this proof doesn't go through all parts.
+            // Dropped by a call, so that the proof here doesn't go through all parts.
             drop(reversal);
             Ok((Outcome::Edited, made))
         }

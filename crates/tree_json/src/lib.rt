@@ -19,7 +19,7 @@
 mod check; // the faults of an element
 mod element; // what a JSON value says of an element
 mod fault; // TreeFault, ElementFault
-mod head; // an element from what is said of it
+mod head; // head_of: the head of an element, from what was looked up of it
 mod laws; // of the definitions
 mod portion; // a whole tree, or an element
 mod print; // the canonical print

@@ -27,12 +27,12 @@ pub enum Wave {
 
 const KEYS_IN_WAVE_ONE: [&str; 2] = ["kids", "own"];
 
-const KEYS_OF_TWO: [&str; 3] = ["kids", "own", "first"];
+const KEYS_IN_WAVE_TWO: [&str; 3] = ["kids", "own", "first"];
 
 pub fn answer(asking: Asking, wave: Wave, case: Case, words: &mut String) -> Result<(), Fault> {
     let keys: &[&'static str] = match wave {
         Wave::One => &KEYS_IN_WAVE_ONE,
-        Wave::Two => &KEYS_OF_TWO,
+        Wave::Two => &KEYS_IN_WAVE_TWO,
     };
     let fields = Fields::of_value(case.value, keys)?;
     let kids = kids_in(case.alloc, fields)?;

@@ -4,7 +4,7 @@ use Rattle.font_metrics.specs.Metrics.{MetricsValue, place_of_letter, missing_pl
 use Rattle.std.proofs.lemmas.List.Elements.{All-weaker}
 use Rattle.font_metrics.specs.Taken.{IsCharacter}
 use Rattle.font_metrics.proofs.Finish.{missing_is}
-use Rattle.font_metrics.proofs.FileOrder.{place_below, place_within}
+use Rattle.font_metrics.proofs.Places.{place_below, place_within}
 use Rattle.font_metrics.proofs.metrics.Metrics.glyph_of.Goals as goal
 
 pub returns-clause-value : goal.returns-clause-value
