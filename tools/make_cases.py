@@ -95,7 +95,7 @@ def outcome_of(name):
             out.append(b"line %d: %s" % (number, str(fault).encode()))
         except Undetermined as fault:
             raise Undetermined(f"{name}, line {number}: {fault}") from None
-    return b"".join(line + b"\n" for line in out)
+    return kinds.PROGRAMS[name].before(CRATES / name / "data") + b"".join(line + b"\n" for line in out)
 
 
 def answer_to(program, known, kind, text):

@@ -1,22 +1,28 @@
 //! The program `cases`: it carries out cases for the crates below layout, which are lines of its
-//! standard input, and writes what came of each.
+//! standard input, and writes what came of each. Before them it tries what `doc_io` has for the
+//! system, which no case can reach.
 //!
-//! `stdin` has the cases, and `stdout` what must come of them, which was found out by a second
-//! program (docs/CASES.md has the format and says how). The gate runs this program and compares.
+//! `stdin` has the cases, `data/` the files, and `stdout` what must come of them, which was found
+//! out by a second program (docs/CASES.md has the format and says how). The gate runs this program
+//! in a copy of `data/` and compares.
 //!
 //! - Proved: that every input is gone through to its end, without undefined behaviour. What is
 //!   written is compared, so no function here has an `ensures`.
 //! - Knows nothing of: how anything that it calls is computed.
-//! - Add a kind of case: a file in `src/kinds/`, and its line in `src/kinds.rt`.
+//! - Add a kind of case: a file in `src/kinds/`, and its line in `src/kinds.rt`. Add what is tried
+//!   of a file of the system, or what an output may do: `src/adapters/`.
 #![tactic(auto)]
 
+mod adapters; // files of the system, and outputs
 mod kinds; // the kinds of cases
 
+use adapters::try_adapters;
 use case_format::carry_out;
 use kinds::Foundations;
 use std::io;
 use std::process::ExitCode;
 
 fn main(rt: HostRuntime) -> io::Result<ExitCode> {
+    try_adapters(&rt)?;
     carry_out(&rt, &Foundations)
 }

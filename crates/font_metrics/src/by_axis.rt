@@ -2,7 +2,7 @@ ghost use Rattle.std.specs.Prelude.{◌≡◌, [], IfOk, OnOk};
 ghost use Rattle.font_metrics.specs.Metrics.{along, items_of, with_item_along};
 
 use crate::by_glyph::ByGlyph;
-use crate::copy::Copied;
+use crate::copy::{Copied, both};
 use fixed_units::Memory;
 use op_dictionary::Axis;
 use std::alloc::Global;
@@ -65,9 +65,7 @@ impl<T: Copied> ByAxis<T> {
     pub fn copy(&self, alloc: Global) -> Result<ByAxis<T>, Memory>
         ensures { IfOk result (λ copied. copied ≡ self.now) }
     {
-        Ok(ByAxis {
-            block: self.block.copy(alloc)?,
-            inline: self.inline.copy(alloc)?,
-        })
+        let (block, inline) = both(self.block.copy(alloc), self.inline.copy(alloc))?;
+        Ok(ByAxis { block, inline })
     }
 }

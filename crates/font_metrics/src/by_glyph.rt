@@ -1,4 +1,4 @@
-ghost use Rattle.std.specs.Prelude.{◌≡◌, true, [], IfOk, OnOk};
+ghost use Rattle.std.specs.Prelude.{◌≡◌, true, [], ◌∷◌, IfOk, OnOk};
 ghost use Rattle.font_metrics.specs.Metrics.{items_of, with_item};
 
 use crate::copy::{Copied, copied_items};
@@ -61,13 +61,21 @@ impl<T: Drop> ByGlyph<T> {
         match self.items.get_mut(&place) {
             Some(items) => items.push(item)?,
             None => {
-                let mut items = Vec::new(alloc);
-                items.push(item)?;
-                self.items.insert(place, items)?;
+                let first = list_of(alloc, item)?;
+                self.items.insert(place, first)?;
             }
         }
         Ok(())
     }
+}
+
+/// The list of one item.
+fn list_of<T: Drop>(alloc: Global, item: T) -> Result<Vec<T>, Memory>
+    ensures { IfOk result (λ list. list.items ≡ item ∷ []) }
+{
+    let mut list = Vec::new(alloc);
+    list.push(item)?;
+    Ok(list)
 }
 
 impl<T: Copied> ByGlyph<T> {

@@ -56,11 +56,16 @@ impl KernTables {
     pub fn copy(&self, alloc: Global) -> Result<KernTables, Memory>
         ensures { IfOk result (λ copied. copied ≡ self.now) }
     {
+        let copied = both(
+            both(self.top_right.copy(alloc), self.top_left.copy(alloc)),
+            both(self.bottom_right.copy(alloc), self.bottom_left.copy(alloc)),
+        );
+        let ((top_right, top_left), (bottom_right, bottom_left)) = copied?;
         Ok(KernTables {
-            top_right: self.top_right.copy(alloc)?,
-            top_left: self.top_left.copy(alloc)?,
-            bottom_right: self.bottom_right.copy(alloc)?,
-            bottom_left: self.bottom_left.copy(alloc)?,
+            top_right,
+            top_left,
+            bottom_right,
+            bottom_left,
         })
     }
 }
@@ -70,10 +75,15 @@ impl Tables {
     pub fn copy(&self, alloc: Global) -> Result<Tables, Memory>
         ensures { IfOk result (λ copied. copied ≡ self.now) }
     {
+        let copied = both(
+            self.variants.copy(alloc),
+            both(self.parts.copy(alloc), self.kerns.copy(alloc)),
+        );
+        let (variants, (parts, kerns)) = copied?;
         Ok(Tables {
-            variants: self.variants.copy(alloc)?,
-            parts: self.parts.copy(alloc)?,
-            kerns: self.kerns.copy(alloc)?,
+            variants,
+            parts,
+            kerns,
         })
     }
 }
@@ -109,7 +119,7 @@ impl Given<GlyphTable> {
 /// Both, where neither was refused memory. By it a function that copies many parts owns none of
 /// them where it returns a refusal: to own some there is dear to prove. All are asked for, also
 /// those behind one that was refused.
-fn both<A: Drop, B: Drop>(
+pub(crate) fn both<A: Drop, B: Drop>(
     first: Result<A, Memory>,
     second: Result<B, Memory>,
 ) -> Result<(A, B), Memory>

@@ -1,5 +1,6 @@
 //! What the elements on the way to an edit are after it.
-ghost use Rattle.std.specs.Prelude.{◌≡◌, ◌<◌, true, ◌++◌, ◌∷◌, [], length, map, slice_get, slice_set, IfOk, Some};
+ghost use Rattle.std.specs.Prelude.{◌≡◌, ◌<◌, ◌≤◌, true, ◌++◌, ◌∷◌, [], length, map, slice_get, slice_set, IfOk, Some};
+ghost use Rattle.std.specs.List.{insert, remove};
 ghost use Rattle.math_tree.specs.declared.node.Node.TheViews.{out-Node};
 ghost use Rattle.embellished.specs.Facts.{facts};
 ghost use Rattle.kept_results.specs.Looking.{own_facts};
@@ -10,7 +11,7 @@ ghost use Rattle.kept_edits.specs.Known.{IsBeside, IsKnownOn};
 
 use crate::change::Renewal;
 use embellished::{Facts, facts_of};
-use fixed_units::{List, Memory};
+use fixed_units::{List, Memory, Room};
 use kept_results::{Memo, facts_below, is_marked};
 use math_tree::Node;
 use splices::Splice;
@@ -130,17 +131,34 @@ fn kids_after(
     let all = below.as_slice();
     match splice {
         Splice::Stay => facts_below(alloc, all),
-        Splice::Put(index, memo, _) => {
-            let mut kids = facts_below(alloc, &all[..*index])?;
-            kids.push(memo.facts)?;
-            kids.push_all(facts_below(alloc, &all[*index..])?.as_slice())?;
-            Ok(kids)
-        }
-        Splice::Take(index) => {
-            let mut kids = facts_below(alloc, &all[..*index])?;
-            kids.push_all(facts_below(alloc, &all[*index + 1..])?.as_slice())?;
-            Ok(kids)
-        }
+        Splice::Put(index, memo, _) => kids_with_another(alloc, all, *index, memo),
+        Splice::Take(index) => kids_without(alloc, all, *index),
         Splice::Swap(index, memo) => kids_with(alloc, below, *index, memo.facts),
     }
+}
+
+/// The same with one more at a place.
+fn kids_with_another(
+    alloc: Global,
+    below: &[Memo],
+    place: usize,
+    memo: &Memo,
+) -> Result<List<Facts>, Memory>
+    requires { place ≤ length below.now }
+    ensures { IfOk result (λ kids. kids ≡ map own_facts (insert below.now place memo.now)) }
+{
+    let room = Room::make(alloc, below.len() + 2)?;
+    let mut kids = facts_below(alloc, below)?;
+    kids.insert(place, memo.facts, room);
+    Ok(kids)
+}
+
+/// The same without the one at a place.
+fn kids_without(alloc: Global, below: &[Memo], place: usize) -> Result<List<Facts>, Memory>
+    requires { place < length below.now }
+    ensures { IfOk result (λ kids. kids ≡ map own_facts (remove below.now place)) }
+{
+    let mut kids = facts_below(alloc, below)?;
+    kids.remove(place);
+    Ok(kids)
 }

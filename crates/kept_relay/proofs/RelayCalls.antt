@@ -1,6 +1,6 @@
 -- What the calls of a pass over an element share: the parts of a pass that is for its layout, and
 -- what holds by what a call has given.
-use Rattle.std.proofs.Common.{◌≡◌, refl, subst, ℕ, ◌+◌, Bool, true, false, [], Option, Some, None, IfNone, IfSome, Result, Ok, Err, OnOk, OnErr}
+use Rattle.std.proofs.Common.{◌≡◌, refl, subst, ℕ, ◌+◌, Bool, true, false, [], Option, Some, None, IfNone, IfSome, Result, Ok, Err, IfOk, IsErr, OnOk, OnErr}
 use Rattle.font_metrics.specs.Metrics.{MetricsValue}
 use Rattle.math_tree.specs.declared.node.Node.{Node}
 use Rattle.layout_model.specs.declared.context.Context.{Context}
@@ -56,6 +56,10 @@ on_both (Err e) x y f = tt
 pub on_each : {A : Type 0} {E : Type 0} (r : Result A E) {X Y Z P : Type 0} → OnOk r X → OnOk r Y → OnErr r Z → (X → Y → P) → (Z → P) → P
 on_each (Ok a) x y z f k = f x y
 on_each (Err e) x y z f k = k z
+
+pub not_ok : {A : Type 0} {E : Type 0} (r : Result A E) (P : A → Type 0) → IsErr r → IfOk r P
+not_ok (Ok a) P h = cc
+not_ok (Err e) P h = tt
 
 pub ok_is_not_err : {A E P : Type 0} (a : A) (e : E) → Ok a ≡ Err e → P
 ok_is_not_err a e same = cc

@@ -1,4 +1,5 @@
-ghost use Rattle.std.specs.Prelude.{◌≡◌, ◌≤◌, length, IfOk};
+ghost use Rattle.std.specs.Prelude.{◌≡◌, ◌≤◌, length, IfOk, Ok};
+ghost use Rattle.font_metrics.specs.Whole.{IsGiven, metrics_with, needed};
 ghost use Rattle.metrics_file.specs.Reads.{Reads, Begins};
 ghost use Rattle.metrics_file.specs.Reading.{lines_of, metrics_of, most_file_bytes};
 
@@ -7,7 +8,7 @@ use crate::pieces::first_line;
 use crate::reader::{begun, take_lines};
 use crate::refusal::{LineRefusal, MetricsRefusal};
 use fixed_units::Memory;
-use font_metrics::{Given, GlyphTable, Metrics};
+use font_metrics::{Given, GlyphTable, Metrics, Needed};
 use std::alloc::Global;
 use std::mem;
 
@@ -36,9 +37,24 @@ fn read_rest(alloc: Global, bytes: &[u8], mut given: NamedGiven) -> Result<Metri
     ensures reads { Reads (metrics_of bytes.now) result }
 {
     match take_lines(&mut given, alloc, bytes) {
-        Ok(needs) => Ok(Metrics::of(needs, with_list(alloc, given)?)),
-        Err(refusal) => Err(refusal),
+        Ok(needs) => Ok(whole(alloc, needs, given)?),
+        Err(refusal) => {
+            // Dropped by a call, here and below, so that the proof of this function doesn't go
+            // through all parts.
+            drop(given);
+            Err(refusal)
+        }
     }
+}
+
+/// The metrics of what lines have given, and of what of it metrics need.
+fn whole(alloc: Global, needs: Needed, given: NamedGiven) -> Result<Metrics, Memory>
+    requires given { IsGiven given }
+    requires needs { needed given ≡ Ok needs }
+    ensures { IfOk result (λ metrics. metrics ≡ metrics_with needs given) }
+{
+    let given = with_list(alloc, given)?;
+    Ok(Metrics::of(needs, given))
 }
 
 /// What lines have given, with the glyphs as metrics keep them.
@@ -46,6 +62,11 @@ fn with_list(alloc: Global, mut given: NamedGiven) -> Result<Given<GlyphTable>, 
     ensures { IfOk result (λ whole. whole ≡ given) }
 {
     let named = mem::replace(&mut given.glyphs, NamedGlyphs::new(alloc));
-    let glyphs = named.into_table(alloc)?;
-    Ok(given.with_glyphs(glyphs))
+    match named.into_table(alloc) {
+        Ok(glyphs) => Ok(given.with_glyphs(glyphs)),
+        Err(refusal) => {
+            drop(given);
+            Err(refusal)
+        }
+    }
 }

@@ -23,7 +23,7 @@ use Rattle.kept_results.proofs.Passing.{passes_both, passes_none, passes_partly}
 use Rattle.kept_relay.proofs.RelayAgain.{answer_again, answers_again, child_agrees, child_backed, child_few, child_smaller, child_suits, child_there, child_unfit, fit_again, fonts_again, grown_again, grown_child, heard_of, memo_there, ones_again, passed_again, passed_child, shown_again, stepped_again, turn_of, unfit_again, unkept_again, was_read}
 use Rattle.kept_relay.proofs.RelayAll.{asked_near, asks_unfit, fit_next, goes_there, grow_more, kept_next, kid_agrees, kid_backed, kid_few, kid_smaller, kid_suits, memo_near, pass_more, told_next}
 use Rattle.kept_relay.proofs.RelayAnew.{answered_of, fit_anew, grown_anew, grown_waves, kept_anew, ones_known, ones_stored, ones_suit, ones_unfit, pass_first, pass_second, passed_anew, replies_all, stepped_anew, tidy_anew, told_of, twos_known, twos_suit, twos_unfit, unkept_anew, waves}
-use Rattle.kept_relay.proofs.RelayCalls.{err_both, none_of, nothing_done, ok_is_not_err, on_both, on_each, some_of, unchanged_store}
+use Rattle.kept_relay.proofs.RelayCalls.{err_both, none_of, not_ok, nothing_done, ok_is_not_err, on_both, on_each, some_of, unchanged_store}
 use Rattle.kept_results.proofs.Tidying.{tidy_below, tidy_renewed}
 use Rattle.kept_results.proofs.Turns.{facts_known, kept_answers, kept_fits, own_entries, own_mark, waves_lay, waves_unfit}
 use Rattle.kept_relay.proofs.relay.+relay.Goals as goal
@@ -68,7 +68,7 @@ relay_all-relay_element-requires g t c κs within =
     let falls = kid_smaller q in
     let v = c.loop-index.invariant in
     let at = c.at_mut-below.ensures.value in
-    (omega arith, (search rules, (search rules, (still_begun v.grows.only c.requires.begun, (kid_agrees q v.passes.agrees at, (kid_backed q v.grows.backed at, (kid_few q c.requires.few, kid_suits q)))))))
+    (omega arith, (within.0, (within.1, (still_begun v.grows.only c.requires.begun, (kid_agrees q v.passes.agrees at, (kid_backed q v.grows.backed at, (kid_few q c.requires.few, kid_suits q)))))))
 
 pub relay_all-returns-in_err-answer-clause-passes : goal.relay_all-returns-in_err-answer-clause-passes
 relay_all-returns-in_err-answer-clause-passes g t c =
@@ -155,7 +155,7 @@ relay_element-kept_answer-requires g t c = record { backed = are_backed c.args.m
 pub relay_element-relay_anew-requires : goal.relay_element-relay_anew-requires
 relay_element-relay_anew-requires g t c κs within =
     let none = none_of c.in_ok-answer.field-0 _ c.in-None.is (c.in_ok-answer.ensures {u = tt}).none in
-    (omega arith, (search rules, (search rules, (c.requires.begun, (c.requires.agrees, (c.requires.backed, (c.requires.few, (c.requires.context, none))))))))
+    (omega arith, (within.0, (within.1, (c.requires.begun, (c.requires.agrees, (c.requires.backed, (c.requires.few, (c.requires.context, none))))))))
 
 pub relay_element-returns-in_err-answer-clause-grows : goal.relay_element-returns-in_err-answer-clause-grows
 relay_element-returns-in_err-answer-clause-grows g t c = unchanged_store c.requires.backed
@@ -230,7 +230,7 @@ pub relay_anew-relay_all-requires : goal.relay_anew-relay_all-requires
 relay_anew-relay_all-requires g t c κs within =
     let o = (c.in_ok-one.ensures {u = tt}) in
     let w = ones_known c.requires.few c.requires.context (c.in_ok-view.ensures {u = tt}) o.ok o.styles in
-    (omega arith, (search rules, (search rules, (w.shown_is, (c.requires.begun, (c.requires.agrees, (c.requires.backed, (c.requires.few, ones_suit w))))))))
+    (omega arith, (within.0, (within.1, (w.shown_is, (c.requires.begun, (c.requires.agrees, (c.requires.backed, (c.requires.few, ones_suit w))))))))
 
 pub relay_anew-returns-in_err-relay_all-clause-passes : goal.relay_anew-returns-in_err-relay_all-clause-passes
 relay_anew-returns-in_err-relay_all-clause-passes g t c =
@@ -274,7 +274,7 @@ relay_anew-relay_all-requires-2 g t c κs within =
     let one = (c.in_ok-relay_all.ensures {u = tt}) in
     let two = (c.in_ok-two.ensures {u = tt}) in
     let s = twos_known w one.ok one.fit two.value two.styles in
-    (omega arith, (search rules, (search rules, (w.shown_is, (still_begun one.grown.only c.requires.begun, (one.passed.agrees, (one.grown.backed, (c.requires.few, twos_suit s))))))))
+    (omega arith, (within.0, (within.1, (w.shown_is, (still_begun one.grown.only c.requires.begun, (one.passed.agrees, (one.grown.backed, (c.requires.few, twos_suit s))))))))
 
 pub relay_anew-returns-in_err-relay_all-2-clause-passes : goal.relay_anew-returns-in_err-relay_all-2-clause-passes
 relay_anew-returns-in_err-relay_all-2-clause-passes g t c =
@@ -324,13 +324,13 @@ relay_anew-returns-in_err-outcome g t c =
     let d = answered_of w said two.value two.styles told in
     record {
       passes = stepped_anew d refl c.requires.missing c.finish_replies.ensures.step;
-      passed = search rules;
+      passed = not_ok c.from_residual-in_err-outcome.result _ c.from_residual-in_err-outcome.ensures.0;
       grows = unkept_anew one.grown more.grown refl (only_none c.relay_all-2.new.store);
-      grown = search rules;
-      kept = search rules;
-      tidy = search rules;
-      ok = search rules;
-      fit = search rules;
+      grown = not_ok c.from_residual-in_err-outcome.result _ c.from_residual-in_err-outcome.ensures.0;
+      kept = not_ok c.from_residual-in_err-outcome.result _ c.from_residual-in_err-outcome.ensures.0;
+      tidy = not_ok c.from_residual-in_err-outcome.result _ c.from_residual-in_err-outcome.ensures.0;
+      ok = not_ok c.from_residual-in_err-outcome.result _ c.from_residual-in_err-outcome.ensures.0;
+      fit = not_ok c.from_residual-in_err-outcome.result _ c.from_residual-in_err-outcome.ensures.0;
       range = λ e. let same = rw e at c.from_residual-in_err-outcome.ensures.1 in waves_unfit (waves d) ((c.in_err-outcome.ensures {u = tt}).range (ap Err (sym same)));
     }
 
@@ -425,7 +425,7 @@ relay_again-relay_element-requires g t c κs within =
     let here = turn_of c.requires.agrees c.requires.before c.requires.few c.requires.context c.as_slice.result.now c.index-as_slice-before.result c.as_slice-2.result.now c.index-as_slice-place.result c.as_slice-3.result.now _
     c.as_slice.ensures c.index-as_slice-before.is c.as_slice-2.ensures c.index-as_slice-place.is c.of-view.ensures asked.ok asked.style c.as_slice-3.ensures c.index-as_slice-place-2.is c.at_mut-below.ensures.value in
     let falls = child_smaller here in
-    (omega arith, (search rules, (search rules, (c.requires.begun, (child_agrees here, (child_backed here c.requires.backed, (child_few here, child_suits here)))))))
+    (omega arith, (within.0, (within.1, (c.requires.begun, (child_agrees here, (child_backed here c.requires.backed, (child_few here, child_suits here)))))))
 
 pub relay_again-returns-in_err-answer : goal.relay_again-returns-in_err-answer
 relay_again-returns-in_err-answer g t c =
@@ -435,13 +435,13 @@ relay_again-returns-in_err-answer g t c =
     let made = (c.in_err-answer.ensures {u = tt}) in
     record {
       passes = passed_child here made.passes;
-      passed = search rules;
+      passed = not_ok c.from_residual-in_err-answer.result _ c.from_residual-in_err-answer.ensures.0;
       grows = grown_child here c.requires.backed made.grows;
-      grown = search rules;
-      kept = search rules;
-      tidy = search rules;
-      ok = search rules;
-      fit = search rules;
+      grown = not_ok c.from_residual-in_err-answer.result _ c.from_residual-in_err-answer.ensures.0;
+      kept = not_ok c.from_residual-in_err-answer.result _ c.from_residual-in_err-answer.ensures.0;
+      tidy = not_ok c.from_residual-in_err-answer.result _ c.from_residual-in_err-answer.ensures.0;
+      ok = not_ok c.from_residual-in_err-answer.result _ c.from_residual-in_err-answer.ensures.0;
+      fit = not_ok c.from_residual-in_err-answer.result _ c.from_residual-in_err-answer.ensures.0;
       range = λ e. let same = rw e at c.from_residual-in_err-answer.ensures.1 in child_unfit here (made.range (ap Err (sym same)));
     }
 
@@ -461,7 +461,7 @@ relay_again-make_again-requires g t c =
       entry = near_entry agrees before new;
       asked = omega (arith, before.serves.within, ap length (one_now agrees before new));
       shown = shown_again d;
-      fits = search rules;
+      fits = record { style = c.requires.context.style; stretch = c.requires.context.stretch };
       size = search rules;
       one_wave = (still_regular agrees before).one_wave;
       ones = ones_again d;

@@ -60,7 +60,7 @@ ask_all-lay_element-requires g t c κs within =
     let items = c.as_slice-asked-items.ensures in
     let style = item_of HasStyle _ _ c.loop-asked.asked-index c.asked-item.result c.requires.styles items c.loop-asked-test.true c.asked-item.is in
     let stretch = item_of IsQuestionStored _ _ c.loop-asked.asked-index c.asked-item.result c.requires.stretches items c.loop-asked-test.true c.asked-item.is in
-    (omega arith, (search rules, (known, (omega (arith, few, c.requires.few), record { style = style; stretch = stretch }))))
+    (omega arith, (within, (known, (omega (arith, few, c.requires.few), record { style = style; stretch = stretch }))))
 
 pub ask_all-take_in-requires : goal.ask_all-take_in-requires
 ask_all-take_in-requires g t c =
@@ -127,7 +127,7 @@ lay_element-ask_all-requires g t c κs within =
     let places = ap length (c.in_ok-slots.ensures {u = tt}) ∙ length-replicate c.kids.result _ ∙ c.kids.ensures.count ∙ ap (λ (n : Node). length (seen_of n).kids) shown in (
       omega arith,
       (
-        search rules,
+        within,
         (
           shown,
           (
@@ -176,7 +176,7 @@ lay_element-ask_all-requires-2 g t c κs within =
     ∙ ap length (c.in_ok-slots.ensures {u = tt}) ∙ length-replicate c.kids.result _ ∙ c.kids.ensures.count ∙ ap (λ (n : Node). length (seen_of n).kids) shown in (
       omega arith,
       (
-        search rules,
+        within,
         (
           shown,
           (

@@ -4,6 +4,13 @@ use Rattle.outcome_cells.specs.Cells.{IsMarkHeld, mark_numbers}
 use Rattle.outcome_cells.proofs.Encoding.{cells_more}
 use Rattle.outcome_cells.proofs.encode.put_marks.Goals as goal
 
+pub put-requires : goal.put-requires
+put-requires c = record { room = let made = (c.in_ok-reserve.ensures {u = tt}).room in omega (arith, made) }
+
+pub put_mark-requires : goal.put_mark-requires
+put_mark-requires c =
+    record { room = let room = c.loop-mark.invariant.room in let more = c.loop-mark-test.true in omega (arith, room, more) }
+
 pub loop-mark-preserved : goal.loop-mark-preserved
 loop-mark-preserved c =
     let added = c.put_mark.ensures in

@@ -4,6 +4,13 @@ use Rattle.outcome_cells.specs.Cells.{IsOffsetHeld, offset_numbers}
 use Rattle.outcome_cells.proofs.Encoding.{cells_more}
 use Rattle.outcome_cells.proofs.encode.put_offsets.Goals as goal
 
+pub put-requires : goal.put-requires
+put-requires c = record { room = let made = (c.in_ok-reserve.ensures {u = tt}).room in omega (arith, made) }
+
+pub put_offset-requires : goal.put_offset-requires
+put_offset-requires c =
+    record { room = let room = c.loop-offset.invariant.room in let more = c.loop-offset-test.true in omega (arith, room, more) }
+
 pub loop-offset-preserved : goal.loop-offset-preserved
 loop-offset-preserved c =
     let added = c.put_offset.ensures in

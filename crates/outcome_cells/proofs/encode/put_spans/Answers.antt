@@ -4,6 +4,13 @@ use Rattle.outcome_cells.specs.Cells.{IsSpanHeld, span_numbers}
 use Rattle.outcome_cells.proofs.Encoding.{cells_more}
 use Rattle.outcome_cells.proofs.encode.put_spans.Goals as goal
 
+pub put-requires : goal.put-requires
+put-requires c = record { room = let made = (c.in_ok-reserve.ensures {u = tt}).room in omega (arith, made) }
+
+pub put_span-requires : goal.put_span-requires
+put_span-requires c =
+    record { room = let room = c.loop-span.invariant.room in let more = c.loop-span-test.true in omega (arith, room, more) }
+
 pub loop-span-preserved : goal.loop-span-preserved
 loop-span-preserved c =
     let added = c.put_span.ensures in

@@ -16,10 +16,10 @@ returns-in_ok-push-in-Some g c =
 -- the entries after a list is begun
 after : (g : _) (c : goal.Joined-branch-4 g) → lists_of_entries c.insert.new.self.entries ≡ with_item c.args.self.now c.args.place c.args.item
 after g c =
-    begun_in c.args.place c.push-in-None.new.self c.args.item c.self.inside.items.entries _ _ _
+    begun_in c.args.place c.in_ok-first-in-None.first c.args.item c.self.inside.items.entries _ _ _
     c.in_ok-insert-in-None.ensures.entries (ap (λ m. m.entries) c.get_mut.follows.holds-at-none)
     (sym c.get_mut.ensures.value ∙ ap option_copied_mut c.in-None.is)
-    (c.in_ok-push-in-None.ensures.items ∙ ap (λ l. l ++ c.args.item ∷ []) c.new-items.ensures.items) c.self.view_is
+    (c.in_ok-first-in-None.ensures {u = tt}) c.self.view_is
 
 pub returns-in_ok-insert-in-None : goal.returns-in_ok-insert-in-None
 returns-in_ok-insert-in-None g c =

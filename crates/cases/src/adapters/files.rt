@@ -1,7 +1,7 @@
 //! Files of the system: one that takes several reads, one that isn't there, a folder, and a name
 //! below a file.
 
-use crate::outputs::write_piece;
+use crate::adapters::outputs::write_piece;
 use doc_io::{FileInputs, Inputs, ReadRefusal, read_all};
 use fixed_units::List;
 use std::alloc::Global;
