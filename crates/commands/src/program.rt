@@ -1,6 +1,6 @@
 ghost use Rattle.std.specs.Prelude.{◌≡◌, ◌≢◌, ◌≤◌, Some, None, All, IfOk, IfErr, Ok, Err, map, string_bytes};
 ghost use Rattle.std.specs.Option.{option_map};
-ghost use Rattle.memo_tree.specs.Counted.{TakesVisits};
+ghost use Rattle.edit_session.specs.Counts.{TakesVisits};
 ghost use Rattle.box_writer.specs.Items.{IsOfFont};
 ghost use Rattle.box_writer.specs.Lines.{text_of};
 ghost use Rattle.queries.specs.Queries.{IsWritable, bytes_of};

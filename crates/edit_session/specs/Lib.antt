@@ -1,4 +1,5 @@
 pub mod Refusals
+pub mod Counts
 pub mod Session
 pub mod Sweeping
 pub mod Undoable

@@ -6,7 +6,7 @@ use Rattle.std.proofs.lemmas.Option.{none-some}
 use Rattle.font_metrics.specs.Metrics.{MetricsValue}
 use Rattle.tree_edits.specs.declared.command.Command.TheVariants.{Show}
 use Rattle.tree_edits.specs.declared.edit.Edit.{Edit}
-use Rattle.kept_edits.specs.ByIds.{TakesNeeded}
+use Rattle.edit_session.specs.Counts.{TakesNeeded}
 use Rattle.box_writer.specs.declared.placed.PlacedItem.{PlacedItem}
 use Rattle.edit_session.specs.Session.{SessionValue, page}
 use Rattle.edit_ring.specs.Grounds.{GroundTold}

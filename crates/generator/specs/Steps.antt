@@ -3,8 +3,7 @@ use Rattle.std.specs.Prelude.{◌≡◌, ◌≢◌, ℕ, List, [], ◌∷◌, ta
 use Rattle.font_metrics.specs.Metrics.{MetricsValue}
 use Rattle.tree_edits.specs.Edits.{refusal_of}
 use Rattle.tree_edits.specs.declared.edit.Edit.{Edit}
-use Rattle.kept_edits.specs.ByIds.{TakesNeeded}
-use Rattle.memo_tree.specs.Counted.{TakesVisits}
+use Rattle.edit_session.specs.Counts.{TakesNeeded, TakesVisits}
 use Rattle.edit_session.specs.Session.{SessionValue}
 use Rattle.seeded_edits.specs.Edits.{drawn_edits}
 use Rattle.generator.specs.Folded.{after_edit}

@@ -3,7 +3,7 @@ use Rattle.std.proofs.Common.{◌≡◌, refl, ℕ, List, [], arith, Option, Som
 use Rattle.std.specs.Prelude.{◌≢◌}
 use Rattle.tree_edits.specs.declared.edit.Edit.{Edit}
 use Rattle.tree_edits.specs.declared.edit.EditRefusal.{EditRefusal}
-use Rattle.kept_edits.specs.ByIds.{TakesNeeded}
+use Rattle.edit_session.specs.Counts.{TakesNeeded}
 use Rattle.edit_session.specs.Session.{SessionValue}
 use Rattle.line_replies.specs.EditSteps.{TakesForEdit, TakesForLine, accepted_in, unless_refused}
 

@@ -13,7 +13,7 @@ use Rattle.tree_edits.specs.Edits.{edited}
 use Rattle.tree_edits.specs.declared.command.Command.{Command}
 use Rattle.tree_edits.specs.declared.command.Command.TheVariants.{Show, Change}
 use Rattle.tree_edits.specs.declared.edit.Edit.{Edit}
-use Rattle.kept_edits.specs.ByIds.{TakesNeeded}
+use Rattle.edit_session.specs.Counts.{TakesNeeded}
 use Rattle.layout_model.proofs.LaidTrees.{drawn_law}
 use Rattle.layout_model.specs.Layout.{is_tree_in_range, laid_tree, root_context}
 use Rattle.box_writer.specs.Items.{IsOfFont}

@@ -7,7 +7,7 @@ use Rattle.tree_edits.specs.declared.command.Command.{Command}
 use Rattle.tree_edits.specs.declared.command.Command.TheVariants.{Show, Change}
 use Rattle.tree_edits.specs.declared.edit.Edit.{Edit}
 use Rattle.tree_edits.specs.declared.edit.EditRefusal.{EditRefusal}
-use Rattle.kept_edits.specs.ByIds.{TakesNeeded}
+use Rattle.edit_session.specs.Counts.{TakesNeeded}
 use Rattle.edit_session.specs.Session.{SessionValue}
 
 -- an edit, where the tree has no reason to refuse it

@@ -7,7 +7,7 @@ use Rattle.tree_edits.specs.Inverses.{inverse}
 use Rattle.tree_edits.specs.declared.command.Command.{Command}
 use Rattle.tree_edits.specs.declared.command.Command.TheVariants.{Show, Change}
 use Rattle.tree_edits.specs.declared.edit.Edit.{Edit}
-use Rattle.kept_edits.specs.ByIds.{TakesNeeded}
+use Rattle.edit_session.specs.Counts.{TakesNeeded}
 use Rattle.edit_session.specs.Session.{SessionValue}
 use Rattle.edit_ring.specs.Grounds.{with_tree}
 use Rattle.edit_ring.specs.Rings.{RingState, RingValue, TakesMove, history_of, redone, state_of, undone}

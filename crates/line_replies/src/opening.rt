@@ -1,6 +1,6 @@
 //! The session with which work begins, by the bytes of two files.
 ghost use Rattle.std.specs.Prelude.{◌≡◌, Ok, Err, IfOk, IfErr};
-ghost use Rattle.memo_tree.specs.Counted.{TakesVisits};
+ghost use Rattle.edit_session.specs.Counts.{TakesVisits};
 ghost use Rattle.input_files.specs.Files.{GivesOr};
 ghost use Rattle.input_files.specs.Refusals.{status_of};
 ghost use Rattle.input_files.specs.Status.{EndsUnlaid};

@@ -1,6 +1,6 @@
 use Rattle.std.proofs.Common.{subst}
 use Rattle.math_tree.specs.Trees.{TreeValue}
-use Rattle.memo_tree.specs.Counted.{TakesVisits}
+use Rattle.edit_session.specs.Counts.{TakesVisits}
 use Rattle.seeded_edits.specs.Edits.{drawn_edits}
 use Rattle.generator.specs.Generated.{first_session}
 use Rattle.generator.proofs.Counting.{none_taken}
