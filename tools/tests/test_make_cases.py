@@ -52,9 +52,14 @@ class Changes(InFolder):
 class Tool(InFolder):
     def setUp(self):
         super().setUp()
-        patch = mock.patch.object(make_cases, "CRATES", self.folder)
-        patch.start()
-        self.addCleanup(patch.stop)
+        # (these folders have no file of the system that the program tries before its cases)
+        alone = make_cases.kinds.Kinds(make_cases.kinds.PROGRAMS["cases"].one_answer)
+        for patch in (
+            mock.patch.object(make_cases, "CRATES", self.folder),
+            mock.patch.dict(make_cases.kinds.PROGRAMS, cases=alone),
+        ):
+            patch.start()
+            self.addCleanup(patch.stop)
         (self.folder / "cases").mkdir()
         self.file("cases/stdin", STDIN)
 
