@@ -4,7 +4,8 @@
     python3 tools/make_cases.py [--check | --diff] [NAME..]
 
 The expected values aren't the product's: they come from the second engine (second/), which was written from the documents
-without a look at the product, and from a small model of inputs and sinks in memory (cases/runs.py).
+without a look at the product, and from small models of inputs and sinks in memory (cases/runs.py) and of the system's files and
+outputs (cases/adapters.py).
 A program of cases sees the files of its own folder data/ alone. So fonts are written in crates/run_cases/data and copied
 from there into the data/ of each program that loads them, and the formulas of samples/ with their font and a script are
 copied from there.
