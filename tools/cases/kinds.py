@@ -17,9 +17,12 @@ class Kinds:
 
 # The programs are crates. A module for another crate's calls adds its own, as **MODULE.KINDS.
 PROGRAMS = {
-    "cases": Kinds({**answers.KINDS, **fonts.KINDS, **numbers.KINDS, **styles.KINDS}, before=adapters.told),
+    "cases": Kinds(
+        {
+            **answers.KINDS, **fonts.KINDS, **numbers.KINDS, **styles.KINDS,  # base_kinds
+            **shapes.KINDS, **leaves.KINDS, **rows.KINDS, **tables.KINDS, **spans.KINDS, **built.KINDS,  # box_kinds
+            **steps.KINDS,  # step_kinds
+        },
+        before=adapters.told),
     "run_cases": Kinds(runs.FAILING, runs.RUNS),
-    "step_cases": Kinds(steps.KINDS),
-    "box_cases": Kinds(
-        {**shapes.KINDS, **leaves.KINDS, **rows.KINDS, **tables.KINDS, **spans.KINDS, **built.KINDS}),
 }

@@ -1,31 +1,12 @@
-mod axis;
-mod category;
-mod elements;
-mod facts;
-mod fits;
-mod glyph;
-mod half;
-mod length;
-mod metrics;
-mod operators;
-mod properties;
-mod resolve;
-mod round;
-mod shown;
-mod style;
-mod tree;
-mod word;
-
-use axis::OfAxis;
+use base_kinds::add_answer_of_base;
+use box_kinds::add_answer_of_boxes;
 use case_format::{Answer, Case, Fault, Kinds};
-use category::OfCategory;
-use operators::by_lines;
-use properties::OfProperties;
+use step_kinds::add_answer_of_steps;
 
-/// The kinds for the crates below layout.
-pub struct Foundations;
+/// The kinds for single calls, which stand in three libraries.
+pub struct Calls;
 
-impl Kinds for Foundations {
+impl Kinds for Calls {
     fn answer(&self, kind: &str, case: Case) -> Result<Answer, Fault> {
         let mut words = String::new(case.alloc);
         add_answer(kind, case, &mut words)?;
@@ -33,33 +14,19 @@ impl Kinds for Foundations {
     }
 }
 
-/// Adds the words of the one answer to a case.
+/// Adds the words of the one answer to a case. Each library is asked whose kind it is: first what
+/// stands below layout.
 fn add_answer(kind: &str, case: Case, words: &mut String) -> Result<(), Fault> {
-    match kind {
-        "axis" => by_lines::<OfAxis>(case, words),
-        "category" => by_lines::<OfCategory>(case, words),
-        "fits" => fits::answer(case, words),
-        "glyph" => glyph::answer(case, words),
-        "half" => half::answer(case, words),
-        "length" => length::answer(case, words),
-        "metrics" => metrics::answer(case, words),
-        "resolve" => resolve::answer(case, words),
-        "round" => round::answer(case, words),
-        "word" => word::answer(case, words),
-        _ => add_answer_of_elements(kind, case, words),
+    match add_answer_of_base(kind, case, words) {
+        Err(Fault::UnknownKind) => add_answer_of_layout(kind, case, words),
+        answered => answered,
     }
 }
 
-/// The same for the kinds on elements and trees.
-fn add_answer_of_elements(kind: &str, case: Case, words: &mut String) -> Result<(), Fault> {
-    match kind {
-        "facts" => facts::answer(case, words),
-        "factsfile" => facts::answer_file(case, words),
-        "properties" => by_lines::<OfProperties>(case, words),
-        "shown" => shown::answer(case, words),
-        "style" => style::answer(case, words),
-        "tree" => tree::answer(case, words),
-        "treefile" => tree::answer_file(case, words),
-        _ => Err(Fault::UnknownKind),
+/// The same for what is laid out, in one step or in many.
+fn add_answer_of_layout(kind: &str, case: Case, words: &mut String) -> Result<(), Fault> {
+    match add_answer_of_boxes(kind, case, words) {
+        Err(Fault::UnknownKind) => add_answer_of_steps(kind, case, words),
+        answered => answered,
     }
 }

@@ -10,7 +10,7 @@ use Rattle.fixed_units.specs.declared.refusal.LayRefusal.TheVariants as layout
 use Rattle.font_metrics.specs.Metrics.{MetricsValue}
 use Rattle.math_tree.specs.Trees.{TreeValue}
 use Rattle.layout_model.specs.Layout.{is_tree_in_range}
-use Rattle.edit_session.specs.Session.{SessionValue}
+use Rattle.line_replies.specs.Sessions.{SessionValue}
 use Rattle.generator.specs.Generated.{generated}
 use Rattle.seeded_edits.specs.Start.{start_tree}
 use Rattle.seeded_edits.specs.Summary.{lines_of as lines_of_summary}

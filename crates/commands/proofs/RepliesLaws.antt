@@ -9,7 +9,7 @@ use Rattle.tree_edits.specs.declared.command.Command.{Command}
 use Rattle.tree_edits.specs.declared.command.Command.TheVariants.{Show, Change}
 use Rattle.tree_edits.specs.declared.edit.Edit.{Edit}
 use Rattle.tree_edits.specs.declared.edit.EditRefusal.{EditRefusal}
-use Rattle.edit_session.specs.Session.{SessionValue, edited_session}
+use Rattle.line_replies.specs.Sessions.{SessionValue, edited_session}
 use Rattle.generator.specs.Folded.{is_accepted}
 use Rattle.commands.specs.Laws.{Accepts, AcceptedLaw, CountedLaw, RepliesLaw, UnchangedLaw, after_lines}
 use Rattle.line_replies.specs.Replies.{after_command, after_line, after_reply, is_edited_in_range, replies, reply_by, reply_to, reply_to_command, reply_to_edit, told_of}

@@ -9,7 +9,7 @@ use Rattle.tree_edits.specs.Commands.{command_in}
 use Rattle.tree_edits.specs.declared.command.Command.{Command}
 use Rattle.tree_edits.specs.declared.command.Command.TheVariants.{Show, Change}
 use Rattle.math_tree.specs.Forms.{is_white_space}
-use Rattle.edit_session.specs.Session.{SessionValue}
+use Rattle.line_replies.specs.Sessions.{SessionValue}
 use Rattle.line_replies.specs.Replies.{after_command, after_line, after_reply, reply_to_edit}
 use Rattle.script_answers.specs.Lines.{Tells}
 use Rattle.line_replies.specs.declared.reply.Reply.{Reply}

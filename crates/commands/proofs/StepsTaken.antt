@@ -7,8 +7,7 @@ use Rattle.doc_io.specs.Causes.{Files, InputsTold}
 use Rattle.doc_io.specs.LineReader.{ReaderValue, lines_of, most_lines}
 use Rattle.font_metrics.specs.Metrics.{MetricsValue}
 use Rattle.math_tree.specs.Trees.{TreeValue}
-use Rattle.edit_session.specs.Counts.{TakesVisits}
-use Rattle.edit_session.specs.Session.{SessionValue}
+use Rattle.line_replies.specs.Sessions.{SessionValue, TakesVisits}
 use Rattle.command_words.specs.Command.{Asked, Work}
 use Rattle.commands.specs.Answer.{content}
 use Rattle.input_files.specs.Files.{metrics_in, tree_in}

@@ -28,7 +28,7 @@ use Rattle.tree_edits.specs.declared.edit.Edit.{Edit as EditOfTree}
 use Rattle.tree_edits.specs.declared.edit.Edit.TheVariants.{Remove}
 use Rattle.tree_edits.specs.declared.edit.EditRefusal.TheVariants.{RootFixed}
 use Rattle.tree_edits.proofs.Frames.{listed_out}
-use Rattle.edit_session.specs.Session.{SessionValue}
+use Rattle.line_replies.specs.Sessions.{SessionValue}
 use Rattle.doc_io.specs.LineReader.{is_short}
 use Rattle.script_answers.specs.Script.{within, is_within}
 use Rattle.line_replies.specs.Replies.{after_line, by_session, is_edited_in_range, replies, reply_by, reply_to, reply_to_command, reply_to_edit, text_of_reply, told_of}

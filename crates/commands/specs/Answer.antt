@@ -6,7 +6,7 @@ use Rattle.metrics_file.specs.Print.{print_of as metrics_print}
 use Rattle.tree_json.specs.Print.{print_of as tree_print}
 use Rattle.math_tree.specs.Trees.{TreeValue}
 use Rattle.box_writer.specs.Lines.{text_of}
-use Rattle.edit_session.specs.Session.{SessionValue, page}
+use Rattle.line_replies.specs.Sessions.{SessionValue, page}
 use Rattle.generator.specs.Generated.{generated}
 use Rattle.seeded_edits.specs.Start.{start_tree}
 use Rattle.seeded_edits.specs.Summary.{lines_of as lines_of_summary}

@@ -3,7 +3,7 @@ use Rattle.std.specs.Prelude.{◌≡◌, ◌⊎◌, ℕ, ◌≤◌, List, take, 
 use Rattle.std.specs.List.{concat}
 use Rattle.std.specs.Io.KnownBytes.{Appends, IsAtEnd, Keeps}
 use Rattle.doc_io.specs.Causes.{Files, InputsTold, Rose, SinkTold}
-use Rattle.edit_session.specs.Session.{SessionValue}
+use Rattle.line_replies.specs.Sessions.{SessionValue}
 use Rattle.command_words.specs.Command.{Asked, Job, OverTree, Generates, Work, LaysOut, Edits, Checks, Asks, usage_line, Remembers}
 use Rattle.script_answers.specs.Texts.{Text}
 use Rattle.commands.specs.Answer.{content, output, output_of, parts_asked, parts_of}

@@ -4,7 +4,7 @@ use Rattle.tree_edits.specs.Commands.{command_in}
 use Rattle.tree_edits.specs.Edits.{refusal_of}
 use Rattle.tree_edits.specs.declared.command.Command.TheVariants.{Change}
 use Rattle.tree_edits.specs.declared.edit.Edit.{Edit}
-use Rattle.edit_session.specs.Session.{SessionValue, edited_session}
+use Rattle.line_replies.specs.Sessions.{SessionValue, edited_session}
 use Rattle.generator.specs.Folded.{after_edit, is_accepted}
 use Rattle.script_answers.specs.Responders.{after_all}
 use Rattle.line_replies.specs.Replies.{after_line, after_reply, by_session, is_edited_in_range, replies, reply_to, reply_to_edit, told_of}

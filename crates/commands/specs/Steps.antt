@@ -5,8 +5,7 @@ use Rattle.doc_io.specs.Causes.{Files}
 use Rattle.doc_io.specs.LineReader.{lines_of, most_lines}
 use Rattle.font_metrics.specs.Metrics.{MetricsValue}
 use Rattle.math_tree.specs.Trees.{TreeValue}
-use Rattle.edit_session.specs.Counts.{TakesVisits}
-use Rattle.edit_session.specs.Session.{SessionValue}
+use Rattle.line_replies.specs.Sessions.{SessionValue, TakesVisits}
 use Rattle.generator.specs.Steps.{TakesForRun as TakesForGenerated}
 use Rattle.command_words.specs.Command.{Asked, Job, OverTree, Generates, Work, LaysOut, Edits, Checks, Asks, Remembers}
 use Rattle.line_replies.specs.EditSteps.{TakesForLine}

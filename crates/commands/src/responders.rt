@@ -2,9 +2,8 @@
 use command_reader::CommandReader;
 use doc_io::Sink;
 use edit_ring::Ring;
-use edit_session::{Session, Undoable};
 use fixed_units::Steps;
-use line_replies::{history, reply_to};
+use line_replies::{Session, Undoable, history, reply_to};
 use script_answers::{Respond, Stop};
 use std::alloc::Global;
 use std::sync::ledger::Ledger;

@@ -12,8 +12,8 @@ use Rattle.kept_results.specs.Kept.{Holds, Keeps}
 use Rattle.kept_results.specs.Passes.{Needs}
 use Rattle.kept_results.specs.declared.memo.Memo.{Memo}
 use Rattle.kept_results.proofs.Sealing.{seal_law}
-use Rattle.kept_edits.specs.Passed.{TakesMissing}
-use Rattle.kept_sweep.proofs.Totals.{count_sealed}
+use Rattle.memo_tree.specs.Kept.{TakesMissing}
+use Rattle.memo_tree.proofs.Kept.{count_sealed}
 use Rattle.memo_tree.specs.Counted.{EntriesStay}
 use Rattle.memo_tree.specs.States.{IsPassed}
 use Rattle.memo_tree.specs.Trees.{IsLaidOut, MemoTreeValue, context_of}

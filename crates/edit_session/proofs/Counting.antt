@@ -13,8 +13,7 @@ use Rattle.kept_results.specs.declared.memo.Origin.{Origin}
 use Rattle.kept_results.specs.declared.memo.Origin.TheVariants.{Made, Remade, Standing}
 use Rattle.kept_results.proofs.Counts.{count_out, stripped_out}
 use Rattle.kept_results.proofs.Made.{fresh_out}
-use Rattle.kept_sweep.proofs.Sweeping.{by_below}
-use Rattle.kept_sweep.proofs.Totals.{count_sealed}
+use Rattle.memo_tree.proofs.Kept.{by_below, count_sealed}
 
 -- ---- the entries of one element
 

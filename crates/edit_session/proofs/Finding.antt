@@ -5,8 +5,7 @@ use Rattle.kept_results.specs.Kept.{Holds}
 use Rattle.kept_results.specs.Passes.{Needs}
 use Rattle.kept_results.specs.declared.memo.Entry.{Entry}
 use Rattle.kept_results.proofs.Passing.{pair_at}
-use Rattle.kept_edits.specs.ByIds.{IsEditAt}
-use Rattle.kept_sweep.specs.Swept.{IsPartOf}
+use Rattle.memo_tree.specs.Kept.{IsEditAt, IsPartOf}
 use Rattle.memo_tree.specs.Counted.{EntriesStay}
 use Rattle.memo_tree.specs.Trees.{IsLaidOut, context_of}
 use Rattle.edit_session.specs.Session.{KeptSession, SessionValue, layouts_of}

@@ -19,7 +19,7 @@ use Rattle.layout_model.proofs.TwoContexts.{two_contexts}
 use Rattle.kept_results.specs.Passes.{HasNoRepeat, Needs, Pair}
 use Rattle.kept_results.proofs.Lists.{all_then}
 use Rattle.kept_results.proofs.Passing.{pair_at, under}
-use Rattle.kept_edits.proofs.IdWays.{made_at}
+use Rattle.memo_tree.proofs.Kept.{made_at}
 use Rattle.memo_tree.specs.Trees.{context_of}
 
 -- ---- a part of a list of pairs

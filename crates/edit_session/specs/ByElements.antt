@@ -7,8 +7,7 @@ use Rattle.tree_edits.proofs.Later.{later_law}
 use Rattle.tree_edits.specs.Edits.{edited}
 use Rattle.tree_edits.specs.Inverses.{IsBack, with_next}
 use Rattle.tree_edits.specs.declared.edit.Edit.{Edit}
-use Rattle.kept_edits.specs.ByIds.{HasId, IdPair, IsNeeded, IsOnPath, IsVisited, TakesNeeded}
-use Rattle.kept_edits.specs.EditPaths.{IsEditPath}
+use Rattle.memo_tree.specs.Kept.{HasId, IdPair, IsEditPath, IsNeeded, IsOnPath, IsVisited, TakesNeeded}
 use Rattle.edit_ring.specs.Grounds.{StepsByElements}
 
 visited_later : (m : MetricsValue) (tree : TreeValue) (next : ℕ) (pair : IdPair)

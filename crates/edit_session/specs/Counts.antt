@@ -1,4 +1,4 @@
 -- How many steps a session's calls take: these relations stand in the crates below, and what stands on a session names them
 -- from here.
-pub use Rattle.kept_edits.specs.ByIds.{TakesNeeded}
+pub use Rattle.memo_tree.specs.Kept.{TakesNeeded}
 pub use Rattle.memo_tree.specs.Counted.{TakesVisits}

@@ -9,9 +9,7 @@ use Rattle.kept_results.specs.Grown.{GrownByPairs, pair_cells}
 use Rattle.kept_results.specs.Kept.{Holds}
 use Rattle.kept_results.specs.Passes.{HasNoRepeat, Needs, Pair}
 use Rattle.kept_results.specs.declared.memo.Entry.{Entry}
-use Rattle.kept_edits.specs.ByIds.{IsEditAt}
-use Rattle.kept_edits.specs.Need.{CameFrom}
-use Rattle.kept_sweep.specs.Swept.{IsPartOf}
+use Rattle.memo_tree.specs.Kept.{CameFrom, IsEditAt, IsPartOf}
 use Rattle.memo_tree.specs.Counted.{EntriesStay}
 use Rattle.memo_tree.specs.States.{IsIn, Sealed}
 use Rattle.memo_tree.specs.Trees.{IsSwept as AreSwept, MemoTreeValue, context_of}

@@ -8,8 +8,7 @@ ghost use Rattle.tree_edits.specs.Edits.{refusal_of};
 ghost use Rattle.tree_edits.specs.Inverses.{edit_of, inverse};
 ghost use Rattle.kept_results.specs.Ends.{kept_count};
 ghost use Rattle.kept_results.specs.Laws.{AllKept};
-ghost use Rattle.kept_edits.specs.ByIds.{TakesNeeded};
-ghost use Rattle.kept_sweep.specs.Swept.{CountsNeeded};
+ghost use Rattle.memo_tree.specs.Kept.{CountsNeeded, TakesNeeded};
 ghost use Rattle.memo_tree.specs.Counted.{EntriesStay, TakesVisits};
 ghost use Rattle.memo_tree.specs.States.{IsIn, Sealed};
 ghost use Rattle.memo_tree.specs.Trees.{context_of};
@@ -124,7 +123,7 @@ impl Session {
         ensures steps { refusal_of self.old.held.tree edit ≡ None
             → TakesNeeded self.old.held.metrics self.old.held.tree edit steps.old steps.new }
     {
-        drop(self.carry_out(alloc, edit, steps)?);
+        drop(self.edit_back(alloc, edit, steps)?);
         Ok(())
     }
 
@@ -322,6 +321,12 @@ impl Session {
         // What placing needs to know of the metrics: the call does nothing.
         metrics.is_taken();
         place_kept(alloc, &root, self.layouts.store(), metrics)
+    }
+
+    /// Ends the session: its tree, its metrics and all that is kept are given up. A crate that
+    /// calls this needn't prove how.
+    pub fn end(self) {
+        self.layouts.discard();
     }
 
     /// The metrics of the font, as the session was started with them.

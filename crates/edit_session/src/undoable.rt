@@ -19,7 +19,7 @@ pub struct Undoable {
 }
 
 impl Ground for Undoable {
-    ghost use Rattle.kept_edits.specs.ByIds.{TakesNeeded};
+    ghost use Rattle.memo_tree.specs.Kept.{TakesNeeded};
     ghost use Rattle.edit_session.specs.Undoable.{told};
     ghost use Rattle.edit_session.specs.ByElements.{steps_by_elements};
 

@@ -6,9 +6,8 @@ use Rattle.std.proofs.lemmas.Option.{none-some}
 use Rattle.font_metrics.specs.Metrics.{MetricsValue}
 use Rattle.tree_edits.specs.declared.command.Command.TheVariants.{Show}
 use Rattle.tree_edits.specs.declared.edit.Edit.{Edit}
-use Rattle.edit_session.specs.Counts.{TakesNeeded}
+use Rattle.line_replies.specs.Sessions.{SessionValue, TakesNeeded, page, told}
 use Rattle.box_writer.specs.declared.placed.PlacedItem.{PlacedItem}
-use Rattle.edit_session.specs.Session.{SessionValue, page}
 use Rattle.edit_ring.specs.Grounds.{GroundTold}
 use Rattle.edit_ring.specs.Rings.{History, RingMoves, RingState, after_redo, after_undo, history_of, redone as ring_redone, undone as ring_undone}
 use Rattle.edit_ring.specs.declared.ring.RingRefusal.{RingRefusal}
@@ -17,7 +16,6 @@ use Rattle.queries.specs.Queries.{IsCause, answer_to, bytes_of}
 use Rattle.queries.specs.declared.answers.Answer.{Answer}
 use Rattle.page_queries.specs.declared.query.Query.{Query}
 use Rattle.page_queries.specs.declared.query.QueryRefusal.{QueryRefusal}
-use Rattle.edit_session.specs.Undoable.{told}
 use Rattle.command_reader.specs.declared.moves.Move.TheVariants.{Other}
 use Rattle.line_replies.specs.History.{reply_by_move, reply_to, session_in}
 use Rattle.line_replies.specs.HistoryParts.{Makes, kept_after_move}

@@ -4,7 +4,7 @@ use Rattle.doc_io.specs.LineReader.{longest_line}
 use Rattle.font_metrics.specs.Metrics.{MetricsValue}
 use Rattle.edit_ring.specs.declared.ring.RingRefusal.{RingRefusal}
 use Rattle.edit_ring.specs.declared.ring.RingRefusal.TheVariants.{Nothing as HoldsNone, Memory as LacksMemory}
-use Rattle.edit_session.specs.Session.{root_box}
+use Rattle.line_replies.specs.Sessions.{root_box}
 use Rattle.queries.specs.Queries.{IsCause, answer_to}
 use Rattle.page_queries.specs.declared.query.Query.{Query}
 use Rattle.page_queries.specs.declared.query.QueryRefusal.{QueryRefusal}

@@ -4,11 +4,10 @@ use Rattle.std.specs.Option.{option_map}
 use Rattle.font_metrics.specs.Metrics.{MetricsValue}
 use Rattle.math_tree.specs.declared.node.NodeId.{NodeId}
 use Rattle.edit_ring.specs.Rings.{History, RingValue, after_redo, after_undo}
-use Rattle.edit_session.specs.Session.{SessionValue, page}
+use Rattle.line_replies.specs.Sessions.{SessionValue, Undoable, page}
 use Rattle.hit_test.specs.Hits.{holding, id_of_box, last_of}
 use Rattle.queries.specs.Queries.{IsWritable, answer_to, bytes_of}
 use Rattle.page_queries.specs.declared.query.Query.{Query}
-use Rattle.edit_session.specs.declared.undoable.Undoable.{Undoable}
 use Rattle.line_replies.specs.Opening.{opened, opened_over}
 use Rattle.line_replies.specs.History.{Remembered, after_line, remembered, session_in, told_of}
 use Rattle.line_replies.specs.HistorySteps.{kept_by, ring_of}

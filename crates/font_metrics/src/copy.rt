@@ -160,4 +160,9 @@ impl Metrics {
             given: self.given.copy(alloc)?,
         })
     }
+
+    /// Gives the metrics up. A crate that calls this needn't prove how.
+    pub fn discard(self) {
+        drop(self);
+    }
 }

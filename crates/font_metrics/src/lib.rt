@@ -22,7 +22,7 @@ mod by_glyph; // ByGlyph: lists by a glyph's place
 mod characters; // CharacterMap
 mod constant_table; // ConstantTable
 mod constants; // ConstName
-mod copy; // Copied, Metrics::copy
+mod copy; // Copied, Metrics::copy, Metrics::discard
 mod corner; // Corner
 mod fault; // LineFault
 mod given; // Given: what lines have given so far

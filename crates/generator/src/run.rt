@@ -35,8 +35,7 @@ pub fn generate<L: Ledger>(
     match start_tree(alloc) {
         Ok(tree) => generate_over(alloc, tree, metrics, seed, count, steps),
         Err(Memory) => {
-            // Dropped by a call, here and below, so that the proof doesn't go through all parts.
-            drop(metrics);
+            metrics.discard();
             Err(LayRefusal::Memory)
         }
     }
@@ -60,7 +59,7 @@ fn generate_over<L: Ledger>(
 {
     let mut session = Session::start(alloc, tree, metrics, steps)?;
     let told = tell_edits(alloc, &mut session, seed, count, steps);
-    drop(session);
+    session.end();
     Ok(told?)
 }
 

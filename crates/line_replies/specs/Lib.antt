@@ -4,3 +4,4 @@ pub mod History
 pub mod HistorySteps
 pub mod HistoryParts
 pub mod Opening
+pub mod Sessions

@@ -20,5 +20,6 @@ mod opening; // a session of two files' bytes
 mod reply; // to one line
 mod script; // white space
 
+pub use edit_session::{Session, Undoable};
 pub use opening::{open, open_tree, start};
 pub use reply::{Cause, Reply, reply_to};

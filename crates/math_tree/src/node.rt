@@ -59,4 +59,9 @@ impl Node {
             children,
         })
     }
+
+    /// Gives the element up, with all below it. A crate that calls this needn't prove how.
+    pub fn discard(self) {
+        drop(self);
+    }
 }

@@ -75,6 +75,11 @@ impl Tree {
         mem::replace(&mut self.root, root)
     }
 
+    /// Gives the tree up. A crate that calls this needn't prove how.
+    pub fn discard(self) {
+        drop(self);
+    }
+
     /// The element at the top.
     pub fn root(&self) -> &Node
         ensures exact { result.now ≡ self.now.root }

@@ -1,4 +1,5 @@
 pub mod Changes
+pub mod Kept
 pub mod Marks
 pub mod Passing
 pub mod Roots

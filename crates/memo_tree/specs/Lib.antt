@@ -1,4 +1,5 @@
 pub mod Counted
+pub mod Kept
 pub mod Marked
 pub mod Reversing
 pub mod States

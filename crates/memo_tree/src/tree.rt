@@ -106,9 +106,9 @@ impl MemoTree {
                 notes: Notes::none(),
             }),
             Err(refusal) => {
-                // Told, so that what is let go of isn't proved through all its parts here.
-                drop(tree);
-                drop(metrics);
+                // Given up by calls, so that it isn't proved here how.
+                tree.discard();
+                metrics.discard();
                 Err(refusal)
             }
         }
@@ -137,7 +137,7 @@ impl MemoTree {
         let context = context_of(&tree, &metrics);
         let mut store = Store::make(alloc);
         let made = start_layout::<F, _>(alloc, tree.root(), &mut store, &context, &metrics, steps);
-        // Told, here and below, so that what is let go of isn't proved through all its parts here.
+        // Told, so that what is let go of isn't proved through all its parts at each way out.
         drop(context);
         match made {
             Ok(memo) => Ok(MemoTree {
@@ -150,8 +150,8 @@ impl MemoTree {
             }),
             Err(refusal) => {
                 drop(store);
-                drop(tree);
-                drop(metrics);
+                tree.discard();
+                metrics.discard();
                 Err(refusal)
             }
         }
@@ -317,6 +317,12 @@ impl MemoTree {
         )?;
         self.swept = true;
         Ok(())
+    }
+
+    /// Gives the tree up, with the metrics and all that is kept. A crate that calls this needn't
+    /// prove how.
+    pub fn discard(self) {
+        drop(self);
     }
 
     /// The layout of the tree with all elements in flow, read off what is kept.

@@ -2,7 +2,7 @@ use Rattle.std.proofs.Common.{◌≡◌, ◌≢◌, inr, refl, ap, arith, [], No
 use Rattle.std.proofs.lemmas.Result.{on_err_weaker, on_ok_weaker}
 use Rattle.tree_edits.specs.Edits.{refusal_of}
 use Rattle.tree_edits.specs.Inverses.{edit_of, inverse}
-use Rattle.kept_edits.specs.ByIds.{TakesNeeded}
+use Rattle.memo_tree.specs.Kept.{TakesNeeded}
 use Rattle.edit_session.specs.Session.{IsCause, KeptSession, SessionValue, edited_session}
 use Rattle.edit_session.proofs.Finding.{done_from, runs_stay}
 use Rattle.edit_session.proofs.Refused.{left_as_found}

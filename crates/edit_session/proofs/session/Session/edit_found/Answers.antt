@@ -7,7 +7,7 @@ use Rattle.tree_edits.specs.Edits.{edited, refusal_of}
 use Rattle.tree_edits.specs.Inverses.{inverse}
 use Rattle.kept_results.specs.Ends.{fresh_count, kept_count, stripped}
 use Rattle.kept_results.specs.declared.memo.Memo.{Memo}
-use Rattle.kept_edits.specs.ByIds.{TakesNeeded}
+use Rattle.memo_tree.specs.Kept.{TakesNeeded}
 use Rattle.memo_tree.specs.Counted.{EntriesStay}
 use Rattle.memo_tree.specs.Reversing.{CanReverse, reversed}
 use Rattle.memo_tree.specs.Trees.{MemoTreeValue}

@@ -1,6 +1,0 @@
-use Rattle.style_scope.specs.Sizes.{IsStyle}
-use Rattle.cases.proofs.kinds.style.add_answer.Given as goal
-
--- the style so far is one that styles below it may be made from
-abbrev pub invariant-loop-step : goal.invariant-loop-step
-invariant-loop-step l = IsStyle l.at.style

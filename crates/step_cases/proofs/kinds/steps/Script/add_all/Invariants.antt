@@ -1,6 +1,0 @@
-use Rattle.memo_tree.specs.States.{IsIn, Sealed}
-use Rattle.step_cases.proofs.kinds.steps.Script.add_all.Given as goal
-
--- neither an edit nor a pass is under way
-abbrev pub invariant-loop-value : goal.invariant-loop-value
-invariant-loop-value g l = IsIn Sealed l.beside.laid
