@@ -1,4 +1,5 @@
--- What crates above name of edits and sweeps of kept layouts, handed on by its name: so they stand on this crate alone.
+-- What crates above name of edits and sweeps of kept layouts, handed on by its name: so they stand
+-- on this crate alone.
 pub use Rattle.kept_edits.specs.ByIds.{HasId, IdPair, IsEditAt, IsNeeded, IsOnPath, IsVisited, TakesNeeded}
 pub use Rattle.kept_edits.specs.EditPaths.{IsEditPath}
 pub use Rattle.kept_edits.specs.Need.{CameFrom}
