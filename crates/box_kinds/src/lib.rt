@@ -1,8 +1,8 @@
 //! The kinds of cases for what is laid out in one step: shapes and leaves, rows and tables, and
 //! fractions, roots, scripts and limits (docs/CASES.md).
 //!
-//! `add_answer_of_boxes` carries a case out. The program `cases` asks it, and other libraries of
-//! kinds where no kind here has the name.
+//! `add_answer_of_boxes` carries a case out. The program `cases` asks it, and then another
+//! library of kinds if no kind here has the name.
 //!
 //! - Models: nothing; the kinds are this project's own.
 //! - Proved: that every case is carried out to its end, without undefined behaviour, and that each

@@ -1,6 +1,6 @@
-//! The program `cases`: it carries out cases of single calls, which are lines of its standard input,
-//! and writes what came of each. Before them it tries what `doc_io` has for the system, which no
-//! case can reach.
+//! The program `cases`: it carries out cases of single calls, which are lines of its standard
+//! input, and writes what came of each. Before them it tries what `doc_io` has for the system,
+//! which no case can reach.
 //!
 //! `stdin` has the cases, `data/` the files, and `stdout` what must come of them, which was found
 //! out by a second program (docs/CASES.md has the format and says how). The gate runs this program

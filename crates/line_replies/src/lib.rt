@@ -3,7 +3,8 @@
 //! `open` makes the session of a metrics file and a tree file, or says why there is none (a
 //! `Refusal` of `input_files`). `reply_to` does what a line asks for, over the tree as edited so
 //! far, and gives the reply; `history::reply_to` does the same over a ring, whose edits can be
-//! undone. A `Reply` is written without memory.
+//! undone. A `Reply` is written without memory. `Session`, `Undoable` and what definitions above
+//! name of sessions (`specs/Sessions.antt`) are handed on.
 //!
 //! - Models: replies, which are own.
 //! - Proved: `open` gives the session of `opened`, or its refusal (`specs/Opening.antt`), but for

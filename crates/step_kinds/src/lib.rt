@@ -1,7 +1,7 @@
 //! The kinds of cases for layouts that are kept: sessions go through scripts, and it is told how
-//! many layouts were made each time, how many are kept in how many cells, and whether what a session
-//! holds is what an equal tree beside it does, a fresh layout gives, and a copy holds; and the same
-//! of single passes (docs/CASES.md).
+//! many layouts were made each time, how many are kept in how many cells, and whether what a
+//! session holds is what an equal tree beside it does, a fresh layout gives, and a copy holds; and
+//! the same of single passes (docs/CASES.md).
 //!
 //! `add_answer_of_steps` carries a case out. The program `cases` asks it.
 //!
