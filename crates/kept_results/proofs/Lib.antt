@@ -16,5 +16,6 @@ pub mod Sealing
 pub mod Shown
 pub mod Tidying
 pub mod Turns
+pub mod Undoing
 pub mod Whole
 mod Worked

@@ -70,6 +70,22 @@ module _ {X : Type 0} where
   set_other (z ∷ xs) (suc i) zero x y h = inr (λ e. omega (arith, e), h)
   set_other (z ∷ xs) (suc i) (suc j) x y h = elim (set_other xs i j x y h) [ inl p ↦ inl (ap suc p.0, p.1) | inr q ↦ inr (λ e. q.0 (omega (arith, e)), q.1) ]
 
+  -- what stands at another place stays
+  pub set_elsewhere : (xs : List X) (i j : ℕ) (x : X) → (j ≡ i → ⊥) → slice_get (set xs i x) j ≡ slice_get xs j
+  set_elsewhere [] i j x other = refl
+  set_elsewhere (z ∷ xs) zero zero x other = absurd (other refl)
+  set_elsewhere (z ∷ xs) zero (suc j) x other = refl
+  set_elsewhere (z ∷ xs) (suc i) zero x other = refl
+  set_elsewhere (z ∷ xs) (suc i) (suc j) x other = set_elsewhere xs i j x (λ e. other (ap suc e))
+
+  -- lists with the same at each place are one
+  pub same_places : (xs ys : List X) → ((i : ℕ) → slice_get xs i ≡ slice_get ys i) → xs ≡ ys
+  same_places [] [] h = refl
+  same_places [] (y ∷ ys) h = absurd (none-some y (h 0))
+  same_places (x ∷ xs) [] h = absurd (none-some x (sym (h 0)))
+  same_places (x ∷ xs) (y ∷ ys) h =
+      ap (λ (z : X). z ∷ xs) (same_Some x y (h 0)) ∙ ap (λ (zs : List X). y ∷ zs) (same_places xs ys (λ i. h (suc i)))
+
   -- ---- one item more at the end
 
   pub push_cases : (xs : List X) (x y : X) (j : ℕ) → slice_get (xs ++ x ∷ []) j ≡ Some y → (y ≡ x) ⊎ (slice_get xs j ≡ Some y)

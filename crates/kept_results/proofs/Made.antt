@@ -4,7 +4,7 @@ use Rattle.std.proofs.lemmas.List.{map-append, take_more}
 use Rattle.std.proofs.lemmas.List.Sums.{sum_by-append, sum_by-cons}
 use Rattle.std.proofs.lemmas.Option.{get_or_from_slice_get, none-some, same_Some, slice_get_within}
 use Rattle.std.specs.List.{sum}
-use Rattle.kept_results.specs.Ends.{fresh_below, fresh_count, fresh_in, sealed, sealed_below, settled}
+use Rattle.kept_results.specs.Ends.{fresh_below, fresh_count, fresh_in, sealed, settled}
 use Rattle.kept_results.specs.Kept.{is_fresh, is_live, is_marked}
 use Rattle.kept_results.specs.Tidy.{IsTidy, is_calm, only_touched}
 use Rattle.kept_results.specs.declared.memo.Entry.{Entry}
@@ -12,8 +12,8 @@ use Rattle.kept_results.specs.declared.memo.Memo.{Memo}
 use Rattle.kept_results.specs.declared.memo.Memo.TheFolds.{fold-roll-Memo, fold_out-Memo, ind-Memo}
 use Rattle.kept_results.specs.declared.memo.Memo.TheOpen.{Memo-F}
 use Rattle.kept_results.specs.declared.memo.Memo.TheViews.{out-Memo, out-roll-Memo, roll-Memo, roll-out-Memo}
-use Rattle.kept_results.proofs.Agreement.{renewed}
 use Rattle.kept_results.proofs.Counts.{sealed_out, sealed_over}
+use Rattle.kept_results.proofs.Renewing.{OthersSame}
 use Rattle.kept_results.proofs.Tidying.{calm_sealed, tidy_below}
 
 abbrev fresh_over : Memo-F Memo → ℕ
@@ -72,11 +72,6 @@ IsSealed memo = (sealed memo ≡ memo) × (fresh_count memo ≡ 0)
 pub calm_is_sealed : (memo : Memo) → IsTidy memo → is_calm (out-Memo memo) ≡ true → IsSealed memo
 calm_is_sealed memo tidy calm = (calm_sealed memo tidy calm, none_calm memo tidy calm)
 
-pub all_sealed : (memos : List Memo) → ((place : ℕ) (below : Memo) → slice_get memos place ≡ Some below → IsSealed below) → memos ≡ map sealed memos
-all_sealed [] h = refl
-all_sealed (x ∷ memos) h =
-    ap (λ (z : Memo). z ∷ memos) (sym (h 0 x refl).0) ∙ ap (λ (l : List Memo). sealed x ∷ l) (all_sealed memos (λ place. h (suc place)))
-
 pub none_all : (memos : List Memo) → ((place : ℕ) (below : Memo) → slice_get memos place ≡ Some below → IsSealed below) → fresh_below memos ≡ 0
 none_all [] h = refl
 none_all (x ∷ memos) h =
@@ -86,15 +81,6 @@ none_all (x ∷ memos) h =
 -- each but that at a place is sealed
 abbrev pub OthersSealed : ℕ → List Memo → Type 0
 OthersSealed child memos = (place : ℕ) (below : Memo) → slice_get memos place ≡ Some below → (place ≡ child → ⊥) → IsSealed below
-
-one_sealed : (memos : List Memo) (child : ℕ) (one : Memo) → slice_get memos child ≡ Some one → OthersSealed child memos → set memos child (sealed one) ≡ map sealed memos
-one_sealed [] child one at h = refl
-one_sealed (x ∷ memos) zero one at h =
-    ap (λ (z : Memo). sealed z ∷ memos) (sym (same_Some x one at))
-    ∙ ap (λ (l : List Memo). sealed x ∷ l) (all_sealed memos (λ place below there. h (suc place) below there (λ e. omega (arith, e))))
-one_sealed (x ∷ memos) (suc child) one at h =
-    ap (λ (z : Memo). z ∷ set memos child (sealed one)) (sym (h 0 x refl (λ e. omega (arith, e))).0)
-    ∙ ap (λ (l : List Memo). sealed x ∷ l) (one_sealed memos child one at (λ place below there other. h (suc place) below there (λ e. other (omega (arith, e)))))
 
 one_counted : (memos : List Memo) (child : ℕ) (one : Memo) → slice_get memos child ≡ Some one → OthersSealed child memos → fresh_below memos ≡ fresh_count one
 one_counted [] child one at h = absurd (none-some one at)
@@ -112,29 +98,20 @@ one_counted (x ∷ memos) (suc child) one at h =
 pub others_sealed : (memo : Memo) (child : ℕ) → IsTidy memo → only_touched (out-Memo memo) ≡ Some child → OthersSealed child (out-Memo memo).below
 others_sealed memo child tidy only place below at other = calm_is_sealed below (tidy_below memo tidy place below at) ((tidy.at [] memo refl).others child only place below at other)
 
--- where that one is sealed, all are
-pub only_sealed : (memo : Memo) (child : ℕ) (one new : Memo) → IsTidy memo → only_touched (out-Memo memo) ≡ Some child → slice_get (out-Memo memo).below child ≡ Some one
-    → new ≡ sealed one → roll-Memo (renewed memo child new) ≡ sealed_below (out-Memo memo)
-only_sealed memo child one new tidy only at is =
-    ap (λ (l : List Memo). roll-Memo record { former = (out-Memo memo).former; facts = (out-Memo memo).facts; entries = (out-Memo memo).entries; below = l })
-    (ap (set (out-Memo memo).below child) is ∙ one_sealed (out-Memo memo).below child one at (others_sealed memo child tidy only))
+-- the others are as sealing leaves them
+pub others_same : (memo : Memo) (child : ℕ) → IsTidy memo → only_touched (out-Memo memo) ≡ Some child → OthersSame sealed child (out-Memo memo).below
+others_same memo child tidy only place below at other = (others_sealed memo child tidy only place below at other).0
 
 pub only_counted : (memo : Memo) (child : ℕ) (one : Memo) → IsTidy memo → only_touched (out-Memo memo) ≡ Some child → slice_get (out-Memo memo).below child ≡ Some one
     → fresh_below (out-Memo memo).below ≡ fresh_count one
 only_counted memo child one tidy only at = one_counted (out-Memo memo).below child one at (others_sealed memo child tidy only)
 
--- where there is no such child, all are sealed already
+-- where there is no such child, all are sealed
 past_each : (memo : Memo) (child : ℕ) → IsTidy memo → only_touched (out-Memo memo) ≡ Some child → length (out-Memo memo).below ≤ child
     → (place : ℕ) (below : Memo) → slice_get (out-Memo memo).below place ≡ Some below → IsSealed below
 past_each memo child tidy only past place below at =
     let within : place < length (out-Memo memo).below = slice_get_within (out-Memo memo).below place below at in
     others_sealed memo child tidy only place below at (λ e. omega (arith, e))
-
-pub past_sealed : (memo : Memo) (child : ℕ) → IsTidy memo → only_touched (out-Memo memo) ≡ Some child → length (out-Memo memo).below ≤ child → memo ≡ sealed_below (out-Memo memo)
-past_sealed memo child tidy only past =
-    sym (roll-out-Memo memo)
-    ∙ ap (λ (l : List Memo). roll-Memo record { former = (out-Memo memo).former; facts = (out-Memo memo).facts; entries = (out-Memo memo).entries; below = l })
-    (all_sealed (out-Memo memo).below (past_each memo child tidy only past))
 
 pub past_counted : (memo : Memo) (child : ℕ) → IsTidy memo → only_touched (out-Memo memo) ≡ Some child → length (out-Memo memo).below ≤ child → fresh_below (out-Memo memo).below ≡ 0
 past_counted memo child tidy only past = none_all (out-Memo memo).below (past_each memo child tidy only past)

@@ -3,7 +3,7 @@ use Rattle.std.proofs.Common.{◌≡◌, ◌∙◌, refl, sym, ap, ℕ, zero, su
 use Rattle.std.proofs.lemmas.Option.{get_or_from_slice_get, none-some, same_Some, slice_get_within}
 use denote.Param.Weighed.{most, at_most}
 use Rattle.kept_results.specs.Kept.{is_marked}
-use Rattle.kept_results.specs.Ends.{all_undone, sealed, sealed_below, settled_all, stripped}
+use Rattle.kept_results.specs.Ends.{all_undone, each_below, sealed, settled_all, stripped}
 use Rattle.kept_results.specs.declared.memo.Entry.{Entry}
 use Rattle.kept_results.specs.declared.memo.Memo.{Memo}
 use Rattle.kept_results.specs.declared.memo.Memo.TheOpen.{Memo-F}
@@ -78,42 +78,76 @@ module _ (renew : Memo → Memo) where
   pub below_all : (before now : Memo) (at : ℕ) → Renewed renew before now at → length (out-Memo before).below ≡ at → (out-Memo now).below ≡ map renew (out-Memo before).below
   below_all before now at h e = h.below ∙ renewed_all (out-Memo before).below at e
 
-pub stripped_end : (before now : Memo) (at : ℕ) (entries : List Entry) → Renewed stripped before now at → length (out-Memo before).below ≡ at
-    → entries ≡ all_undone (out-Memo now).entries
-    → roll-Memo record { former = (out-Memo now).former; facts = (out-Memo now).facts; entries = entries; below = (out-Memo now).below } ≡ stripped before
-stripped_end before now at entries h l e =
-    (λ i. roll-Memo record {
-      former = h.former i;
-      facts = h.facts i;
-      entries = (e ∙ ap all_undone h.entries) i;
-      below = below_all stripped before now at h l i;
-    }) ∙ sym (stripped_out before)
+  pub each_end : (before now : Memo) (at : ℕ) → Renewed renew before now at → length (out-Memo before).below ≡ at → now ≡ each_below renew (out-Memo before)
+  each_end before now at h l =
+      sym (roll-out-Memo now)
+      ∙ (λ i. roll-Memo record {
+        former = h.former i;
+        facts = h.facts i;
+        entries = h.entries i;
+        below = below_all before now at h l i;
+      })
+
+  -- ---- where renewing leaves most as it is
+
+  all_same : (memos : List Memo) → ((place : ℕ) (below : Memo) → slice_get memos place ≡ Some below → renew below ≡ below) → memos ≡ map renew memos
+  all_same [] h = refl
+  all_same (x ∷ memos) h = ap (λ (z : Memo). z ∷ memos) (sym (h 0 x refl)) ∙ ap (λ (l : List Memo). renew x ∷ l) (all_same memos (λ place. h (suc place)))
+
+  -- each but that at a place
+  abbrev pub OthersSame : ℕ → List Memo → Type 0
+  OthersSame child memos = (place : ℕ) (below : Memo) → slice_get memos place ≡ Some below → (place ≡ child → ⊥) → renew below ≡ below
+
+  one_renewed : (memos : List Memo) (child : ℕ) (one : Memo) → slice_get memos child ≡ Some one → OthersSame child memos → set memos child (renew one) ≡ map renew memos
+  one_renewed [] child one at h = refl
+  one_renewed (x ∷ memos) zero one at h =
+      ap (λ (z : Memo). renew z ∷ memos) (sym (same_Some x one at))
+      ∙ ap (λ (l : List Memo). renew x ∷ l) (all_same memos (λ place below there. h (suc place) below there (λ e. omega (arith, e))))
+  one_renewed (x ∷ memos) (suc child) one at h =
+      ap (λ (z : Memo). z ∷ set memos child (renew one)) (sym (h 0 x refl (λ e. omega (arith, e))))
+      ∙ ap (λ (l : List Memo). renew x ∷ l) (one_renewed memos child one at (λ place below there other. h (suc place) below there (λ e. other (omega (arith, e)))))
+
+  -- where that one is renewed, all are
+  pub only_renewed : (memo : Memo) (child : ℕ) (one new : Memo) → OthersSame child (out-Memo memo).below → slice_get (out-Memo memo).below child ≡ Some one → new ≡ renew one
+      → roll-Memo (renewed memo child new) ≡ each_below renew (out-Memo memo)
+  only_renewed memo child one new others at is =
+      ap (λ (l : List Memo). roll-Memo record { former = (out-Memo memo).former; facts = (out-Memo memo).facts; entries = (out-Memo memo).entries; below = l })
+      (ap (set (out-Memo memo).below child) is ∙ one_renewed (out-Memo memo).below child one at others)
+
+  -- where there is no such child, all are already
+  pub past_renewed : (memo : Memo) (child : ℕ) → OthersSame child (out-Memo memo).below → length (out-Memo memo).below ≤ child → memo ≡ each_below renew (out-Memo memo)
+  past_renewed memo child others past =
+      sym (roll-out-Memo memo)
+      ∙ ap (λ (l : List Memo). roll-Memo record { former = (out-Memo memo).former; facts = (out-Memo memo).facts; entries = (out-Memo memo).entries; below = l })
+      (all_same (out-Memo memo).below (λ place below at.
+      let within : place < length (out-Memo memo).below = slice_get_within (out-Memo memo).below place below at in
+      others place below at (λ e. omega (arith, e))))
 
 -- as it stands when its own entries are dropped
 abbrev pub dropped : Memo → List Entry → Memo-F Memo
 dropped now entries = record { former = (out-Memo now).former; facts = (out-Memo now).facts; entries = entries; below = (out-Memo now).below }
 
-abbrev over_below : Memo-F Memo → Memo-F Memo
-over_below layer = record { former = layer.former; facts = layer.facts; entries = layer.entries; below = map sealed layer.below }
+abbrev over_below : (Memo → Memo) → Memo-F Memo → Memo-F Memo
+over_below renew layer = record { former = layer.former; facts = layer.facts; entries = layer.entries; below = map renew layer.below }
 
 abbrev unmarked : Memo-F Memo → Memo
 unmarked layer = roll-Memo record { former = None; facts = layer.facts; entries = layer.entries; below = layer.below }
 
--- all below are sealed
-pub sealed_all : (before now : Memo) (at : ℕ) → Renewed sealed before now at → length (out-Memo before).below ≡ at → now ≡ sealed_below (out-Memo before)
-sealed_all before now at h l =
-    sym (roll-out-Memo now)
-    ∙ (λ i. roll-Memo record {
-      former = h.former i;
-      facts = h.facts i;
-      entries = h.entries i;
-      below = below_all sealed before now at h l i;
-    })
+pub undone_end : (before now : Memo) (entries : List Entry) → now ≡ each_below stripped (out-Memo before) → entries ≡ all_undone (out-Memo now).entries
+    → roll-Memo (dropped now entries) ≡ stripped before
+undone_end before now entries is e =
+    let o : out-Memo now ≡ over_below stripped (out-Memo before) = ap out-Memo is ∙ out-roll-Memo (over_below stripped (out-Memo before)) in
+    (λ i. roll-Memo record {
+      former = (o i).former;
+      facts = (o i).facts;
+      entries = (e ∙ (λ j. all_undone (o j).entries)) i;
+      below = (o i).below;
+    }) ∙ sym (stripped_out before)
 
-pub sealed_end : (before now : Memo) (entries : List Entry) → now ≡ sealed_below (out-Memo before)
+pub sealed_end : (before now : Memo) (entries : List Entry) → now ≡ each_below sealed (out-Memo before)
     → entries ≡ settled_all (is_marked (out-Memo now)) (out-Memo now).entries → unmarked (out-Memo (roll-Memo (dropped now entries))) ≡ sealed before
 sealed_end before now entries is e =
-    let o : out-Memo now ≡ over_below (out-Memo before) = ap out-Memo is ∙ out-roll-Memo (over_below (out-Memo before)) in
+    let o : out-Memo now ≡ over_below sealed (out-Memo before) = ap out-Memo is ∙ out-roll-Memo (over_below sealed (out-Memo before)) in
     ap unmarked (out-roll-Memo (dropped now entries))
     ∙ (λ i. roll-Memo record {
       former = None;

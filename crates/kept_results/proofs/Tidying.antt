@@ -4,7 +4,7 @@ use Rattle.std.proofs.lemmas.Option.{none-some, same_Some, slice_get-map}
 use Rattle.std.specs.List.{AllByRecursion, list_all}
 use Rattle.std.specs.Option.{option_and_then, option_map}
 use Rattle.kept_results.specs.declared.memo.Former.{Former}
-use Rattle.kept_results.specs.Ends.{all_undone, restored, sealed, settled, settled_all, stripped, undone_from}
+use Rattle.kept_results.specs.Ends.{all_undone, each_below, restored, sealed, settled, settled_all, stripped, undone_from}
 use Rattle.kept_results.specs.Kept.{alike_but, is_fresh, is_fresh_from, is_marked}
 use Rattle.kept_results.specs.Laws.{is_unmarked, unmarked_layer}
 use Rattle.kept_results.specs.Tidy.{AreTidy, StaysCalm, IsTidy, IsMemoAt, has_none_fresh, has_none_new, is_calm, is_new, only_touched}
@@ -171,7 +171,7 @@ module _ (memo : Memo) (child : ℕ) (alike : alike_but (out-Memo memo) ≡ Some
       tidy_made (with_entry now place entry)
       (subst (λ (l : Memo-F Memo). StaysCalm (put_over l)) (sym (out-roll-Memo (renewed memo child new))) (put_calms (h.at [] memo refl))) below
 
--- ---- a calm memo is sealed already
+-- ---- a calm memo is as the end of a pass leaves it
 
 pub stands : (origin : Origin) → is_fresh_from origin ≡ false → origin ≡ Standing
 stands Standing h = refl
@@ -194,30 +194,49 @@ settled_none (x ∷ entries) h =
     ap (λ (e : Entry). e ∷ settled_all false entries) (settled_same x (not_true (is_fresh x) (first_holds (not (is_fresh x)) (has_none_fresh entries) h)))
     ∙ ap (λ (l : List Entry). x ∷ l) (settled_none entries (second_holds (not (is_fresh x)) (has_none_fresh entries) h))
 
+pub undone_none : (entries : List Entry) → has_none_fresh entries ≡ true → all_undone entries ≡ entries
+undone_none [] h = refl
+undone_none (x ∷ entries) h =
+    ap (λ (origin : Origin). undone_from origin x ++ all_undone entries) (stands x.origin (not_true (is_fresh x) (first_holds (not (is_fresh x)) (has_none_fresh entries) h)))
+    ∙ ap (λ (l : List Entry). x ∷ l) (undone_none entries (second_holds (not (is_fresh x)) (has_none_fresh entries) h))
+
 former_none : (former : Option Former) → is_some former ≡ false → None ≡ former
 former_none None h = refl
 former_none (Some was) h = absurd (true≢false h)
 
-abbrev IsSealedCalm : Memo → Type 0
-IsSealedCalm memo = IsTidy memo → is_calm (out-Memo memo) ≡ true → sealed memo ≡ memo
+-- where a calm memo itself is left alone, and renewed below alone, it is left alone whole
+module _ (renew : Memo → Memo) (own : (memo : Memo) → is_calm (out-Memo memo) ≡ true → renew memo ≡ each_below renew (out-Memo memo)) where
+  abbrev IsLeft : Memo → Type 0
+  IsLeft memo = IsTidy memo → is_calm (out-Memo memo) ≡ true → renew memo ≡ memo
 
-all_sealed : (ys : List ((memo : Memo) × IsSealedCalm memo)) → AreTidy (map (λ y. y.0) ys)
-    → ((place : ℕ) (below : Memo) → slice_get (map (λ y. y.0) ys) place ≡ Some below → is_calm (out-Memo below) ≡ true)
-    → map sealed (map (λ y. y.0) ys) ≡ map (λ y. y.0) ys
-all_sealed [] h k = refl
-all_sealed (y ∷ ys) h k =
-    ap (λ (z : Memo). z ∷ map sealed (map (λ y. y.0) ys)) (y.1 (h 0 y.0 refl) (k 0 y.0 refl))
-    ∙ ap (λ (l : List Memo). y.0 ∷ l) (all_sealed ys (λ n. h (suc n)) (λ n. k (suc n)))
+  all_left : (ys : List ((memo : Memo) × IsLeft memo)) → AreTidy (map (λ y. y.0) ys)
+      → ((place : ℕ) (below : Memo) → slice_get (map (λ y. y.0) ys) place ≡ Some below → is_calm (out-Memo below) ≡ true)
+      → map renew (map (λ y. y.0) ys) ≡ map (λ y. y.0) ys
+  all_left [] h k = refl
+  all_left (y ∷ ys) h k =
+      ap (λ (z : Memo). z ∷ map renew (map (λ y. y.0) ys)) (y.1 (h 0 y.0 refl) (k 0 y.0 refl))
+      ∙ ap (λ (l : List Memo). y.0 ∷ l) (all_left ys (λ n. h (suc n)) (λ n. k (suc n)))
+
+  calm_left : (memo : Memo) → IsTidy memo → is_calm (out-Memo memo) ≡ true → renew memo ≡ memo
+  calm_left = ind-Memo IsLeft (λ x y is tidy calm.
+      let memo = roll-Memo x in
+      let layer : Memo-F Memo = out-Memo memo in
+      let below : layer.below ≡ map (λ e. e.0) y.below = ap (λ (l : Memo-F Memo). l.below) (out-roll-Memo x ∙ sym is) in
+      let children : AreTidy (map (λ e. e.0) y.below) = subst AreTidy below (tidy_below memo tidy) in
+      let calms : (place : ℕ) (kept : Memo) → slice_get (map (λ e. e.0) y.below) place ≡ Some kept → is_calm (out-Memo kept) ≡ true =
+      λ place kept at. (tidy.at [] memo refl).all calm place kept (ap (λ (l : List Memo). slice_get l place) below ∙ at) in
+      let same : map renew layer.below ≡ layer.below = ap (map renew) below ∙ all_left y.below children calms ∙ sym below in
+      own memo calm
+      ∙ (λ i. roll-Memo record {
+        former = layer.former;
+        facts = layer.facts;
+        entries = layer.entries;
+        below = same i;
+      }) ∙ roll-out-Memo memo)
 
 pub calm_sealed : (memo : Memo) → IsTidy memo → is_calm (out-Memo memo) ≡ true → sealed memo ≡ memo
-calm_sealed = ind-Memo IsSealedCalm (λ x y is tidy calm.
-    let memo = roll-Memo x in
+calm_sealed = calm_left sealed (λ memo calm.
     let layer : Memo-F Memo = out-Memo memo in
-    let below : layer.below ≡ map (λ e. e.0) y.below = ap (λ (l : Memo-F Memo). l.below) (out-roll-Memo x ∙ sym is) in
-    let children : AreTidy (map (λ e. e.0) y.below) = subst AreTidy below (tidy_below memo tidy) in
-    let calms : (place : ℕ) (kept : Memo) → slice_get (map (λ e. e.0) y.below) place ≡ Some kept → is_calm (out-Memo kept) ≡ true =
-    λ place kept at. (tidy.at [] memo refl).all calm place kept (ap (λ (l : List Memo). slice_get l place) below ∙ at) in
-    let same : map sealed layer.below ≡ layer.below = ap (map sealed) below ∙ all_sealed y.below children calms ∙ sym below in
     let mark = calm_mark layer calm in
     let entries : settled_all (is_marked layer) layer.entries ≡ layer.entries =
     ap (λ (b : Bool). settled_all b layer.entries) mark ∙ settled_none layer.entries (calm_entries layer calm) in
@@ -226,8 +245,25 @@ calm_sealed = ind-Memo IsSealedCalm (λ x y is tidy calm.
       former = former_none layer.former mark i;
       facts = layer.facts;
       entries = entries i;
-      below = same i;
-    }) ∙ roll-out-Memo memo)
+      below = map sealed layer.below;
+    }))
+
+pub calm_stripped : (memo : Memo) → IsTidy memo → is_calm (out-Memo memo) ≡ true → stripped memo ≡ memo
+calm_stripped = calm_left stripped (λ memo calm.
+    let layer : Memo-F Memo = out-Memo memo in
+    stripped_out memo
+    ∙ (λ i. roll-Memo record {
+      former = layer.former;
+      facts = layer.facts;
+      entries = undone_none layer.entries (calm_entries layer calm) i;
+      below = map stripped layer.below;
+    }))
+
+-- of a tidy element of which but one child may not have been left alone, the others are as undoing
+-- leaves them
+pub others_stripped : (memo : Memo) (child : ℕ) → IsTidy memo → only_touched (out-Memo memo) ≡ Some child
+    → (place : ℕ) (below : Memo) → slice_get (out-Memo memo).below place ≡ Some below → (place ≡ child → ⊥) → stripped below ≡ below
+others_stripped memo child tidy only place below at other = calm_stripped below (tidy_below memo tidy place below at) ((tidy.at [] memo refl).others child only place below at other)
 
 -- ---- a memo without marks and flags is tidy
 

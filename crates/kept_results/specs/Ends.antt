@@ -1,7 +1,7 @@
 -- How a pass ends: what it made is undone, or else what is older is dropped.
-use Rattle.std.specs.Prelude.{ℕ, ◌+◌, Bool, List, [], ◌∷◌, filter, length, map, slice_get, slice_set, None}
+use Rattle.std.specs.Prelude.{◌≡◌, ℕ, ◌+◌, Bool, List, [], ◌∷◌, filter, length, map, slice_get, slice_set, None}
 use Rattle.std.specs.List.{flat_map, sum}
-use Rattle.std.specs.Option.{option_map_or}
+use Rattle.std.specs.Option.{option_map, option_map_or}
 use Rattle.kept_results.specs.Kept.{is_fresh, is_live, is_marked}
 use Rattle.kept_results.specs.declared.memo.Before.{Before}
 use Rattle.kept_results.specs.declared.memo.Entry.{Entry}
@@ -10,7 +10,7 @@ use Rattle.kept_results.specs.declared.memo.Origin.{Origin}
 use Rattle.kept_results.specs.declared.memo.Origin.TheVariants.{Made, Remade, Standing}
 use Rattle.kept_results.specs.declared.memo.Memo.TheFolds.{fold-Memo}
 use Rattle.kept_results.specs.declared.memo.Memo.TheOpen.{Memo-F}
-use Rattle.kept_results.specs.declared.memo.Memo.TheViews.{roll-Memo}
+use Rattle.kept_results.specs.declared.memo.Memo.TheViews.{out-Memo, roll-Memo}
 
 -- ---- undone
 
@@ -82,14 +82,26 @@ sealed_layer layer = roll-Memo record {
 abbrev pub sealed : Memo → Memo
 sealed memo = fold-Memo Memo sealed_layer memo
 
--- those below it are sealed, and all else is as it was
-abbrev pub sealed_below : Memo-F Memo → Memo
-sealed_below layer = roll-Memo record {
+-- ---- below an element
+
+-- what each child of an element has is renewed, and all else is as it was
+abbrev pub each_below : (Memo → Memo) → Memo-F Memo → Memo
+each_below renew layer = roll-Memo record {
   former = layer.former;
   facts = layer.facts;
   entries = layer.entries;
-  below = map sealed layer.below;
+  below = map renew layer.below;
 }
+
+-- what each child has is as before the present pass, but for that at a place, and all else is as it
+-- was
+pub record IsUndoneBut (child : ℕ) (before after : Memo) : Type 0 where
+  pub former : (out-Memo after).former ≡ (out-Memo before).former
+  pub facts : (out-Memo after).facts ≡ (out-Memo before).facts
+  pub entries : (out-Memo after).entries ≡ (out-Memo before).entries
+  pub spared : slice_get (out-Memo after).below child ≡ slice_get (out-Memo before).below child
+  pub others : (place : ℕ) → (place ≡ child → ⊥) → slice_get (out-Memo after).below place
+      ≡ option_map stripped (slice_get (out-Memo before).below place)
 
 -- ---- how many
 

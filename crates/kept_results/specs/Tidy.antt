@@ -1,5 +1,5 @@
 -- Where the end of a pass may stop: what the edit and the pass left alone.
-use Rattle.std.specs.Prelude.{◌≡◌, ℕ, Bool, true, false, cond, not, ◌&&◌, List, [], ◌∷◌, Option, Some, None, slice_get}
+use Rattle.std.specs.Prelude.{◌≡◌, ℕ, Bool, true, false, cond, not, ◌&&◌, List, [], ◌∷◌, length, Option, Some, None, slice_get}
 use Rattle.std.specs.List.{list_all}
 use Rattle.std.specs.Option.{option_and_then}
 use Rattle.kept_results.specs.Kept.{alike_but, is_fresh, is_marked}
@@ -32,6 +32,11 @@ has_none_new entries = list_all (λ entry. not (is_new entry.origin)) entries
 abbrev pub only_touched : {X : Type 0} → Memo-F X → Option ℕ
 only_touched layer =
     option_and_then (λ child. cond (has_none_new layer.entries) (Some child) None) (alike_but layer)
+
+-- the child to which the end of a pass goes, where it goes by the others; the place behind all of
+-- them, where it goes by all
+abbrev pub only_entered : {X : Type 0} → Memo-F X → Option ℕ
+only_entered layer = cond (is_calm layer) (Some (length layer.below)) (only_touched layer)
 
 -- where an element is calm, so are its children; and where but one of them may be touched, so are
 -- the others

@@ -1,25 +1,99 @@
-ghost use Rattle.std.specs.Prelude.{◌≡◌, ◌<◌, ◌-◌, ◌^◌, Some, filter, length, min, slice_get};
+ghost use Rattle.std.specs.Prelude.{◌≡◌, ℕ, ◌<◌, ◌-◌, ◌^◌, None, Some, filter, length, min, slice_get};
 ghost use Rattle.std.specs.List.{remove};
-ghost use Rattle.kept_results.specs.Ends.{all_undone, fresh_below, fresh_count, sealed, sealed_below, settled, settled_all, stripped};
+ghost use Rattle.kept_results.specs.Ends.{IsUndoneBut, all_undone, each_below, fresh_below, fresh_count, sealed, settled, settled_all, stripped};
 ghost use Rattle.kept_results.specs.Kept.{is_fresh};
-ghost use Rattle.kept_results.specs.Tidy.{AreTidy, IsTidy, only_touched};
+ghost use Rattle.kept_results.specs.Tidy.{AreTidy, IsTidy, only_entered, only_touched};
 ghost use Rattle.kept_results.specs.declared.memo.Memo.TheViews.{out-Memo};
 
-use crate::entries::{is_calm, is_live, is_marked, only_touched};
+use crate::entries::{is_calm, is_live, is_marked, only_entered, only_touched};
 use crate::memo::{Before, Entry, Memo, Origin};
 use crate::remaking::restore;
 use fixed_units::List;
 use std::mem;
 
 /// Undoes a pass: what it made is dropped, what it made anew is what it was, and all else is as
-/// before it. It takes no memory.
+/// before it. It goes only where the edit and the pass went, and takes no memory.
+#[cycle(undo_pass)]
 pub fn undo_pass(memo: &mut Memo)
+    requires tidy { IsTidy memo.old }
     ensures { memo.new ≡ stripped memo.old }
+{
+    if !is_calm(memo) {
+        undo_through(memo);
+    }
+}
+
+/// The same, whatever the edit and the pass did. It stands apart, so that an element that they left
+/// alone is passed by without the frame of this call: most were.
+#[cycle(undo_pass)]
+#[inline(never)]
+fn undo_through(memo: &mut Memo)
+    requires tidy { IsTidy memo.old }
+    ensures { memo.new ≡ stripped memo.old }
+{
+    undo_below(memo);
+    undo_entries(&mut memo.entries);
+}
+
+/// Undoes a pass below an element: of its children the one alone that the pass asked, where that is
+/// known.
+#[cycle(undo_pass)]
+fn undo_below(memo: &mut Memo)
+    requires tidy { IsTidy memo.old }
+    ensures { memo.new ≡ each_below stripped (out-Memo memo.old) }
+{
+    match only_touched(memo) {
+        Some(child) => undo_only(memo, child),
+        None => undo_all(memo),
+    }
+}
+
+/// Undoes a pass over a child of an element. It left the others alone.
+#[cycle(undo_pass)]
+fn undo_only(memo: &mut Memo, child: usize)
+    requires tidy { IsTidy memo.old }
+    requires only { only_touched (out-Memo memo.old) ≡ Some child }
+    ensures { memo.new ≡ each_below stripped (out-Memo memo.old) }
+{
+    if child < memo.below.len() {
+        undo_pass(memo.below.at_mut(child));
+    }
+}
+
+/// Undoes a pass over each child of an element.
+#[cycle(undo_pass)]
+fn undo_all(memo: &mut Memo)
+    requires tidy { AreTidy (out-Memo memo.old).below }
+    ensures { memo.new ≡ each_below stripped (out-Memo memo.old) }
 {
     for at in 0..memo.below.len() {
         undo_pass(memo.below.at_mut(at));
     }
-    undo_entries(&mut memo.entries);
+}
+
+/// Undoes a pass over an element that was refused, where the end of a pass goes by children of the
+/// element: so that it may, the pass leaves no trace there. All else is as it was.
+pub fn undo_beside(memo: &mut Memo)
+    requires tidy { AreTidy (out-Memo memo.old).below }
+    ensures undone { (child : ℕ) → only_entered (out-Memo memo.old) ≡ Some child
+        → IsUndoneBut child memo.old memo.new }
+    ensures unchanged { only_entered (out-Memo memo.old) ≡ None → memo.new ≡ memo.old }
+{
+    if let Some(child) = only_entered(memo) {
+        undo_others(memo, child);
+    }
+}
+
+/// Undoes a pass over each child of an element but that at a place.
+fn undo_others(memo: &mut Memo, child: usize)
+    requires tidy { AreTidy (out-Memo memo.old).below }
+    ensures { IsUndoneBut child memo.old memo.new }
+{
+    for at in 0..memo.below.len() {
+        if at != child {
+            undo_pass(memo.below.at_mut(at));
+        }
+    }
 }
 
 /// Ends a pass that was done: older entries are dropped, marks are cleared, and what the pass made
@@ -56,7 +130,7 @@ fn seal_through(memo: &mut Memo) -> usize
 #[cycle(seal)]
 fn seal_below(memo: &mut Memo) -> usize
     requires tidy { IsTidy memo.old }
-    ensures sealed { memo.new ≡ sealed_below (out-Memo memo.old) }
+    ensures sealed { memo.new ≡ each_below sealed (out-Memo memo.old) }
     ensures made { result ≡ min (fresh_below (out-Memo memo.old).below) (2 ^ 64 - 1) }
 {
     match only_touched(memo) {
@@ -70,7 +144,7 @@ fn seal_below(memo: &mut Memo) -> usize
 fn seal_only(memo: &mut Memo, child: usize) -> usize
     requires tidy { IsTidy memo.old }
     requires only { only_touched (out-Memo memo.old) ≡ Some child }
-    ensures sealed { memo.new ≡ sealed_below (out-Memo memo.old) }
+    ensures sealed { memo.new ≡ each_below sealed (out-Memo memo.old) }
     ensures made { result ≡ min (fresh_below (out-Memo memo.old).below) (2 ^ 64 - 1) }
 {
     if child < memo.below.len() {
@@ -84,7 +158,7 @@ fn seal_only(memo: &mut Memo, child: usize) -> usize
 #[cycle(seal)]
 fn seal_all(memo: &mut Memo) -> usize
     requires tidy { AreTidy (out-Memo memo.old).below }
-    ensures sealed { memo.new ≡ sealed_below (out-Memo memo.old) }
+    ensures sealed { memo.new ≡ each_below sealed (out-Memo memo.old) }
     ensures made { result ≡ min (fresh_below (out-Memo memo.old).below) (2 ^ 64 - 1) }
 {
     let mut made = 0usize;

@@ -4,7 +4,7 @@ ghost use Rattle.outcome_cells.specs.Store.{PutsOutcome};
 ghost use Rattle.kept_results.specs.Backed.{AreBacked, OnlyGrows};
 ghost use Rattle.kept_results.specs.Kept.{IsMissing, is_live, is_marked};
 ghost use Rattle.kept_results.specs.Looking.{HasAnswer, IsKeptNow, own_facts};
-ghost use Rattle.kept_results.specs.Tidy.{has_none_fresh, has_none_new, is_calm, only_touched};
+ghost use Rattle.kept_results.specs.Tidy.{has_none_fresh, has_none_new, is_calm, only_entered, only_touched};
 ghost use Rattle.kept_results.specs.declared.memo.Memo.TheViews.{out-Memo};
 
 use crate::memo::{Entry, Memo, Origin};
@@ -64,6 +64,18 @@ pub fn only_touched(memo: &Memo) -> Option<usize>
         Some(child)
     } else {
         None
+    }
+}
+
+/// The child of an element to which the end of a pass goes, where it goes by the others, and the
+/// place behind all of them where it goes by all.
+pub fn only_entered(memo: &Memo) -> Option<usize>
+    ensures { result ≡ only_entered (out-Memo memo.now) }
+{
+    if is_calm(memo) {
+        Some(memo.below.len())
+    } else {
+        only_touched(memo)
     }
 }
 

@@ -38,7 +38,7 @@
 #![tactic(auto)]
 
 mod earlier; // what a pass takes over from before the edit
-mod ends; // undo_pass, seal
+mod ends; // undo_pass, undo_beside, seal
 mod entries; // one element's entries
 pub mod laws; // what holds of kept layouts
 mod memo; // Memo, Former; Entry, and what a pass did to it: Origin, Before
@@ -46,7 +46,7 @@ mod remaking; // an entry that a pass makes anew, and what it was before
 mod whole_view; // a view of an element that has all its children in flow
 
 pub use earlier::{Earlier, asked_again, find_earlier, is_regular};
-pub use ends::{seal, undo_pass};
+pub use ends::{seal, undo_beside, undo_pass};
 pub use entries::{Asked, answer_in, facts_below, is_marked, keep, kept_answer};
 pub use memo::{Before, Entry, Former, Memo, Origin};
 pub use remaking::{remake, turn};

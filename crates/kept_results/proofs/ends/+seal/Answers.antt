@@ -2,8 +2,8 @@ use Rattle.std.proofs.Common.{◌≡◌, ◌∙◌, ◌<◌, ◌≤◌, sym, ap,
 use Rattle.std.proofs.lemmas.List.{take_all}
 use Rattle.kept_results.specs.Ends.{fresh_below, sealed}
 use Rattle.kept_results.specs.declared.memo.Memo.TheViews.{out-Memo, size-Memo}
-use Rattle.kept_results.proofs.Made.{fresh_more, none_calm, only_counted, only_sealed, past_counted, past_sealed}
-use Rattle.kept_results.proofs.Renewing.{next_was, renewed_more, sealed_all, smaller}
+use Rattle.kept_results.proofs.Made.{fresh_more, none_calm, only_counted, others_same, past_counted}
+use Rattle.kept_results.proofs.Renewing.{each_end, next_was, only_renewed, past_renewed, renewed_more, smaller}
 use Rattle.kept_results.proofs.Tidying.{calm_sealed, tidy_below}
 use Rattle.kept_results.proofs.ends.+seal.Goals as goal
 
@@ -35,7 +35,7 @@ seal_all-loop-at-preserved t c =
 pub seal_all-returns-clause-sealed : goal.seal_all-returns-clause-sealed
 seal_all-returns-clause-sealed t c =
     let all : length (out-Memo c.args.memo.now).below ≡ c.loop-at.at = omega arith in
-    sealed_all c.args.memo.now c.loop-at.memo c.loop-at.at c.loop-at.invariant.renewed all
+    each_end sealed c.args.memo.now c.loop-at.memo c.loop-at.at c.loop-at.invariant.renewed all
 
 pub seal_all-returns-clause-made : goal.seal_all-returns-clause-made
 seal_all-returns-clause-made t c =
@@ -55,7 +55,8 @@ seal_only-seal-requires t c =
 
 pub seal_only-returns-then-child-len-clause-sealed : goal.seal_only-returns-then-child-len-clause-sealed
 seal_only-returns-then-child-len-clause-sealed t c =
-    only_sealed c.args.memo.now c.args.child c.at_mut.result.now c.seal.new.memo c.requires.tidy c.requires.only c.at_mut.ensures.value c.seal.ensures.sealed
+    let others = others_same c.args.memo.now c.args.child c.requires.tidy c.requires.only in
+    only_renewed sealed c.args.memo.now c.args.child c.at_mut.result.now c.seal.new.memo others c.at_mut.ensures.value c.seal.ensures.sealed
 
 pub seal_only-returns-then-child-len-clause-made : goal.seal_only-returns-then-child-len-clause-made
 seal_only-returns-then-child-len-clause-made t c =
@@ -65,7 +66,7 @@ seal_only-returns-then-child-len-clause-made t c =
 pub seal_only-returns-else-child-len-clause-sealed : goal.seal_only-returns-else-child-len-clause-sealed
 seal_only-returns-else-child-len-clause-sealed t c =
     let past : length (out-Memo c.args.memo.now).below ≤ c.args.child = omega arith in
-    past_sealed c.args.memo.now c.args.child c.requires.tidy c.requires.only past
+    past_renewed sealed c.args.memo.now c.args.child (others_same c.args.memo.now c.args.child c.requires.tidy c.requires.only) past
 
 pub seal_only-returns-else-child-len-clause-made : goal.seal_only-returns-else-child-len-clause-made
 seal_only-returns-else-child-len-clause-made t c =
