@@ -2,4 +2,5 @@ mod RelayAgain
 mod RelayAll
 mod RelayAnew
 mod RelayCalls
+mod RelayRefused
 mod Replacing

@@ -67,3 +67,7 @@ ok_is_not_err a e same = cc
 pub err_both : {A : Type 0} {E : Type 0} (r : Result A E) (X Y : Type 0) → OnErr r X → OnErr r Y → OnErr r (X × Y)
 err_both (Ok a) X Y x y = tt
 err_both (Err e) X Y x y = (x, y)
+
+pub on_err : {A : Type 0} {E : Type 0} (r : Result A E) {X : Type 0} → X → OnErr r X
+on_err (Ok a) x = tt
+on_err (Err e) x = x

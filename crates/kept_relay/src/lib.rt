@@ -7,7 +7,8 @@
 //! - Models: this project's own; MathML Core says nothing of it.
 //! - Proved: a pass gives the layout exactly, computes nothing that is kept, and nothing twice, and
 //!   can be undone; it puts a run for each step, every run that was there stays, and no two entries
-//!   have one where no two had (`Passes` and `Grows` of `kept_results`).
+//!   have one where no two had (`Passes` and `Grows` of `kept_results`). Done or refused, it leaves
+//!   a trace only where the end of a pass goes (`IsTidy`).
 //! - Knows nothing of: edits, and by which equation an element of a kind is laid out: it takes what
 //!   computes outcomes (`Finish` of `layout_model`) as a parameter.
 //! - Change how what is kept is found: `entries.rt` and `earlier.rt` of `kept_results`; what is

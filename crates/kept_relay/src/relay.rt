@@ -1,4 +1,4 @@
-ghost use Rattle.std.specs.Prelude.{◌≡◌, ◌≤◌, map, true, false, IfOk, OnOk, Err};
+ghost use Rattle.std.specs.Prelude.{◌≡◌, ◌≤◌, map, true, false, IfOk, OnErr, OnOk, Err};
 ghost use Rattle.std.specs.List.{All, AllByRecursion, flat_map, list_all};
 ghost use Rattle.std.specs.Option.{IsSome};
 ghost use Rattle.fixed_units.specs.declared.refusal.LayRefusal.TheVariants.{Range};
@@ -21,7 +21,7 @@ use fixed_units::{LayRefusal, List, Steps};
 use font_metrics::Metrics;
 use kept_results::{
     Asked, Earlier, Memo, WholeView, asked_again, facts_below, find_earlier, is_regular, keep,
-    kept_answer,
+    kept_answer, undo_beside,
 };
 use layout_model::{Answer, Context, Finish, Reply};
 use math_tree::Node;
@@ -31,8 +31,8 @@ use std::sync::ledger::Ledger;
 
 /// The answer of an element in a context, from what is kept of it and of all below it; what isn't
 /// kept is computed, and kept from then on. Each layout that is computed ticks a step. It is
-/// refused with `Range` exactly where a number of a layout that this one needs can't be stored;
-/// what was made until then stays.
+/// refused with `Range` exactly where a number of a layout that this one needs can't be stored.
+/// What was made until then stays where `undo_pass` looks for it, and is undone elsewhere.
 #[cycle(relay)]
 pub fn relay_element<F: Finish, L: Ledger>(
     alloc: Global,
@@ -46,6 +46,7 @@ pub fn relay_element<F: Finish, L: Ledger>(
     requires begun { IsSome store.old.checkpoint }
     requires agrees { Agrees metrics.now node.now memo.old }
     requires backed { IsBacked metrics.now store.old.runs node.now memo.old }
+    requires tidy { IsTidy memo.old }
     requires few { element_count node.now ≤ 65_536 }
     requires context { Suits metrics.now node.now context.now }
     ensures passes { Passes metrics.now node.now (Needs metrics.now node.now context.now) memo.old
@@ -59,7 +60,7 @@ pub fn relay_element<F: Finish, L: Ledger>(
         (Grows metrics.now node.now memo.old memo.new store.old store.new steps.old steps.new
         true) }
     ensures kept { OnOk result (IsKept (out-Memo memo.new) context.now) }
-    ensures tidy { OnOk result (IsTidy memo.old → IsTidy memo.new) }
+    ensures tidy { IsTidy memo.new }
     ensures ok { IfOk result (λ answer. answer ≡ (lay metrics.now node.now context.now).answer) }
     ensures fit { OnOk result (in_range metrics.now node.now context.now ≡ true) }
     ensures range { result ≡ Err Range → in_range metrics.now node.now context.now ≡ false }
@@ -75,8 +76,8 @@ pub fn relay_element<F: Finish, L: Ledger>(
     }
 }
 
-/// The same, where no answer is kept. It stands apart, so that a kept answer is found without the
-/// frame of this call: most elements that a pass asks have one.
+/// The same, where no answer is kept: the element is asked anew. It stands apart, so that a kept
+/// answer is found without the frame of this call: most elements that a pass asks have one.
 #[cycle(relay)]
 #[inline(never)]
 fn relay_anew<F: Finish, L: Ledger>(
@@ -91,6 +92,7 @@ fn relay_anew<F: Finish, L: Ledger>(
     requires begun { IsSome store.old.checkpoint }
     requires agrees { Agrees metrics.now node.now memo.old }
     requires backed { IsBacked metrics.now store.old.runs node.now memo.old }
+    requires tidy { IsTidy memo.old }
     requires few { element_count node.now ≤ 65_536 }
     requires context { Suits metrics.now node.now context.now }
     requires missing { IsMissing (is_marked (out-Memo memo.old)) context.now
@@ -106,7 +108,51 @@ fn relay_anew<F: Finish, L: Ledger>(
         (Grows metrics.now node.now memo.old memo.new store.old store.new steps.old steps.new
         true) }
     ensures kept { OnOk result (IsKept (out-Memo memo.new) context.now) }
-    ensures tidy { OnOk result (IsTidy memo.old → IsTidy memo.new) }
+    ensures tidy { IsTidy memo.new }
+    ensures ok { IfOk result (λ answer. answer ≡ (lay metrics.now node.now context.now).answer) }
+    ensures fit { OnOk result (in_range metrics.now node.now context.now ≡ true) }
+    ensures range { result ≡ Err Range → in_range metrics.now node.now context.now ≡ false }
+{
+    let made = make_anew::<F, _>(alloc, node, memo, store, context, metrics, steps);
+    if made.is_err() {
+        undo_beside(memo);
+    }
+    made
+}
+
+/// Asks an element anew, and keeps its layout. Where it is refused, what its children made stays.
+#[cycle(relay)]
+fn make_anew<F: Finish, L: Ledger>(
+    alloc: Global,
+    node: &Node,
+    memo: &mut Memo,
+    store: &mut Store,
+    context: &Context,
+    metrics: &Metrics,
+    steps: &mut Steps<L>,
+) -> Result<Answer, LayRefusal>
+    requires begun { IsSome store.old.checkpoint }
+    requires agrees { Agrees metrics.now node.now memo.old }
+    requires backed { IsBacked metrics.now store.old.runs node.now memo.old }
+    requires tidy { AreTidy (out-Memo memo.old).below }
+    requires few { element_count node.now ≤ 65_536 }
+    requires context { Suits metrics.now node.now context.now }
+    requires missing { IsMissing (is_marked (out-Memo memo.old)) context.now
+        (out-Memo memo.old).entries }
+    ensures passes { Passes metrics.now node.now (Needs metrics.now node.now context.now) memo.old
+        memo.new steps.old steps.new false }
+    ensures passed { OnOk result
+        (Passes metrics.now node.now (Needs metrics.now node.now context.now) memo.old memo.new
+        steps.old steps.new true) }
+    ensures grows { Grows metrics.now node.now memo.old memo.new store.old store.new steps.old
+        steps.new false }
+    ensures grown { OnOk result
+        (Grows metrics.now node.now memo.old memo.new store.old store.new steps.old steps.new
+        true) }
+    ensures kept { OnOk result (IsKept (out-Memo memo.new) context.now) }
+    ensures tidy { OnOk result (IsTidy memo.new) }
+    ensures below { OnErr result (AreTidy (out-Memo memo.new).below) }
+    ensures own { OnErr result ((out-Memo memo.new).entries ≡ (out-Memo memo.old).entries) }
     ensures ok { IfOk result (λ answer. answer ≡ (lay metrics.now node.now context.now).answer) }
     ensures fit { OnOk result (in_range metrics.now node.now context.now ≡ true) }
     ensures range { result ≡ Err Range → in_range metrics.now node.now context.now ≡ false }
@@ -142,6 +188,7 @@ fn relay_again<F: Finish, L: Ledger>(
     requires begun { IsSome store.old.checkpoint }
     requires agrees { Agrees metrics.now node.now memo.old }
     requires backed { IsBacked metrics.now store.old.runs node.now memo.old }
+    requires tidy { IsTidy memo.old }
     requires few { element_count node.now ≤ 65_536 }
     requires context { Suits metrics.now node.now context.now }
     requires missing { IsMissing (is_marked (out-Memo memo.old)) context.now
@@ -158,7 +205,7 @@ fn relay_again<F: Finish, L: Ledger>(
         (Grows metrics.now node.now memo.old memo.new store.old store.new steps.old steps.new
         true) }
     ensures kept { OnOk result (IsKept (out-Memo memo.new) context.now) }
-    ensures tidy { OnOk result (IsTidy memo.old → IsTidy memo.new) }
+    ensures tidy { IsTidy memo.new }
     ensures ok { IfOk result (λ answer. answer ≡ (lay metrics.now node.now context.now).answer) }
     ensures fit { OnOk result (in_range metrics.now node.now context.now ≡ true) }
     ensures range { result ≡ Err Range → in_range metrics.now node.now context.now ≡ false }
@@ -196,6 +243,7 @@ fn relay_all<F: Finish, L: Ledger>(
     requires begun { IsSome store.old.checkpoint }
     requires agrees { Agrees metrics.now node.now memo.old }
     requires backed { IsBacked metrics.now store.old.runs node.now memo.old }
+    requires tidy { AreTidy (out-Memo memo.old).below }
     requires few { element_count node.now ≤ 65_536 }
     requires proper { All (IsProper metrics.now node.now) (questions_in replies.old) }
     ensures passes { Passes metrics.now node.now
@@ -213,8 +261,7 @@ fn relay_all<F: Finish, L: Ledger>(
     ensures marked { (out-Memo memo.new).former ≡ (out-Memo memo.old).former }
     ensures kept { OnOk result (AllByRecursion (NamesKept node.now (out-Memo memo.new).below)
         (questions_in replies.old)) }
-    ensures tidy { OnOk result (AreTidy (out-Memo memo.old).below →
-        AreTidy (out-Memo memo.new).below) }
+    ensures tidy { AreTidy (out-Memo memo.new).below }
     ensures asked { OnOk result (questions_in replies.new ≡ questions_in replies.old) }
     ensures ok { OnOk result (answers_in replies.new ≡ map (answer_of metrics.now node.now)
         (questions_in replies.old)) }

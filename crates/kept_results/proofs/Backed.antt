@@ -223,7 +223,7 @@ module _ (m : MetricsValue) where
   -- a pass over one child
   module _ (node : Node) (memo : Memo) (place : ℕ) (old new : Memo) (at : slice_get (out-Memo memo).below place ≡ Some old) where
     -- an entry that is there then was there, or came in the child's memo
-    held_renewed : (path : List ℕ) (entry : Entry) → Holds path (roll-Memo (renewed memo place new)) entry
+    pub held_renewed : (path : List ℕ) (entry : Entry) → Holds path (roll-Memo (renewed memo place new)) entry
         → Holds path memo entry ⊎ ((p : List ℕ) × (path ≡ place ∷ p) × Holds p new entry)
     held_renewed path entry held = by path (subst (λ (l : Memo-F Memo). HoldsIn path l entry) (out-roll-Memo (renewed memo place new)) held)
       where

@@ -50,13 +50,13 @@ module _ (old : MemoTreeValue) (root : Node) (context : Context) (begun after : 
   runs_now : HasRuns laid_now
   runs_now = record { backed = subst (λ (n : Node). IsBacked old.metrics after.runs n memo) read grows.backed; own = grows.own changed.has_runs.own }
 
-  pub stopped_now : IsStopped laid_now
-  stopped_now =
-      stopped_of old laid_now changed (subst (λ (n : Node). Agrees old.metrics n memo) read passes.agrees) runs_now
+  pub stopped_now : IsTidy memo → IsStopped laid_now
+  stopped_now tidy =
+      stopped_of old laid_now changed (subst (λ (n : Node). Agrees old.metrics n memo) read passes.agrees) runs_now tidy
       (still_in_pass old.store begun after began grows.only) before_now
 
-  pub passed_now : IsKept (out-Memo memo) context → (IsTidy old.memo → IsTidy memo) → IsPassed laid_now
-  passed_now kept tidy = passed_of laid_now stopped_now (subst (IsKept (out-Memo memo)) made kept) (tidy changed.tidy)
+  pub passed_now : IsKept (out-Memo memo) context → IsTidy memo → IsPassed laid_now
+  passed_now kept tidy = passed_of laid_now (stopped_now tidy) (subst (IsKept (out-Memo memo)) made kept)
 
   pub steps_now : TakesMissing old.metrics old.tree.root (context_of old.metrics old.tree) old.memo from to
   steps_now =

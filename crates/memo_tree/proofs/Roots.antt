@@ -94,20 +94,20 @@ pub takes_missing : (m : MetricsValue) (node : Node) (context : Context) (before
     → Passes m node (Needs m node context) before after from to done → TakesMissing m node context before from to
 takes_missing m node context before after from to done h = record { pairs = h.pairs; steps = h.steps; needed = h.needed_all; missing = h.missing; apart = h.apart }
 
-pub stopped_of : (before laid : MemoTreeValue) → IsChanged before → Agrees laid.metrics laid.tree.root laid.memo → HasRuns laid → IsSome laid.store.checkpoint
+pub stopped_of : (before laid : MemoTreeValue) → IsChanged before → Agrees laid.metrics laid.tree.root laid.memo → HasRuns laid → IsTidy laid.memo → IsSome laid.store.checkpoint
     → without_pass laid ≡ before → IsStopped laid
-stopped_of before laid changed agrees has_runs in_pass same = record {
+stopped_of before laid changed agrees has_runs tidy in_pass same = record {
   agrees = agrees;
   has_runs = has_runs;
+  tidy = tidy;
   in_pass = in_pass;
   begun = subst IsChanged (sym same) changed;
 }
 
-pub passed_of : (laid : MemoTreeValue) → IsStopped laid → IsKept (out-Memo laid.memo) (context_of laid.metrics laid.tree) → IsTidy laid.memo → IsPassed laid
-passed_of laid stopped kept tidy = record {
+pub passed_of : (laid : MemoTreeValue) → IsStopped laid → IsKept (out-Memo laid.memo) (context_of laid.metrics laid.tree) → IsPassed laid
+passed_of laid stopped kept = record {
   stopped = stopped;
   kept = record { entry = kept.entry; held = kept.has; in_context = kept.in_context };
-  tidy = tidy;
 }
 
 -- ---- stores in a pass

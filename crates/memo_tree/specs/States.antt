@@ -39,20 +39,20 @@ without_pass laid = record {
   store = at_checkpoint laid.store;
 }
 
--- what is kept agrees with the tree, its cells are in the store, and without what the pass made it
--- is as a pass may find it
+-- what is kept agrees with the tree, its cells are in the store, nothing is marked or new below an
+-- element that the edit and the pass left alone, and without what the pass made it is as a pass may
+-- find it
 pub record IsStopped (laid : MemoTreeValue) : Type 0 where
   pub agrees : Agrees laid.metrics laid.tree.root laid.memo
   pub has_runs : HasRuns laid
+  pub tidy : IsTidy laid.memo
   pub in_pass : IsSome laid.store.checkpoint
   pub begun : IsChanged (without_pass laid)
 
--- so it is too where a pass was done; the layout of the root is kept, and nothing is marked or new
--- below an element that the edit and the pass left alone
+-- so it is too where a pass was done, and the layout of the root is kept
 pub record IsPassed (laid : MemoTreeValue) : Type 0 where
   pub stopped : IsStopped laid
   pub kept : HoldsOne [] laid.memo (context_of laid.metrics laid.tree)
-  pub tidy : IsTidy laid.memo
 
 -- in each state what is kept agrees with the tree and the metrics
 abbrev pub IsIn : State → MemoTreeValue → Type 0

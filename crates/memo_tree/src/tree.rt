@@ -263,7 +263,7 @@ impl MemoTree {
     }
 
     /// Takes a pass back: what it made is dropped, and what it made anew is what it was, in its run
-    /// of before. It takes no memory.
+    /// of before. It goes only where the edit and the pass went, and takes no memory.
     pub fn undo_pass(&mut self)
         requires stopped { IsIn Stopped self.old }
         ensures before { self.new ≡ without_pass self.old }

@@ -26,7 +26,7 @@ pub record Answered (m : MetricsValue) (node : Node) (before memo : Memo) (held 
   pub own : (out-Memo memo).entries ≡ (out-Memo before).entries
   pub marked : (out-Memo memo).former ≡ (out-Memo before).former
   pub kept : AllByRecursion (NamesKept node (out-Memo memo).below) (take index asks)
-  pub tidy : AreTidy (out-Memo before).below → AreTidy (out-Memo memo).below
+  pub tidy : AreTidy (out-Memo memo).below
 
 abbrev pub invariant-relay_all-loop-index : goal.invariant-relay_all-loop-index
 invariant-relay_all-loop-index g l = Answered l.metrics l.node l.fn.memo l.memo l.fn.store l.store (questions_in l.fn.replies) l.index l.replies l.fn.steps l.steps

@@ -1,4 +1,4 @@
-use Rattle.std.proofs.Common.{◌≡◌, sym, subst, ℕ, ◌+◌, arith, length, true, false, nat_eq}
+use Rattle.std.proofs.Common.{◌≡◌, sym, subst, ◌+◌, arith, length}
 use Rattle.kept_results.specs.declared.memo.Memo.{Memo}
 use Rattle.kept_results.specs.declared.memo.Memo.TheViews.{out-Memo}
 use Rattle.kept_results.proofs.Undoing.{Undoing, all_undoing, next_same, undoing_more, undoing_none, undoing_spared}

@@ -28,10 +28,8 @@ relay_element-requires-clause-backed g c =
     subst (IsBacked c.args.metrics.now c.begin.new.self.runs c.args.node.now) (sym (c.in_ok-memo.ensures {u = tt}))
     (blank_backed_law c.args.metrics.now c.begin.new.self.runs c.args.node.now)
 
-pub seal-requires : goal.seal-requires
-seal-requires g c = record {
-  tidy = (c.in-Ok.ensures {u = tt}).tidy (subst IsTidy (sym (c.in_ok-memo.ensures {u = tt})) (blank_tidy c.args.metrics.now c.args.node.now));
-}
+pub relay_element-requires-clause-tidy : goal.relay_element-requires-clause-tidy
+relay_element-requires-clause-tidy g c = subst IsTidy (sym (c.in_ok-memo.ensures {u = tt})) (blank_tidy c.args.metrics.now c.args.node.now)
 
 pub commit-requires : goal.commit-requires
 commit-requires g c = still_begun (c.in-Ok.ensures {u = tt}).grown.only (ap (λ (s : StoreValue). is_some s.checkpoint) c.begin.ensures)

@@ -26,11 +26,15 @@ relay_element-requires-clause-backed g c =
     let changed = subst IsChanged (sym c.self.view_is) c.requires.changed in
     backed_for old c.root.result.now c.begin.new.self changed c.root.ensures.exact c.begin.ensures
 
+pub relay_element-requires-clause-tidy : goal.relay_element-requires-clause-tidy
+relay_element-requires-clause-tidy g c = (subst IsChanged (sym c.self.view_is) c.requires.changed).tidy
+
 pub returns-in_err-relay_element-clause-stopped : goal.returns-in_err-relay_element-clause-stopped
 returns-in_err-relay_element-clause-stopped g c =
     let old : MemoTreeValue = record { tree = c.self.inside.tree; metrics = c.self.inside.metrics; memo = c.self.inside.memo; store = c.self.inside.store } in
     let changed = subst IsChanged (sym c.self.view_is) c.requires.changed in
     stopped_now old c.root.result.now c.context_of-context.result c.begin.new.self c.relay_element.new.store c.relay_element.new.memo c.args.steps.now c.relay_element.new.steps false changed c.root.ensures.exact c.context_of-context.ensures.exact c.begin.ensures c.relay_element.ensures.passes c.relay_element.ensures.grows
+    c.relay_element.ensures.tidy
 
 pub returns-in_err-relay_element-clause-before : goal.returns-in_err-relay_element-clause-before
 returns-in_err-relay_element-clause-before g c =
@@ -51,6 +55,7 @@ returns-clause-stopped g c =
     let old : MemoTreeValue = record { tree = c.self.inside.tree; metrics = c.self.inside.metrics; memo = c.self.inside.memo; store = c.self.inside.store } in
     let changed = subst IsChanged (sym c.self.view_is) c.requires.changed in
     stopped_now old c.root.result.now c.context_of-context.result c.begin.new.self c.relay_element.new.store c.relay_element.new.memo c.args.steps.now c.relay_element.new.steps false changed c.root.ensures.exact c.context_of-context.ensures.exact c.begin.ensures c.relay_element.ensures.passes c.relay_element.ensures.grows
+    c.relay_element.ensures.tidy
 
 pub returns-clause-before : goal.returns-clause-before
 returns-clause-before g c =
@@ -71,7 +76,7 @@ returns-clause-passed g c =
     let old : MemoTreeValue = record { tree = c.self.inside.tree; metrics = c.self.inside.metrics; memo = c.self.inside.memo; store = c.self.inside.store } in
     let changed = subst IsChanged (sym c.self.view_is) c.requires.changed in
     passed_now old c.root.result.now c.context_of-context.result c.begin.new.self c.relay_element.new.store c.relay_element.new.memo c.args.steps.now c.relay_element.new.steps true changed c.root.ensures.exact c.context_of-context.ensures.exact c.begin.ensures (c.in_ok-relay_element.ensures {u = tt}).passed (c.in_ok-relay_element.ensures {u = tt}).grown
-    (c.in_ok-relay_element.ensures {u = tt}).kept (c.in_ok-relay_element.ensures {u = tt}).tidy
+    (c.in_ok-relay_element.ensures {u = tt}).kept c.relay_element.ensures.tidy
 
 pub returns-clause-all : goal.returns-clause-all
 returns-clause-all g c =

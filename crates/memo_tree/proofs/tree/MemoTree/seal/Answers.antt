@@ -8,7 +8,7 @@ pub commit-requires : goal.commit-requires
 commit-requires c = (subst IsPassed (sym c.self.view_is) c.requires.passed).stopped.in_pass
 
 pub seal-requires : goal.seal-requires
-seal-requires c = record { tidy = (subst IsPassed (sym c.self.view_is) c.requires.passed).tidy }
+seal-requires c = record { tidy = (subst IsPassed (sym c.self.view_is) c.requires.passed).stopped.tidy }
 
 pub returns-clause-sealed : goal.returns-clause-sealed
 returns-clause-sealed c =

@@ -4,6 +4,9 @@ use Rattle.memo_tree.specs.Trees.{MemoTreeValue}
 use Rattle.memo_tree.proofs.Roots.{rolled_back, taken_back}
 use Rattle.memo_tree.proofs.tree.MemoTree.undo_pass.Goals as goal
 
+pub undo_pass-requires : goal.undo_pass-requires
+undo_pass-requires c = record { tidy = (subst IsStopped (sym c.self.view_is) c.requires.stopped).tidy }
+
 pub rollback-requires : goal.rollback-requires
 rollback-requires c = (subst IsStopped (sym c.self.view_is) c.requires.stopped).in_pass
 
