@@ -1,11 +1,11 @@
 #!/usr/bin/env python3
 """Counts the instructions of the built program, which repeat from run to run: of `layout` of 53,249 elements in groups of 64
-rows, and of one edit of a tree of 833.
+rows, of one edit of a tree of 833, and of one that is refused with `range` where 65,000 stand side by side.
 
     python3 bench/instructions.py [PROGRAM..]
 
 PROGRAM is the file that `rt run` leaves in crates/mathlay/out/mathlay. It is run by `valgrind --tool=callgrind`, which has to be
-installed; an edit is the difference of a script of 2,500 edits and one of 500. Of several programs each further one is told as a
+installed; an edit is the difference of a script of 2,500 edits and one of 500, or of 60 and 10. Of several programs each further one is told as a
 share of the first, too. Figures with their dates stand in bench/instructions.txt.
 """
 import json
@@ -17,8 +17,9 @@ import tempfile
 
 from shapes import METRICS, PROGRAM, edits, rows_of, tree
 
-# How many edits the two scripts have.
+# How many edits the two scripts have, and how many those have that are refused.
 FEW, MANY = 500, 2_500
+FEW_REFUSED, MANY_REFUSED = 10, 60
 
 
 def instructions(words):
@@ -48,16 +49,30 @@ def of_an_edit(program, folder):
     value = tree(64, None)
     small = file_in(folder, "small", json.dumps(value))
     ids, _ = rows_of(value)
-    few, many = (
-        instructions([program, "edit", METRICS, small, file_in(folder, str(count), lines(edits(ids, count)))])
-        for count in (FEW, MANY))
-    return (many - few) / (MANY - FEW)
+    return of_scripts(program, folder, small, lambda count: edits(ids, count), FEW, MANY)
+
+
+def of_a_refused_edit(program, folder):
+    """The instructions of an edit whose layout is refused."""
+    flat = file_in(folder, "flat", json.dumps({"name": "math", "children": [{"name": "mi", "text": "x"}] * 65_000}))
+    too_large = {"op": "attr", "node": 2, "name": "mathsize", "value": "9999px"}
+    return of_scripts(program, folder, flat, lambda count: [too_large] * count, FEW_REFUSED, MANY_REFUSED)
+
+
+def of_scripts(program, folder, tree_file, script, few, many):
+    """The instructions of one line more, from a script of a few to one of many."""
+    one, other = (
+        instructions([program, "edit", METRICS, tree_file, file_in(folder, str(count), lines(script(count)))])
+        for count in (few, many))
+    return (other - one) / (many - few)
 
 
 def main():
     programs = sys.argv[1:] or [PROGRAM]
     with tempfile.TemporaryDirectory() as folder:
-        for name, count in (("layout of 53,249 elements in groups of 64", of_layout), ("an edit of 833 elements", of_an_edit)):
+        for name, count in (
+                ("layout of 53,249 elements in groups of 64", of_layout), ("an edit of 833 elements", of_an_edit),
+                ("a refused edit of 65,001 elements side by side", of_a_refused_edit)):
             first, *others = (count(program, folder) for program in programs)
             shares = "".join(f"; {other:,.0f}, {other / first:.4f} of it" for other in others)
             print(f"{name}: {first:,.0f}{shares}", flush=True)

@@ -1,16 +1,18 @@
 -- A session that is started.
-use Rattle.std.proofs.Common.{◌≡◌, ◌∙◌, inl, inr, sym, ap, refl, Bool, true, false}
-use Rattle.std.specs.Prelude.{Ok, Err, if◌then◌else◌}
+use Rattle.std.proofs.Common.{◌≡◌, ◌∙◌, inl, inr, sym, ap, subst, refl, ℕ, arith, [], Bool, true, false}
+use Rattle.std.specs.Prelude.{Result, Ok, Err, if◌then◌else◌}
 use Rattle.fixed_units.specs.declared.refusal.LayRefusal.{LayRefusal}
 use Rattle.fixed_units.specs.declared.refusal.LayRefusal.TheVariants as layout
 use Rattle.font_metrics.specs.Metrics.{MetricsValue}
 use Rattle.math_tree.specs.Trees.{TreeValue}
 use Rattle.layout_model.specs.Layout.{is_tree_in_range}
+use Rattle.edit_session.specs.Counts.{TakesVisits}
 use Rattle.edit_session.specs.Session.{SessionValue}
 use Rattle.input_files.specs.Files.{GivesOr}
 use Rattle.input_files.specs.Refusals.{of_layout}
+use Rattle.input_files.specs.declared.refusal.Refusal.{Refusal}
 use Rattle.input_files.specs.declared.refusal.Refusal.TheVariants.{Range}
-use Rattle.line_replies.specs.Opening.{started}
+use Rattle.line_replies.specs.Opening.{TakesToOpen, TakesToStart, started}
 
 abbrev pub session_over : MetricsValue → TreeValue → SessionValue
 session_over metrics tree = record { tree = tree; metrics = metrics }
@@ -32,3 +34,25 @@ pub refused_start : (refused : LayRefusal) (metrics : MetricsValue) (tree : Tree
     → GivesOr (started metrics tree) (Err (of_layout refused))
 refused_start layout.Range metrics tree h = inr (sym (out_of_range metrics tree (h refl)))
 refused_start layout.Memory metrics tree h = inl refl
+
+-- ---- the steps of opening
+
+pub none_taken : (metrics : MetricsValue) (tree : Result TreeValue Refusal) (at : ℕ) → TakesToStart metrics tree at at
+none_taken metrics (Ok tree) at = record { pairs = []; steps = omega arith; visited = tt; apart = tt }
+none_taken metrics (Err refusal) at = refl
+
+-- where a tree was read
+pub read_taken : (metrics : MetricsValue) (wanted : Result TreeValue Refusal) (tree : TreeValue) {from to : ℕ} → GivesOr wanted (Ok tree) → TakesVisits metrics tree from to
+    → TakesToStart metrics wanted from to
+read_taken metrics wanted tree (inl none) taken = cc
+read_taken metrics wanted tree {from} {to} (inr is) taken = subst (λ (w : Result TreeValue Refusal). TakesToStart metrics w from to) is taken
+
+-- the same where metrics were read, and where none were
+pub open_taken : (wanted : Result MetricsValue Refusal) (tree : Result TreeValue Refusal) (metrics : MetricsValue) (from to : ℕ) → GivesOr wanted (Ok metrics)
+    → TakesToStart metrics tree from to → TakesToOpen wanted tree from to
+open_taken wanted tree metrics from to (inl none) taken = cc
+open_taken wanted tree metrics from to (inr is) taken = subst (λ (w : Result MetricsValue Refusal). TakesToOpen w tree from to) is taken
+
+pub unopened_taken : (wanted : Result MetricsValue Refusal) (tree : Result TreeValue Refusal) (at : ℕ) → TakesToOpen wanted tree at at
+unopened_taken (Ok metrics) tree at = none_taken metrics tree at
+unopened_taken (Err refusal) tree at = refl

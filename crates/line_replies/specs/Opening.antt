@@ -1,8 +1,9 @@
 -- The session with which work begins, by the bytes of two files, or why there is none.
-use Rattle.std.specs.Prelude.{List, ℕ, if◌then◌else◌, Result, Ok, Err}
+use Rattle.std.specs.Prelude.{◌≡◌, List, ℕ, if◌then◌else◌, Result, Ok, Err}
 use Rattle.font_metrics.specs.Metrics.{MetricsValue}
 use Rattle.math_tree.specs.Trees.{TreeValue}
 use Rattle.layout_model.specs.Layout.{is_tree_in_range}
+use Rattle.edit_session.specs.Counts.{TakesVisits}
 use Rattle.edit_session.specs.Session.{SessionValue}
 use Rattle.input_files.specs.Files.{metrics_in, tree_in}
 use Rattle.input_files.specs.declared.refusal.Refusal.{Refusal}
@@ -30,3 +31,14 @@ abbrev pub opened : List ℕ → List ℕ → Result SessionValue Refusal
 opened metrics_bytes tree_bytes = do
   metrics ← metrics_in metrics_bytes
   opened_over metrics tree_bytes
+
+-- the steps of opening by these metrics: each is a layout that is made for the one of the tree, none
+-- twice; where there is no tree, there are none
+abbrev pub TakesToStart : MetricsValue → Result TreeValue Refusal → ℕ → ℕ → Type 0
+TakesToStart metrics (Ok tree) from to = TakesVisits metrics tree from to
+TakesToStart metrics (Err refusal) from to = to ≡ from
+
+-- the same where the metrics are a file's, or there are none
+abbrev pub TakesToOpen : Result MetricsValue Refusal → Result TreeValue Refusal → ℕ → ℕ → Type 0
+TakesToOpen (Ok metrics) tree from to = TakesToStart metrics tree from to
+TakesToOpen (Err refusal) tree from to = to ≡ from

@@ -10,7 +10,8 @@
 //! - Proved: `open` gives the session of `opened`, or its refusal (`specs/Opening.antt`), but for
 //!   want of memory; a reply is `reply_to` of `specs/Replies.antt` or `specs/History.antt`,
 //!   exactly, and the session is then `after_line`; where memory is refused, it is as before; which
-//!   steps a line takes (`specs/EditSteps.antt`, `specs/HistorySteps.antt`).
+//!   steps opening and a line take (`specs/Opening.antt`, `specs/EditSteps.antt`,
+//!   `specs/HistorySteps.antt`).
 //! - Knows nothing of: the words of the command line, and how files and scripts are read.
 //! - Change what is answered to a line: `specs/Replies.antt`, then the file of `src/` below; what
 //!   is told of a file that gives no session: `input_files`.

@@ -1,10 +1,10 @@
 //! The session with which work begins, by the bytes of two files.
 ghost use Rattle.std.specs.Prelude.{◌≡◌, Ok, Err, IfOk, IfErr};
 ghost use Rattle.edit_session.specs.Counts.{TakesVisits};
-ghost use Rattle.input_files.specs.Files.{GivesOr};
+ghost use Rattle.input_files.specs.Files.{GivesOr, metrics_in, tree_in};
 ghost use Rattle.input_files.specs.Refusals.{status_of};
 ghost use Rattle.input_files.specs.Status.{EndsUnlaid};
-ghost use Rattle.line_replies.specs.Opening.{opened, opened_over, started};
+ghost use Rattle.line_replies.specs.Opening.{TakesToOpen, TakesToStart, opened, opened_over, started};
 
 use edit_session::Session;
 use fixed_units::Steps;
@@ -25,6 +25,7 @@ pub fn open<L: Ledger>(
     ensures session { IfOk result (λ session. opened metrics.now tree.now ≡ Ok session.held) }
     ensures refused { IfErr result
         (λ refusal. GivesOr (opened metrics.now tree.now) (Err refusal)) }
+    ensures taken { TakesToOpen (metrics_in metrics.now) (tree_in tree.now) steps.old steps.new }
 {
     let metrics = metrics_in(alloc, metrics)?;
     open_tree(alloc, metrics, tree, steps)
@@ -40,6 +41,7 @@ pub fn open_tree<L: Ledger>(
     ensures session { IfOk result (λ session. opened_over metrics tree.now ≡ Ok session.held) }
     ensures refused { IfErr result
         (λ refusal. GivesOr (opened_over metrics tree.now) (Err refusal)) }
+    ensures taken { TakesToStart metrics (tree_in tree.now) steps.old steps.new }
 {
     match tree_in(alloc, tree) {
         Ok(tree) => start(alloc, metrics, tree, steps),

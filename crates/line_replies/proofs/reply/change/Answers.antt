@@ -1,4 +1,4 @@
-use Rattle.std.proofs.Common.{◌≡◌, subst, sym, Err}
+use Rattle.std.proofs.Common.{◌≡◌, subst, sym}
 use Rattle.tree_edits.specs.Edits.{refusal_of}
 use Rattle.edit_session.specs.Session.{IsCause}
 use Rattle.line_replies.specs.Replies.{after_reply}
