@@ -1,6 +1,5 @@
--- A pass over an element that is refused: what it leaves where its trace beside the child that the
--- end of a pass enters is undone.
-use Rattle.std.proofs.Common.{◌≡◌, ◌∙◌, ◌⊎◌, inl, inr, refl, sym, ap, subst, ℕ, zero, suc, arith, Bool, true, false, true≢false, cond, not, ◌&&◌, List, [], ◌∷◌, length, map, set, Option, None, Some, slice_get, is_some, Result, Ok, Err, IfOk, OnErr}
+-- What a refused pass over an element leaves, once its trace beside the entered child is undone.
+use Rattle.std.proofs.Common.{◌≡◌, ◌∙◌, ◌⊎◌, inl, inr, refl, sym, ap, subst, ℕ, zero, suc, arith, Bool, true, false, true≢false, cond, not, ◌&&◌, List, [], ◌∷◌, length, set, Option, None, Some, slice_get, is_some, Result, Ok, Err, IfOk, OnErr}
 use Rattle.std.proofs.lemmas.Option.{none-some, same_Some, slice_get-map, slice_get_within}
 use Rattle.std.specs.Option.{option_and_then, option_map}
 use Rattle.std.specs.Result.{is_err}
@@ -9,7 +8,7 @@ use Rattle.math_tree.specs.declared.node.Node.{Node}
 use Rattle.math_tree.specs.declared.node.Node.TheViews.{out-Node}
 use Rattle.outcome_cells.specs.Store.{StoreValue}
 use Rattle.kept_results.specs.Backed.{Grows, IsBacked}
-use Rattle.kept_results.specs.Ends.{IsUndoneBut, all_undone, stripped}
+use Rattle.kept_results.specs.Ends.{IsUndoneBut, stripped}
 use Rattle.kept_results.specs.Kept.{Agrees, Holds, Keeps, alike_but, is_marked}
 use Rattle.kept_results.specs.Passes.{Pair, Passes}
 use Rattle.kept_results.specs.Tidy.{AreTidy, IsTidy, StaysCalm, has_none_fresh, has_none_new, is_calm, only_entered, only_touched}
@@ -23,7 +22,7 @@ use Rattle.kept_results.proofs.Backed.{backed_child, backed_more, backed_renewed
 use Rattle.kept_results.proofs.Counts.{stripped_out, stripped_renewed}
 use Rattle.kept_results.proofs.Lists.{one_place, same_places, set_elsewhere, set_here, set_other}
 use Rattle.kept_results.proofs.Shown.{there_is}
-use Rattle.kept_results.proofs.Tidying.{calm_stripped, only_parts, others_stripped, tidy_below, tidy_made, tidy_set}
+use Rattle.kept_results.proofs.Tidying.{calm_stripped, only_parts, others_stripped, stripped_layers, tidy_below, tidy_made, tidy_set}
 
 -- ---- an element of which one child may be touched
 
@@ -78,14 +77,6 @@ tidy_unentered memo none below = subst IsTidy (roll-out-Memo memo) (tidy_made (o
 
 -- ---- what a refused pass left
 
-abbrev stripped_layer : Memo → Memo-F Memo
-stripped_layer memo = record {
-  former = (out-Memo memo).former;
-  facts = (out-Memo memo).facts;
-  entries = all_undone (out-Memo memo).entries;
-  below = map stripped (out-Memo memo).below;
-}
-
 same_or_not : (a b : ℕ) → (a ≡ b) ⊎ (a ≡ b → ⊥)
 same_or_not zero zero = inl refl
 same_or_not zero (suc b) = inr (λ e. omega (arith, e))
@@ -93,8 +84,8 @@ same_or_not (suc a) zero = inr (λ e. omega (arith, e))
 same_or_not (suc a) (suc b) = elim (same_or_not a b) [ inl e ↦ inl (ap suc e) | inr other ↦ inr (λ e. other (omega (arith, e))) ]
 
 module _ (old mid : Memo) (same : stripped mid ≡ stripped old) (own : (out-Memo mid).entries ≡ (out-Memo old).entries) where
-  layers_same : stripped_layer mid ≡ stripped_layer old
-  layers_same = sym (out-roll-Memo (stripped_layer mid)) ∙ ap out-Memo (sym (stripped_out mid) ∙ same ∙ stripped_out old) ∙ out-roll-Memo (stripped_layer old)
+  layers_same : stripped_layers mid ≡ stripped_layers old
+  layers_same = sym (out-roll-Memo (stripped_layers mid)) ∙ ap out-Memo (sym (stripped_out mid) ∙ same ∙ stripped_out old) ∙ out-roll-Memo (stripped_layers old)
 
   former_same : (out-Memo mid).former ≡ (out-Memo old).former
   former_same = ap (λ (l : Memo-F Memo). l.former) layers_same
@@ -265,17 +256,17 @@ module _ (old mid : Memo) (same : stripped mid ≡ stripped old) (own : (out-Mem
 -- ---- what is left then
 
 -- it is a pass that is refused, as well, and the element is tidy
-pub record IsLeft (m : MetricsValue) (node : Node) (needed : Pair → Type 0) (old mid new : Memo) (from to : ℕ) : Type 0 where
+pub record IsRefused (m : MetricsValue) (node : Node) (needed : Pair → Type 0) (old mid new : Memo) (from to : ℕ) : Type 0 where
   pub passes : Passes m node needed old new from to false
   pub tidy : IsTidy new
   pub grows : (held holds : StoreValue) → IsBacked m held.runs node old → Grows m node old mid held holds from to false → Grows m node old new held holds from to false
 
 pub refused : {m : MetricsValue} {node : Node} {needed : Pair → Type 0} {old mid new : Memo} {from to : ℕ} → Agrees m node old → IsTidy old → Passes m node needed old mid from to false
     → (out-Memo mid).entries ≡ (out-Memo old).entries → AreTidy (out-Memo mid).below → ((child : ℕ) → only_entered (out-Memo mid) ≡ Some child → IsUndoneBut child mid new)
-    → (only_entered (out-Memo mid) ≡ None → new ≡ mid) → IsLeft m node needed old mid new from to
+    → (only_entered (out-Memo mid) ≡ None → new ≡ mid) → IsRefused m node needed old mid new from to
 refused {m} {node} {needed} {old} {mid} {new} {from} {to} agrees tidy pass own below undone unchanged = by (only_entered (out-Memo mid)) refl
   where
-    by : (entered : Option ℕ) → only_entered (out-Memo mid) ≡ entered → IsLeft m node needed old mid new from to
+    by : (entered : Option ℕ) → only_entered (out-Memo mid) ≡ entered → IsRefused m node needed old mid new from to
     by None e =
         let is = unchanged e in
         record {

@@ -32,7 +32,7 @@ use std::sync::ledger::Ledger;
 /// The answer of an element in a context, from what is kept of it and of all below it; what isn't
 /// kept is computed, and kept from then on. Each layout that is computed ticks a step. It is
 /// refused with `Range` exactly where a number of a layout that this one needs can't be stored.
-/// What was made until then stays where `undo_pass` looks for it, and is undone elsewhere.
+/// Where it is refused, it leaves a trace only where `undo_pass` looks for it.
 #[cycle(relay)]
 pub fn relay_element<F: Finish, L: Ledger>(
     alloc: Global,
@@ -71,58 +71,24 @@ pub fn relay_element<F: Finish, L: Ledger>(
             Some(before) => relay_again::<F, _>(
                 alloc, node, memo, store, context, before, metrics, steps,
             ),
-            None => relay_anew::<F, _>(alloc, node, memo, store, context, metrics, steps),
+            None => {
+                let made = relay_anew::<F, _>(alloc, node, memo, store, context, metrics, steps);
+                if made.is_err() {
+                    undo_beside(memo);
+                }
+                made
+            }
         },
     }
 }
 
-/// The same, where no answer is kept: the element is asked anew. It stands apart, so that a kept
-/// answer is found without the frame of this call: most elements that a pass asks have one.
+/// The layout of an element whose answer isn't kept: it is asked anew, and its layout kept. Where it
+/// is refused, its own entries are as they were, and what its children made may be left. It stands
+/// apart, so that a kept answer is found without the frame of this call: most elements that a pass
+/// asks have one.
 #[cycle(relay)]
 #[inline(never)]
 fn relay_anew<F: Finish, L: Ledger>(
-    alloc: Global,
-    node: &Node,
-    memo: &mut Memo,
-    store: &mut Store,
-    context: &Context,
-    metrics: &Metrics,
-    steps: &mut Steps<L>,
-) -> Result<Answer, LayRefusal>
-    requires begun { IsSome store.old.checkpoint }
-    requires agrees { Agrees metrics.now node.now memo.old }
-    requires backed { IsBacked metrics.now store.old.runs node.now memo.old }
-    requires tidy { IsTidy memo.old }
-    requires few { element_count node.now ≤ 65_536 }
-    requires context { Suits metrics.now node.now context.now }
-    requires missing { IsMissing (is_marked (out-Memo memo.old)) context.now
-        (out-Memo memo.old).entries }
-    ensures passes { Passes metrics.now node.now (Needs metrics.now node.now context.now) memo.old
-        memo.new steps.old steps.new false }
-    ensures passed { OnOk result
-        (Passes metrics.now node.now (Needs metrics.now node.now context.now) memo.old memo.new
-        steps.old steps.new true) }
-    ensures grows { Grows metrics.now node.now memo.old memo.new store.old store.new steps.old
-        steps.new false }
-    ensures grown { OnOk result
-        (Grows metrics.now node.now memo.old memo.new store.old store.new steps.old steps.new
-        true) }
-    ensures kept { OnOk result (IsKept (out-Memo memo.new) context.now) }
-    ensures tidy { IsTidy memo.new }
-    ensures ok { IfOk result (λ answer. answer ≡ (lay metrics.now node.now context.now).answer) }
-    ensures fit { OnOk result (in_range metrics.now node.now context.now ≡ true) }
-    ensures range { result ≡ Err Range → in_range metrics.now node.now context.now ≡ false }
-{
-    let made = make_anew::<F, _>(alloc, node, memo, store, context, metrics, steps);
-    if made.is_err() {
-        undo_beside(memo);
-    }
-    made
-}
-
-/// Asks an element anew, and keeps its layout. Where it is refused, what its children made stays.
-#[cycle(relay)]
-fn make_anew<F: Finish, L: Ledger>(
     alloc: Global,
     node: &Node,
     memo: &mut Memo,
@@ -170,9 +136,9 @@ fn make_anew<F: Finish, L: Ledger>(
     Ok(keep(alloc, memo, store, context, outcome, asked)?)
 }
 
-/// The same, where an entry of before the edit tells what the element asks, and only its child on
-/// the way to the edit may answer something else: no other child is asked, and no entry of one is
-/// looked for. The entry is made anew where it stands.
+/// As `relay_element`, where an entry of before the edit tells what the element asks, and only its
+/// child on the way to the edit may answer something else: no other child is asked, and no entry of
+/// one is looked for. The entry is made anew where it stands.
 #[cycle(relay)]
 #[inline(never)]
 fn relay_again<F: Finish, L: Ledger>(

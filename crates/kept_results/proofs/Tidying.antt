@@ -206,10 +206,10 @@ former_none (Some was) h = absurd (true≢false h)
 
 -- where a calm memo itself is left alone, and renewed below alone, it is left alone whole
 module _ (renew : Memo → Memo) (own : (memo : Memo) → is_calm (out-Memo memo) ≡ true → renew memo ≡ each_below renew (out-Memo memo)) where
-  abbrev IsLeft : Memo → Type 0
-  IsLeft memo = IsTidy memo → is_calm (out-Memo memo) ≡ true → renew memo ≡ memo
+  abbrev StaysAlone : Memo → Type 0
+  StaysAlone memo = IsTidy memo → is_calm (out-Memo memo) ≡ true → renew memo ≡ memo
 
-  all_left : (ys : List ((memo : Memo) × IsLeft memo)) → AreTidy (map (λ y. y.0) ys)
+  all_left : (ys : List ((memo : Memo) × StaysAlone memo)) → AreTidy (map (λ y. y.0) ys)
       → ((place : ℕ) (below : Memo) → slice_get (map (λ y. y.0) ys) place ≡ Some below → is_calm (out-Memo below) ≡ true)
       → map renew (map (λ y. y.0) ys) ≡ map (λ y. y.0) ys
   all_left [] h k = refl
@@ -218,7 +218,7 @@ module _ (renew : Memo → Memo) (own : (memo : Memo) → is_calm (out-Memo memo
       ∙ ap (λ (l : List Memo). y.0 ∷ l) (all_left ys (λ n. h (suc n)) (λ n. k (suc n)))
 
   calm_left : (memo : Memo) → IsTidy memo → is_calm (out-Memo memo) ≡ true → renew memo ≡ memo
-  calm_left = ind-Memo IsLeft (λ x y is tidy calm.
+  calm_left = ind-Memo StaysAlone (λ x y is tidy calm.
       let memo = roll-Memo x in
       let layer : Memo-F Memo = out-Memo memo in
       let below : layer.below ≡ map (λ e. e.0) y.below = ap (λ (l : Memo-F Memo). l.below) (out-roll-Memo x ∙ sym is) in
@@ -305,7 +305,7 @@ pub record IsClean (memo : Memo) : Type 0 where
   pub unmarked : is_unmarked memo ≡ true
   pub plain : stripped memo ≡ memo
 
-abbrev stripped_layers : Memo → Memo-F Memo
+abbrev pub stripped_layers : Memo → Memo-F Memo
 stripped_layers memo = record {
   former = (out-Memo memo).former;
   facts = (out-Memo memo).facts;

@@ -93,8 +93,8 @@ each_below renew layer = roll-Memo record {
   below = map renew layer.below;
 }
 
--- what each child has is as before the present pass, but for that at a place, and all else is as it
--- was
+-- each child but the one at a place is as before the present pass; that one and all else are as they
+-- were
 pub record IsUndoneBut (child : ℕ) (before after : Memo) : Type 0 where
   pub former : (out-Memo after).former ≡ (out-Memo before).former
   pub facts : (out-Memo after).facts ≡ (out-Memo before).facts

@@ -35,8 +35,8 @@ fn undo_through(memo: &mut Memo)
     undo_entries(&mut memo.entries);
 }
 
-/// Undoes a pass below an element: of its children the one alone that the pass asked, where that is
-/// known.
+/// Undoes a pass below an element. Where it is known that only one child can have a trace of the
+/// pass, it goes to that child alone.
 #[cycle(undo_pass)]
 fn undo_below(memo: &mut Memo)
     requires tidy { IsTidy memo.old }
@@ -48,7 +48,7 @@ fn undo_below(memo: &mut Memo)
     }
 }
 
-/// Undoes a pass over a child of an element. It left the others alone.
+/// Undoes a pass over one child of an element. The others have no trace of it.
 #[cycle(undo_pass)]
 fn undo_only(memo: &mut Memo, child: usize)
     requires tidy { IsTidy memo.old }
@@ -71,8 +71,8 @@ fn undo_all(memo: &mut Memo)
     }
 }
 
-/// Undoes a pass over an element that was refused, where the end of a pass goes by children of the
-/// element: so that it may, the pass leaves no trace there. All else is as it was.
+/// Undoes what a refused pass over an element made of those children that the end of a pass passes
+/// by. All else stays as it is.
 pub fn undo_beside(memo: &mut Memo)
     requires tidy { AreTidy (out-Memo memo.old).below }
     ensures undone { (child : ℕ) → only_entered (out-Memo memo.old) ≡ Some child

@@ -39,9 +39,9 @@ without_pass laid = record {
   store = at_checkpoint laid.store;
 }
 
--- what is kept agrees with the tree, its cells are in the store, nothing is marked or new below an
--- element that the edit and the pass left alone, and without what the pass made it is as a pass may
--- find it
+-- a pass is under way: what is kept agrees with the tree, its cells are in the store, nothing is
+-- marked or fresh below an element that the edit and the pass left alone, and without what the pass
+-- made it is as a pass may find it
 pub record IsStopped (laid : MemoTreeValue) : Type 0 where
   pub agrees : Agrees laid.metrics laid.tree.root laid.memo
   pub has_runs : HasRuns laid

@@ -1,4 +1,5 @@
--- The pass over what isn't kept: each answer cites what is said of its call in a file of that name.
+-- The pass over what isn't kept. The files RelayAnew, RelayAgain and RelayAll have what is said of the
+-- calls of that name, and RelayRefused what is left where an element that is asked anew is refused.
 use Rattle.std.proofs.Common.{rules, ◌∙◌, ◌<◌, true, [], refl, sym, ap, subst, arith, length, map, Err}
 use Rattle.std.specs.List.{AllByRecursion}
 use Rattle.std.proofs.lemmas.List.{length-map}
@@ -146,10 +147,30 @@ relay_all-returns-clause-kept g t c =
 pub relay_element-kept_answer-requires : goal.relay_element-kept_answer-requires
 relay_element-kept_answer-requires g t c = record { backed = are_backed c.args.metrics.now c.args.store.now.runs c.args.node.now c.args.memo.now c.requires.backed }
 
-pub relay_element-relay_anew-requires : goal.relay_element-relay_anew-requires
-relay_element-relay_anew-requires g t c κs within =
+pub relay_element-relay_anew-made-requires : goal.relay_element-relay_anew-made-requires
+relay_element-relay_anew-made-requires g t c κs within =
     let none = none_of c.in_ok-answer.field-0 _ c.in-None.is (c.in_ok-answer.ensures {u = tt}).none in
-    (omega arith, (within.0, (within.1, (c.requires.begun, (c.requires.agrees, (c.requires.backed, (c.requires.tidy, (c.requires.few, (c.requires.context, none)))))))))
+    let below = tidy_below c.args.memo.now c.requires.tidy in
+    (omega arith, (within.0, (within.1, (c.requires.begun, (c.requires.agrees, (c.requires.backed, (below, (c.requires.few, (c.requires.context, none)))))))))
+
+-- what a refused pass left is undone beside the child that the end of a pass enters
+pub relay_element-returns-then-is_err : goal.relay_element-returns-then-is_err
+relay_element-returns-then-is_err g t c =
+    let made = c.relay_anew-made.ensures in
+    let result = c.relay_anew-made.result in
+    let err = c.if-is_err.ensures.value in
+    let left = refused c.requires.agrees c.requires.tidy made.passes (of_err result err made.own) (of_err result err made.below) c.undo_beside.ensures.undone c.undo_beside.ensures.unchanged in
+    record {
+      passes = left.passes;
+      passed = no_ok result _ err;
+      grows = left.grows c.args.store.now c.relay_anew-made.new.store c.requires.backed made.grows;
+      grown = no_ok result _ err;
+      kept = no_ok result _ err;
+      tidy = left.tidy;
+      ok = made.ok;
+      fit = made.fit;
+      range = made.range;
+    }
 
 pub relay_element-returns-in_err-answer-clause-grows : goal.relay_element-returns-in_err-answer-clause-grows
 relay_element-returns-in_err-answer-clause-grows g t c = unchanged_store c.requires.backed
@@ -174,100 +195,100 @@ relay_element-returns-in-Some g t c =
 
 -- ---- an element
 
-pub make_anew-make-requires-clause-own : goal.make_anew-make-requires-clause-own
-make_anew-make-requires-clause-own g t c = (c.requires.agrees.at [] c.args.node.now c.args.memo.now (refl, refl)).facts_are
+pub relay_anew-make-requires-clause-own : goal.relay_anew-make-requires-clause-own
+relay_anew-make-requires-clause-own g t c = (c.requires.agrees.at [] c.args.node.now c.args.memo.now (refl, refl)).facts_are
 
-pub make_anew-make-requires-clause-known : goal.make_anew-make-requires-clause-known
-make_anew-make-requires-clause-known g t c =
+pub relay_anew-make-requires-clause-known : goal.relay_anew-make-requires-clause-known
+relay_anew-make-requires-clause-known g t c =
     (c.in_ok-kids.ensures {u = tt}) ∙ ap (map own_facts) c.as_slice.ensures ∙ facts_known c.args.metrics.now c.args.node.now c.args.memo.now c.requires.agrees
 
-pub make_anew-make-requires-clause-few : goal.make_anew-make-requires-clause-few
-make_anew-make-requires-clause-few g t c = omega (arith, few_children c.args.node.now, c.requires.few)
+pub relay_anew-make-requires-clause-few : goal.relay_anew-make-requires-clause-few
+relay_anew-make-requires-clause-few g t c = omega (arith, few_children c.args.node.now, c.requires.few)
 
-pub make_anew-returns-in_err-kids-clause-grows : goal.make_anew-returns-in_err-kids-clause-grows
-make_anew-returns-in_err-kids-clause-grows g t c = unchanged_store c.requires.backed
+pub relay_anew-returns-in_err-kids-clause-grows : goal.relay_anew-returns-in_err-kids-clause-grows
+relay_anew-returns-in_err-kids-clause-grows g t c = unchanged_store c.requires.backed
 
-pub make_anew-returns-in_err-kids-clause-passes : goal.make_anew-returns-in_err-kids-clause-passes
-make_anew-returns-in_err-kids-clause-passes g t c = nothing_done c.requires.agrees
+pub relay_anew-returns-in_err-kids-clause-passes : goal.relay_anew-returns-in_err-kids-clause-passes
+relay_anew-returns-in_err-kids-clause-passes g t c = nothing_done c.requires.agrees
 
-pub make_anew-returns-in_err-view-clause-grows : goal.make_anew-returns-in_err-view-clause-grows
-make_anew-returns-in_err-view-clause-grows g t c = unchanged_store c.requires.backed
+pub relay_anew-returns-in_err-view-clause-grows : goal.relay_anew-returns-in_err-view-clause-grows
+relay_anew-returns-in_err-view-clause-grows g t c = unchanged_store c.requires.backed
 
-pub make_anew-returns-in_err-view-clause-passes : goal.make_anew-returns-in_err-view-clause-passes
-make_anew-returns-in_err-view-clause-passes g t c = nothing_done c.requires.agrees
+pub relay_anew-returns-in_err-view-clause-passes : goal.relay_anew-returns-in_err-view-clause-passes
+relay_anew-returns-in_err-view-clause-passes g t c = nothing_done c.requires.agrees
 
-pub make_anew-returns-in_err-one-clause-grows : goal.make_anew-returns-in_err-one-clause-grows
-make_anew-returns-in_err-one-clause-grows g t c = unchanged_store c.requires.backed
+pub relay_anew-returns-in_err-one-clause-grows : goal.relay_anew-returns-in_err-one-clause-grows
+relay_anew-returns-in_err-one-clause-grows g t c = unchanged_store c.requires.backed
 
-pub make_anew-returns-in_err-one-clause-passes : goal.make_anew-returns-in_err-one-clause-passes
-make_anew-returns-in_err-one-clause-passes g t c = nothing_done c.requires.agrees
+pub relay_anew-returns-in_err-one-clause-passes : goal.relay_anew-returns-in_err-one-clause-passes
+relay_anew-returns-in_err-one-clause-passes g t c = nothing_done c.requires.agrees
 
-pub make_anew-returns-in_err-survey-clause-grows : goal.make_anew-returns-in_err-survey-clause-grows
-make_anew-returns-in_err-survey-clause-grows g t c = unchanged_store c.requires.backed
+pub relay_anew-returns-in_err-survey-clause-grows : goal.relay_anew-returns-in_err-survey-clause-grows
+relay_anew-returns-in_err-survey-clause-grows g t c = unchanged_store c.requires.backed
 
-pub make_anew-returns-in_err-survey-clause-passes : goal.make_anew-returns-in_err-survey-clause-passes
-make_anew-returns-in_err-survey-clause-passes g t c = nothing_done c.requires.agrees
+pub relay_anew-returns-in_err-survey-clause-passes : goal.relay_anew-returns-in_err-survey-clause-passes
+relay_anew-returns-in_err-survey-clause-passes g t c = nothing_done c.requires.agrees
 
-pub make_anew-returns-in_err-survey-clause-range : goal.make_anew-returns-in_err-survey-clause-range
-make_anew-returns-in_err-survey-clause-range g t c =
+pub relay_anew-returns-in_err-survey-clause-range : goal.relay_anew-returns-in_err-survey-clause-range
+relay_anew-returns-in_err-survey-clause-range g t c =
     λ e.
     let same = rw e at c.from_residual-in_err-survey.ensures.1 in
     range_is c.args.metrics.now c.args.node.now c.args.context.now
     ∙ size_false _ _ (size_false _ _ ((c.in_err-survey.ensures {u = tt}).range (ap Err (sym same))))
 
-pub make_anew-relay_all-requires : goal.make_anew-relay_all-requires
-make_anew-relay_all-requires g t c κs within =
+pub relay_anew-relay_all-requires : goal.relay_anew-relay_all-requires
+relay_anew-relay_all-requires g t c κs within =
     let w = ones_known c.requires.few c.requires.context (c.in_ok-view.ensures {u = tt}) (c.in_ok-one.ensures {u = tt}).ok (c.in_ok-one.ensures {u = tt}).styles in
     (omega arith, (within.0, (within.1, (w.shown_is, (c.requires.begun, (c.requires.agrees, (c.requires.backed, (c.requires.tidy, (c.requires.few, ones_suit w)))))))))
 
-pub make_anew-returns-in_err-relay_all-clause-passes : goal.make_anew-returns-in_err-relay_all-clause-passes
-make_anew-returns-in_err-relay_all-clause-passes g t c =
+pub relay_anew-returns-in_err-relay_all-clause-passes : goal.relay_anew-returns-in_err-relay_all-clause-passes
+relay_anew-returns-in_err-relay_all-clause-passes g t c =
     let w = ones_known c.requires.few c.requires.context (c.in_ok-view.ensures {u = tt}) (c.in_ok-one.ensures {u = tt}).ok (c.in_ok-one.ensures {u = tt}).styles in
     pass_first w (c.in_err-relay_all.ensures {u = tt}).passes
 
-pub make_anew-returns-in_err-relay_all-clause-grows : goal.make_anew-returns-in_err-relay_all-clause-grows
-make_anew-returns-in_err-relay_all-clause-grows g t c = (c.in_err-relay_all.ensures {u = tt}).grows
+pub relay_anew-returns-in_err-relay_all-clause-grows : goal.relay_anew-returns-in_err-relay_all-clause-grows
+relay_anew-returns-in_err-relay_all-clause-grows g t c = (c.in_err-relay_all.ensures {u = tt}).grows
 
-pub make_anew-returns-in_err-relay_all-clause-range : goal.make_anew-returns-in_err-relay_all-clause-range
-make_anew-returns-in_err-relay_all-clause-range g t c =
+pub relay_anew-returns-in_err-relay_all-clause-range : goal.relay_anew-returns-in_err-relay_all-clause-range
+relay_anew-returns-in_err-relay_all-clause-range g t c =
     λ e.
     let same = rw e at c.from_residual-in_err-relay_all.ensures.1 in
     let w = ones_known c.requires.few c.requires.context (c.in_ok-view.ensures {u = tt}) (c.in_ok-one.ensures {u = tt}).ok (c.in_ok-one.ensures {u = tt}).styles in
     ones_unfit w ((c.in_err-relay_all.ensures {u = tt}).range (ap Err (sym same)))
 
-pub make_anew-second_wave-requires-clause-answers : goal.make_anew-second_wave-requires-clause-answers
-make_anew-second_wave-requires-clause-answers g t c =
+pub relay_anew-second_wave-requires-clause-answers : goal.relay_anew-second_wave-requires-clause-answers
+relay_anew-second_wave-requires-clause-answers g t c =
     let w = ones_known c.requires.few c.requires.context (c.in_ok-view.ensures {u = tt}) (c.in_ok-one.ensures {u = tt}).ok (c.in_ok-one.ensures {u = tt}).styles in
     let one = (c.in_ok-relay_all.ensures {u = tt}) in
     ones_stored w one.ok one.fit
 
-pub make_anew-returns-in_err-two-clause-grows : goal.make_anew-returns-in_err-two-clause-grows
-make_anew-returns-in_err-two-clause-grows g t c = grows_partly c.args.metrics.now (c.in_ok-relay_all.ensures {u = tt}).grown
+pub relay_anew-returns-in_err-two-clause-grows : goal.relay_anew-returns-in_err-two-clause-grows
+relay_anew-returns-in_err-two-clause-grows g t c = grows_partly c.args.metrics.now (c.in_ok-relay_all.ensures {u = tt}).grown
 
-pub make_anew-returns-in_err-two-clause-passes : goal.make_anew-returns-in_err-two-clause-passes
-make_anew-returns-in_err-two-clause-passes g t c =
+pub relay_anew-returns-in_err-two-clause-passes : goal.relay_anew-returns-in_err-two-clause-passes
+relay_anew-returns-in_err-two-clause-passes g t c =
     let w = ones_known c.requires.few c.requires.context (c.in_ok-view.ensures {u = tt}) (c.in_ok-one.ensures {u = tt}).ok (c.in_ok-one.ensures {u = tt}).styles in
     passes_partly c.args.metrics.now (pass_first w (c.in_ok-relay_all.ensures {u = tt}).passed)
 
-pub make_anew-relay_all-requires-2 : goal.make_anew-relay_all-requires-2
-make_anew-relay_all-requires-2 g t c κs within =
+pub relay_anew-relay_all-requires-2 : goal.relay_anew-relay_all-requires-2
+relay_anew-relay_all-requires-2 g t c κs within =
     let w = ones_known c.requires.few c.requires.context (c.in_ok-view.ensures {u = tt}) (c.in_ok-one.ensures {u = tt}).ok (c.in_ok-one.ensures {u = tt}).styles in
     let one = (c.in_ok-relay_all.ensures {u = tt}) in
     let s = twos_known w one.ok one.fit (c.in_ok-two.ensures {u = tt}).value (c.in_ok-two.ensures {u = tt}).styles in
     (omega arith, (within.0, (within.1, (w.shown_is, (still_begun one.grown.only c.requires.begun, (one.passed.agrees, (one.grown.backed, (one.tidy, (c.requires.few, twos_suit s)))))))))
 
-pub make_anew-returns-in_err-relay_all-2-clause-passes : goal.make_anew-returns-in_err-relay_all-2-clause-passes
-make_anew-returns-in_err-relay_all-2-clause-passes g t c =
+pub relay_anew-returns-in_err-relay_all-2-clause-passes : goal.relay_anew-returns-in_err-relay_all-2-clause-passes
+relay_anew-returns-in_err-relay_all-2-clause-passes g t c =
     let w = ones_known c.requires.few c.requires.context (c.in_ok-view.ensures {u = tt}) (c.in_ok-one.ensures {u = tt}).ok (c.in_ok-one.ensures {u = tt}).styles in
     let one = (c.in_ok-relay_all.ensures {u = tt}) in
     let s = twos_known w one.ok one.fit (c.in_ok-two.ensures {u = tt}).value (c.in_ok-two.ensures {u = tt}).styles in
     passes_both c.args.metrics.now (pass_first w one.passed) (pass_second s (c.in_err-relay_all-2.ensures {u = tt}).passes)
 
-pub make_anew-returns-in_err-relay_all-2-clause-grows : goal.make_anew-returns-in_err-relay_all-2-clause-grows
-make_anew-returns-in_err-relay_all-2-clause-grows g t c = grows_both c.args.metrics.now (c.in_ok-relay_all.ensures {u = tt}).grown (c.in_err-relay_all-2.ensures {u = tt}).grows
+pub relay_anew-returns-in_err-relay_all-2-clause-grows : goal.relay_anew-returns-in_err-relay_all-2-clause-grows
+relay_anew-returns-in_err-relay_all-2-clause-grows g t c = grows_both c.args.metrics.now (c.in_ok-relay_all.ensures {u = tt}).grown (c.in_err-relay_all-2.ensures {u = tt}).grows
 
-pub make_anew-returns-in_err-relay_all-2-clause-range : goal.make_anew-returns-in_err-relay_all-2-clause-range
-make_anew-returns-in_err-relay_all-2-clause-range g t c =
+pub relay_anew-returns-in_err-relay_all-2-clause-range : goal.relay_anew-returns-in_err-relay_all-2-clause-range
+relay_anew-returns-in_err-relay_all-2-clause-range g t c =
     λ e.
     let same = rw e at c.from_residual-in_err-relay_all-2.ensures.1 in
     let w = ones_known c.requires.few c.requires.context (c.in_ok-view.ensures {u = tt}) (c.in_ok-one.ensures {u = tt}).ok (c.in_ok-one.ensures {u = tt}).styles in
@@ -275,8 +296,8 @@ make_anew-returns-in_err-relay_all-2-clause-range g t c =
     let s = twos_known w one.ok one.fit (c.in_ok-two.ensures {u = tt}).value (c.in_ok-two.ensures {u = tt}).styles in
     twos_unfit s ((c.in_err-relay_all-2.ensures {u = tt}).range (ap Err (sym same)))
 
-pub make_anew-finish_replies-requires-clause-replies : goal.make_anew-finish_replies-requires-clause-replies
-make_anew-finish_replies-requires-clause-replies g t c =
+pub relay_anew-finish_replies-requires-clause-replies : goal.relay_anew-finish_replies-requires-clause-replies
+relay_anew-finish_replies-requires-clause-replies g t c =
     let w = ones_known c.requires.few c.requires.context (c.in_ok-view.ensures {u = tt}) (c.in_ok-one.ensures {u = tt}).ok (c.in_ok-one.ensures {u = tt}).styles in
     let one = (c.in_ok-relay_all.ensures {u = tt}) in
     let two = (c.in_ok-two.ensures {u = tt}) in
@@ -285,8 +306,8 @@ make_anew-finish_replies-requires-clause-replies g t c =
     (told_of c.relay_all-2.new.replies more.passed more.own more.marked more.kept more.asked more.ok more.fit) in
     replies_all d
 
-pub make_anew-returns-in_err-outcome : goal.make_anew-returns-in_err-outcome
-make_anew-returns-in_err-outcome g t c =
+pub relay_anew-returns-in_err-outcome : goal.relay_anew-returns-in_err-outcome
+relay_anew-returns-in_err-outcome g t c =
     let w = ones_known c.requires.few c.requires.context (c.in_ok-view.ensures {u = tt}) (c.in_ok-one.ensures {u = tt}).ok (c.in_ok-one.ensures {u = tt}).styles in
     let one = (c.in_ok-relay_all.ensures {u = tt}) in
     let two = (c.in_ok-two.ensures {u = tt}) in
@@ -307,18 +328,18 @@ make_anew-returns-in_err-outcome g t c =
       range = λ e. let same = rw e at c.from_residual-in_err-outcome.ensures.1 in waves_unfit (waves d) ((c.in_err-outcome.ensures {u = tt}).range (ap Err (sym same)));
     }
 
-pub make_anew-keep-requires : goal.make_anew-keep-requires
-make_anew-keep-requires g t c =
+pub relay_anew-keep-requires : goal.relay_anew-keep-requires
+relay_anew-keep-requires g t c =
     let grows = grown_waves (c.in_ok-relay_all.ensures {u = tt}).grown (c.in_ok-relay_all-2.ensures {u = tt}).grown in
     record { begun = still_begun grows.only c.requires.begun }
 
-pub make_anew-returns-in_err-keep-clause-grows : goal.make_anew-returns-in_err-keep-clause-grows
-make_anew-returns-in_err-keep-clause-grows g t c =
+pub relay_anew-returns-in_err-keep-clause-grows : goal.relay_anew-returns-in_err-keep-clause-grows
+relay_anew-returns-in_err-keep-clause-grows g t c =
     let kept = (c.in_err-keep.ensures {u = tt}) in
     unkept_anew (c.in_ok-relay_all.ensures {u = tt}).grown (c.in_ok-relay_all-2.ensures {u = tt}).grown kept.unchanged kept.grows
 
-pub make_anew-returns-in_err-keep-clause-passes : goal.make_anew-returns-in_err-keep-clause-passes
-make_anew-returns-in_err-keep-clause-passes g t c =
+pub relay_anew-returns-in_err-keep-clause-passes : goal.relay_anew-returns-in_err-keep-clause-passes
+relay_anew-returns-in_err-keep-clause-passes g t c =
     let w = ones_known c.requires.few c.requires.context (c.in_ok-view.ensures {u = tt}) (c.in_ok-one.ensures {u = tt}).ok (c.in_ok-one.ensures {u = tt}).styles in
     let one = (c.in_ok-relay_all.ensures {u = tt}) in
     let two = (c.in_ok-two.ensures {u = tt}) in
@@ -327,13 +348,13 @@ make_anew-returns-in_err-keep-clause-passes g t c =
     (told_of c.relay_all-2.new.replies more.passed more.own more.marked more.kept more.asked more.ok more.fit) in
     stepped_anew d (c.in_err-keep.ensures {u = tt}).unchanged c.requires.missing c.finish_replies.ensures.step
 
-pub make_anew-returns-in_err-keep-clause-below : goal.make_anew-returns-in_err-keep-clause-below
-make_anew-returns-in_err-keep-clause-below g t c =
+pub relay_anew-returns-in_err-keep-clause-below : goal.relay_anew-returns-in_err-keep-clause-below
+relay_anew-returns-in_err-keep-clause-below g t c =
     on_err c.from_residual-in_err-keep.result
     (subst (λ (memo : Memo). AreTidy (out-Memo memo).below) (sym (c.in_err-keep.ensures {u = tt}).unchanged) (c.in_ok-relay_all-2.ensures {u = tt}).tidy)
 
-pub make_anew-returns : goal.make_anew-returns
-make_anew-returns g t c =
+pub relay_anew-returns : goal.relay_anew-returns
+relay_anew-returns g t c =
     let w = ones_known c.requires.few c.requires.context (c.in_ok-view.ensures {u = tt}) (c.in_ok-one.ensures {u = tt}).ok (c.in_ok-one.ensures {u = tt}).styles in
     let one = (c.in_ok-relay_all.ensures {u = tt}) in
     let two = (c.in_ok-two.ensures {u = tt}) in
@@ -357,31 +378,6 @@ make_anew-returns g t c =
       ok = keep.answer ∙ ap (λ (outcome : Outcome). outcome.answer) (made.ok ∙ waves_lay (waves d));
       fit = whole;
       range = ok_is_not_err _ _;
-    }
-
--- ---- what a refused pass left is undone beside the child that the end of a pass enters
-
-pub relay_anew-make_anew-made-requires : goal.relay_anew-make_anew-made-requires
-relay_anew-make_anew-made-requires g t c κs within =
-    let below = tidy_below c.args.memo.now c.requires.tidy in
-    (omega arith, (within.0, (within.1, (c.requires.begun, (c.requires.agrees, (c.requires.backed, (below, (c.requires.few, (c.requires.context, c.requires.missing)))))))))
-
-pub relay_anew-returns-then-is_err : goal.relay_anew-returns-then-is_err
-relay_anew-returns-then-is_err g t c =
-    let made = c.make_anew-made.ensures in
-    let result = c.make_anew-made.result in
-    let err = c.if-is_err.ensures.value in
-    let left = refused c.requires.agrees c.requires.tidy made.passes (of_err result err made.own) (of_err result err made.below) c.undo_beside.ensures.undone c.undo_beside.ensures.unchanged in
-    record {
-      passes = left.passes;
-      passed = no_ok result _ err;
-      grows = left.grows c.args.store.now c.make_anew-made.new.store c.requires.backed made.grows;
-      grown = no_ok result _ err;
-      kept = no_ok result _ err;
-      tidy = left.tidy;
-      ok = made.ok;
-      fit = made.fit;
-      range = made.range;
     }
 
 -- ---- an element of which layout sees the same but for one child
