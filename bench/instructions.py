@@ -5,8 +5,9 @@ rows, of one edit of a tree of 833, and of one that is refused with `range` wher
     python3 bench/instructions.py [PROGRAM..]
 
 PROGRAM is the file that `rt run` leaves in crates/mathlay/out/mathlay. It is run by `valgrind --tool=callgrind`, which has to be
-installed; an edit is the difference of a script of 2,500 edits and one of 500, or of 60 and 10. Of several programs each further one is told as a
-share of the first, too. Figures with their dates stand in bench/instructions.txt.
+installed. An edit is the difference of two scripts, by the edits that one has more: 500 and 2,500, or 10 and 60 where they are
+refused. Of several programs each further one is told as a share of the first, too. Figures with their dates stand in
+bench/instructions.txt.
 """
 import json
 import os
@@ -17,7 +18,7 @@ import tempfile
 
 from shapes import METRICS, PROGRAM, edits, rows_of, tree
 
-# How many edits the two scripts have, and how many those have that are refused.
+# How many edits the two scripts have, and how many the scripts of refused ones have.
 FEW, MANY = 500, 2_500
 FEW_REFUSED, MANY_REFUSED = 10, 60
 
@@ -53,7 +54,7 @@ def of_an_edit(program, folder):
 
 
 def of_a_refused_edit(program, folder):
-    """The instructions of an edit whose layout is refused."""
+    """The instructions of an edit whose layout is refused, at the one element that it makes too large."""
     flat = file_in(folder, "flat", json.dumps({"name": "math", "children": [{"name": "mi", "text": "x"}] * 65_000}))
     too_large = {"op": "attr", "node": 2, "name": "mathsize", "value": "9999px"}
     return of_scripts(program, folder, flat, lambda count: [too_large] * count, FEW_REFUSED, MANY_REFUSED)
@@ -61,10 +62,10 @@ def of_a_refused_edit(program, folder):
 
 def of_scripts(program, folder, tree_file, script, few, many):
     """The instructions of one line more, from a script of a few to one of many."""
-    one, other = (
+    less, more = (
         instructions([program, "edit", METRICS, tree_file, file_in(folder, str(count), lines(script(count)))])
         for count in (few, many))
-    return (other - one) / (many - few)
+    return (more - less) / (many - few)
 
 
 def main():

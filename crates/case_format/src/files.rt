@@ -154,6 +154,7 @@ impl KnownFile {
     }
 }
 
+/// Whether a byte ends a line.
 pub fn is_line_feed(byte: &u8) -> bool {
     *byte == b'\n'
 }

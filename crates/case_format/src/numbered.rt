@@ -102,6 +102,7 @@ enum Piece<'a> {
 }
 
 impl<'a> Template<'a> {
+    /// The template that a text writes. It borrows the text.
     pub fn of_text(alloc: Global, text: &'a str) -> Result<Template<'a>, Fault> {
         let mut pieces = Vec::new(alloc);
         add_parts(text, &mut pieces)?;

@@ -21,6 +21,7 @@ pub struct Session<'a, I: Inputs, K: Kinds> {
 }
 
 impl<'a, I: Inputs + Drop, K: Kinds> Session<'a, I, K> {
+    /// A session that has read no line.
     pub fn new(alloc: Global, inputs: I, kinds: &'a K) -> Session<'a, I, K> {
         Session {
             alloc,

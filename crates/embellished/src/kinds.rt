@@ -4,6 +4,7 @@ ghost use Rattle.embellished.specs.Kinds as spec;
 
 use math_tree::Kind;
 
+/// An annotation, which is never in flow.
 pub fn is_annotation(kind: Kind) -> bool
     ensures { result ≡ spec.is_annotation kind }
 {

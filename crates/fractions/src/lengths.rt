@@ -21,6 +21,7 @@ pub struct RuleLengths {
 }
 
 impl RuleLengths {
+    /// The constants of these metrics at a font size, for display style or for text style.
     #[tactic(auto, using(fixed_units::proofs::Signed::from_bits), unfolding(crate::specs::Lengths::rule_lengths_of))]
     pub fn at(metrics: &Metrics, size: i64, display: bool) -> RuleLengths
         requires size_low { pos 0 ≤ℤ size }
@@ -74,6 +75,7 @@ pub struct StackLengths {
 }
 
 impl StackLengths {
+    /// The constants of these metrics at a font size, for display style or for text style.
     #[tactic(auto, using(fixed_units::proofs::Signed::from_bits), unfolding(crate::specs::Lengths::stack_lengths_of))]
     pub fn at(metrics: &Metrics, size: i64, display: bool) -> StackLengths
         requires size_low { pos 0 ≤ℤ size }

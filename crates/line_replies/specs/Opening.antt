@@ -32,13 +32,13 @@ opened metrics_bytes tree_bytes = do
   metrics ← metrics_in metrics_bytes
   opened_over metrics tree_bytes
 
--- the steps of opening by these metrics: each is a layout that is made for the one of the tree, none
--- twice; where there is no tree, there are none
+-- the steps of opening by these metrics: each is a layout that is made for the one of the tree,
+-- none twice; where there is no tree, there are none
 abbrev pub TakesToStart : MetricsValue → Result TreeValue Refusal → ℕ → ℕ → Type 0
 TakesToStart metrics (Ok tree) from to = TakesVisits metrics tree from to
 TakesToStart metrics (Err refusal) from to = to ≡ from
 
--- the same where the metrics are a file's, or there are none
+-- the same by the metrics of a file; where it has none, no step is taken
 abbrev pub TakesToOpen : Result MetricsValue Refusal → Result TreeValue Refusal → ℕ → ℕ → Type 0
 TakesToOpen (Ok metrics) tree from to = TakesToStart metrics tree from to
 TakesToOpen (Err refusal) tree from to = to ≡ from

@@ -22,7 +22,7 @@ pub struct OperatorLine {
     pub axis: Axis,
 }
 
-// The key by which a category is looked up.
+/// The key by which a category is looked up.
 #[derive(Clone, Copy, Debug, PartialEq, Eq, Hash)]
 pub struct Pair {
     pub text: OpText,

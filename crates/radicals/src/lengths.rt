@@ -15,6 +15,7 @@ pub struct RootLengths {
 }
 
 impl RootLengths {
+    /// The constants of these metrics at a font size, for display style or for text style.
     #[tactic(auto, using(fixed_units::proofs::Signed::from_bits), unfolding(crate::specs::Lengths::root_lengths_of))]
     pub fn at(metrics: &Metrics, size: i64, display: bool) -> RootLengths
         requires size_low { pos 0 ≤ℤ size }
@@ -46,6 +47,7 @@ pub struct IndexLengths {
 }
 
 impl IndexLengths {
+    /// The constants of these metrics at a font size.
     #[tactic(auto, using(fixed_units::proofs::Signed::from_bits), unfolding(crate::specs::Lengths::index_lengths_of))]
     pub fn at(metrics: &Metrics, size: i64) -> IndexLengths
         requires size_low { pos 0 ≤ℤ size }

@@ -15,6 +15,7 @@ pub struct SubLengths {
 }
 
 impl SubLengths {
+    /// The constants of these metrics at a font size.
     #[tactic(auto, using(fixed_units::proofs::Signed::from_bits), unfolding(crate::specs::Lengths::sub_lengths_of))]
     pub fn at(metrics: &Metrics, size: i64) -> SubLengths
         requires size_low { pos 0 ≤ℤ size }
@@ -42,6 +43,7 @@ pub struct SupLengths {
 }
 
 impl SupLengths {
+    /// The constants of these metrics at a font size, for a cramped style or for another.
     #[tactic(auto, using(fixed_units::proofs::Signed::from_bits), unfolding(crate::specs::Lengths::sup_lengths_of))]
     pub fn at(metrics: &Metrics, size: i64, cramped: bool) -> SupLengths
         requires size_low { pos 0 ≤ℤ size }
@@ -72,6 +74,7 @@ pub struct PairLengths {
 }
 
 impl PairLengths {
+    /// The constants of these metrics at a font size.
     #[tactic(auto, using(fixed_units::proofs::Signed::from_bits), unfolding(crate::specs::Lengths::pair_lengths_of))]
     pub fn at(metrics: &Metrics, size: i64) -> PairLengths
         requires size_low { pos 0 ≤ℤ size }

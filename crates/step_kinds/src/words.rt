@@ -3,8 +3,10 @@
 use case_format::Fault;
 use fixed_units::LayRefusal;
 
+/// The word of a tree that is out of range, as it is or edited.
 pub const OUT_OF_RANGE: &str = "range";
 
+/// The word of an edit that isn't made for another reason, or of a line that is no command.
 pub const REFUSED: &str = "refused";
 
 /// How many layouts are kept, and how many cells there are.

@@ -4,6 +4,7 @@ use crate::kinds::operators::{ByLines, axis_name, op_text};
 use case_format::{Case, Fault, Fields, written};
 use op_dictionary::{Extra, axis};
 
+/// The kind `axis`.
 pub struct OfAxis;
 
 impl ByLines for OfAxis {

@@ -4,6 +4,7 @@ use crate::kinds::operators::{ByLines, form_in, op_text};
 use case_format::{Case, Fault, Fields, written};
 use op_dictionary::{Category, Extra, category};
 
+/// The kind `category`.
 pub struct OfCategory;
 
 impl ByLines for OfCategory {

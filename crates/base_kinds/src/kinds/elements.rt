@@ -24,6 +24,7 @@ pub fn add_code(letter: char, words: &mut String) -> Result<(), AllocError> {
     write!(words, "{code:04X}")
 }
 
+/// The letter of a form.
 pub fn form_letter(form: Form) -> char {
     match form {
         Form::Prefix => 'p',
@@ -32,10 +33,12 @@ pub fn form_letter(form: Form) -> char {
     }
 }
 
+/// The letter of a truth value.
 pub fn truth_letter(truth: bool) -> char {
     if truth { 't' } else { 'f' }
 }
 
+/// The word of a truth value.
 pub fn yes_or_no(truth: bool) -> &'static str {
     if truth { "yes" } else { "no" }
 }

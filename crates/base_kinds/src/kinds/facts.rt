@@ -14,10 +14,12 @@ use std::fmt::Write;
 /// The most children that a view shows.
 const MOST_CHILDREN: usize = 65_535;
 
+/// Adds the answer of a case of `facts`.
 pub fn answer(case: Case, words: &mut String) -> Result<(), Fault> {
     add_answer(case.alloc, case.value, words)
 }
 
+/// Adds the answer of a case of `factsfile`.
 pub fn answer_file(case: Case, words: &mut String) -> Result<(), Fault> {
     let name = case.value.as_str().ok_or(Fault::WrongValue)?;
     match Value::from_slice(case.alloc, case.files.bytes(name)?) {

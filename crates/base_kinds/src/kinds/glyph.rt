@@ -7,6 +7,7 @@ use op_dictionary::Axis;
 use std::alloc::AllocError;
 use std::fmt::Write;
 
+/// Adds the answer of a case of `glyph`.
 pub fn answer(case: Case, words: &mut String) -> Result<(), Fault> {
     let fields = Fields::of_value(case.value, &["metrics", "letter"])?;
     let metrics = case.metrics(fields)?;

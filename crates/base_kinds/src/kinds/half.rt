@@ -4,6 +4,7 @@ use case_format::{Case, Fault, written};
 use fixed_units::half;
 use std::fmt::Write;
 
+/// Adds the answer of a case of `half`.
 pub fn answer(case: Case, words: &mut String) -> Result<(), Fault> {
     let number = case.value.as_i64().ok_or(Fault::WrongValue)?;
     let half = half(number);

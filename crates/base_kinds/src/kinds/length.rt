@@ -5,6 +5,7 @@ use css_lengths::{LengthText, Unit, read_length};
 use std::alloc::AllocError;
 use std::fmt::Write;
 
+/// Adds the answer of a case of `length`.
 pub fn answer(case: Case, words: &mut String) -> Result<(), Fault> {
     let text = case.value.as_str().ok_or(Fault::WrongValue)?;
     written(match read_length(text) {

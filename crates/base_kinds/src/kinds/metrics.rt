@@ -7,6 +7,7 @@ use serde_json::Value;
 use std::alloc::Global;
 use std::fmt::Write;
 
+/// Adds the answer of a case of `metrics`.
 pub fn answer(case: Case, words: &mut String) -> Result<(), Fault> {
     let fields = Fields::of_value(case.value, &["file", "line", "lines"])?;
     let file = case.files.bytes(fields.text("file")?)?;

@@ -61,6 +61,7 @@ pub fn op_text(text: &str) -> OpText {
     }
 }
 
+/// The word of an axis.
 pub fn axis_name(axis: Axis) -> &'static str {
     match axis {
         Axis::Block => "block",

@@ -9,6 +9,7 @@ use op_dictionary::{Extra, Properties};
 use std::alloc::{AllocError, Global};
 use std::fmt::Write;
 
+/// The kind `properties`.
 pub struct OfProperties;
 
 impl ByLines for OfProperties {

@@ -5,6 +5,7 @@ use case_format::{Case, Fault, Fields, written};
 use css_lengths::{read_length, resolve};
 use std::fmt::Write;
 
+/// Adds the answer of a case of `resolve`.
 pub fn answer(case: Case, words: &mut String) -> Result<(), Fault> {
     let fields = Fields::of_value(case.value, &["length", "em", "ex", "percent_of"])?;
     let em = fields.within("em", 0, 1_048_576)?;

@@ -9,6 +9,7 @@ use std::fmt::Write;
 /// The largest number of a ratio, below or above.
 const MOST: i64 = 4_611_686_018_427_387_904;
 
+/// Adds the answer of a case of `round`.
 pub fn answer(case: Case, words: &mut String) -> Result<(), Fault> {
     let fields = Fields::of_value(case.value, &["num", "den"])?;
     let num = fields.number("num")?;

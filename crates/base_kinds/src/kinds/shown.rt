@@ -5,6 +5,7 @@ use case_format::{Case, Fault, written};
 use embellished::shown_text;
 use std::alloc::AllocError;
 
+/// Adds the answer of a case of `shown`.
 pub fn answer(case: Case, words: &mut String) -> Result<(), Fault> {
     let text = case.value.as_str().ok_or(Fault::WrongValue)?;
     let shown = shown_text(case.alloc, text)?;

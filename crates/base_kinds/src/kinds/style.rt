@@ -13,6 +13,7 @@ use style_scope::{Place, Style, child_style, font_size, root_style};
 
 const STEP: [&str; 5] = ["element", "index", "accent", "accentunder", "subscript"];
 
+/// Adds the answer of a case of `style`.
 pub fn answer(case: Case, words: &mut String) -> Result<(), Fault> {
     let fields = Fields::of_value(case.value, &["metrics", "root", "steps"])?;
     let metrics = case.metrics(fields)?;

@@ -6,10 +6,12 @@ use std::alloc::Global;
 use std::fmt::Write;
 use tree_json::{TreeRefusal, read_tree};
 
+/// Adds the answer of a case of `tree`.
 pub fn answer(case: Case, words: &mut String) -> Result<(), Fault> {
     add_reading(case.alloc, case.value, words)
 }
 
+/// Adds the answer of a case of `treefile`.
 pub fn answer_file(case: Case, words: &mut String) -> Result<(), Fault> {
     let name = case.value.as_str().ok_or(Fault::WrongValue)?;
     match Value::from_slice(case.alloc, case.files.bytes(name)?) {

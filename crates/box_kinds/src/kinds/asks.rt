@@ -29,6 +29,7 @@ const KEYS_IN_WAVE_ONE: [&str; 2] = ["kids", "own"];
 
 const KEYS_IN_WAVE_TWO: [&str; 3] = ["kids", "own", "first"];
 
+/// Adds the answer of a case of a wave: what is asked.
 pub fn answer(asking: Asking, wave: Wave, case: Case, words: &mut String) -> Result<(), Fault> {
     let keys: &[&'static str] = match wave {
         Wave::One => &KEYS_IN_WAVE_ONE,

@@ -9,6 +9,7 @@ use std::alloc::{AllocError, Global};
 /// The largest thickness, below or above 0.
 const MOST: i64 = 4_294_967_296_000_000_000;
 
+/// The kind `fraction`.
 pub struct OfFraction;
 
 impl ByMetrics for OfFraction {

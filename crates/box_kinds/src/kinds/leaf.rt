@@ -13,6 +13,7 @@ use std::fmt::Write;
 use style_scope::Style;
 use token_boxes::{Leaf, operator, space, token};
 
+/// The kind `token`.
 pub struct OfToken;
 
 impl ByMetrics for OfToken {
@@ -35,6 +36,7 @@ impl ByMetrics for OfToken {
     }
 }
 
+/// The kind `operator`.
 pub struct OfOperator;
 
 impl ByMetrics for OfOperator {
@@ -105,6 +107,7 @@ fn style_of(size: i64, display: bool) -> Style {
     }
 }
 
+/// The kind `space`.
 pub struct OfSpace;
 
 impl ByMetrics for OfSpace {

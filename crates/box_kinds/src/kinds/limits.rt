@@ -20,6 +20,7 @@ const KEYS: [&str; 8] = [
     "size",
 ];
 
+/// The kind `under_over`.
 pub struct OfUnderOver;
 
 impl ByMetrics for OfUnderOver {

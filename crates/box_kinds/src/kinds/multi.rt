@@ -11,6 +11,7 @@ use multiscripts::{Multi, Pair, multi};
 use serde_json::Value;
 use std::alloc::{AllocError, Global};
 
+/// The kind `multi`.
 pub struct OfMulti;
 
 impl ByMetrics for OfMulti {

@@ -8,6 +8,7 @@ use font_metrics::Metrics;
 use radicals::{Radical, root_with_index, square_root};
 use std::alloc::{AllocError, Global};
 
+/// The kind `square_root`.
 pub struct OfSquareRoot;
 
 impl ByMetrics for OfSquareRoot {
@@ -29,6 +30,7 @@ impl ByMetrics for OfSquareRoot {
     }
 }
 
+/// The kind `root_with_index`.
 pub struct OfRootWithIndex;
 
 impl ByMetrics for OfRootWithIndex {

@@ -10,6 +10,7 @@ use row_stretch::{RowKid, row_finish};
 use serde_json::Value;
 use std::alloc::{AllocError, Global};
 
+/// Adds the answer of a case of `row_finish`.
 pub fn answer(case: Case, words: &mut String) -> Result<(), Fault> {
     let fields = Fields::of_value(case.value, &["kids", "spaces"])?;
     let kids = kids_in(case.alloc, fields)?;

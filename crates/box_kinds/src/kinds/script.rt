@@ -12,6 +12,7 @@ const SUP: [&str; 6] = ["metrics", "base", "large", "cramped", "script", "size"]
 
 const SUB_SUP: [&str; 7] = ["metrics", "base", "large", "cramped", "sub", "sup", "size"];
 
+/// The kind `sub`.
 pub struct OfSub;
 
 impl ByMetrics for OfSub {
@@ -34,6 +35,7 @@ impl ByMetrics for OfSub {
     }
 }
 
+/// The kind `sup`.
 pub struct OfSup;
 
 impl ByMetrics for OfSup {
@@ -57,6 +59,7 @@ impl ByMetrics for OfSup {
     }
 }
 
+/// The kind `sub_sup`.
 pub struct OfSubSup;
 
 impl ByMetrics for OfSubSup {

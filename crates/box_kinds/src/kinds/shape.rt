@@ -10,6 +10,7 @@ use std::alloc::{AllocError, Global};
 /// How far a target may lie from 0.
 const FAR: i64 = 1_099_511_627_776;
 
+/// The kind `shape`.
 pub struct OfShape;
 
 impl ByMetrics for OfShape {
@@ -33,6 +34,7 @@ impl ByMetrics for OfShape {
     }
 }
 
+/// The kind `display_variant`.
 pub struct OfDisplayVariant;
 
 impl ByMetrics for OfDisplayVariant {

@@ -17,6 +17,7 @@ use span_tables::{
 use std::alloc::{AllocError, Global};
 use std::fmt::Write;
 
+/// Adds the answer of a case of `span_of`.
 pub fn answer_span(case: Case, words: &mut String) -> Result<(), Fault> {
     let fields = Fields::of_value(case.value, &["text", "most"])?;
     let text = text_in(fields)?;
@@ -34,6 +35,7 @@ fn text_in<'a>(fields: Fields<'a>) -> Result<Option<&'a str>, Fault> {
     }
 }
 
+/// Adds the answer of a case of `spans`.
 pub fn answer_table(case: Case, words: &mut String) -> Result<(), Fault> {
     let fields = Fields::of_value(case.value, &["rows"])?;
     let rows = rows_in(case.alloc, fields)?;

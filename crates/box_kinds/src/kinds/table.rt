@@ -17,6 +17,7 @@ use serde_json::Value;
 use std::alloc::Global;
 use std::fmt::Write;
 
+/// The kind `cell`.
 pub struct OfCell;
 
 impl ByMetrics for OfCell {
@@ -38,6 +39,7 @@ impl ByMetrics for OfCell {
     }
 }
 
+/// Adds the answer of a case of `columns`.
 pub fn answer_columns(case: Case, words: &mut String) -> Result<(), Fault> {
     let fields = Fields::of_value(case.value, &["rows"])?;
     let rows = rows_of_widths(case.alloc, fields)?;
@@ -85,6 +87,7 @@ impl Across {
     }
 }
 
+/// Adds the answer of a case of `row_of_cells` or `row_of_slots`.
 pub fn answer_row(across: Across, case: Case, words: &mut String) -> Result<(), Fault> {
     let key = across.key();
     let fields = Fields::of_value(case.value, &["cells", key, "total"])?;
@@ -124,6 +127,7 @@ fn row_across(
     Ok(made?)
 }
 
+/// The kind `table_finish`.
 pub struct OfTableFinish;
 
 impl ByMetrics for OfTableFinish {

@@ -15,6 +15,7 @@ const CAP: i64 = 268_435_456;
 /// How far the axis may lie from the baseline.
 const FAR: i64 = 4_294_967_296;
 
+/// Adds the answer of a case of `target`.
 pub fn answer(case: Case, words: &mut String) -> Result<(), Fault> {
     let fields = Fields::of_value(case.value, &KEYS)?;
     let pull = stretch_in(fields, "pull")?;
