@@ -82,10 +82,10 @@ pub fn relay_element<F: Finish, L: Ledger>(
     }
 }
 
-/// The layout of an element whose answer isn't kept: it is asked anew, and its layout kept. Where it
-/// is refused, its own entries are as they were, and what its children made may be left. It stands
-/// apart, so that a kept answer is found without the frame of this call: most elements that a pass
-/// asks have one.
+/// The answer of an element of which none is kept: it is asked anew, and its layout is kept. Where
+/// it is refused, its own entries are as they were, and what its children made may be left. It
+/// stands apart, so that a kept answer is found without the frame of this call: most elements that
+/// a pass asks have one.
 #[cycle(relay)]
 #[inline(never)]
 fn relay_anew<F: Finish, L: Ledger>(

@@ -93,8 +93,8 @@ each_below renew layer = roll-Memo record {
   below = map renew layer.below;
 }
 
--- each child but the one at a place is as before the present pass; that one and all else are as they
--- were
+-- each child but the one at a place is as before the present pass; that one and all else are as
+-- they were
 pub record IsUndoneBut (child : ℕ) (before after : Memo) : Type 0 where
   pub former : (out-Memo after).former ≡ (out-Memo before).former
   pub facts : (out-Memo after).facts ≡ (out-Memo before).facts

@@ -33,8 +33,8 @@ abbrev pub only_touched : {X : Type 0} → Memo-F X → Option ℕ
 only_touched layer =
     option_and_then (λ child. cond (has_none_new layer.entries) (Some child) None) (alike_but layer)
 
--- the one child to which the end of a pass goes, where it passes the others by; the place behind the
--- last, where it passes all by; none, where it goes to each
+-- the one child to which the end of a pass goes, where it passes the others by; the place behind
+-- the last, where it passes all by; none, where it goes to each
 abbrev pub only_entered : {X : Type 0} → Memo-F X → Option ℕ
 only_entered layer = cond (is_calm layer) (Some (length layer.below)) (only_touched layer)
 

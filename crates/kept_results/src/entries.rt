@@ -67,8 +67,8 @@ pub fn only_touched(memo: &Memo) -> Option<usize>
     }
 }
 
-/// The one child to which the end of a pass goes, where it passes the others by. Where it passes all
-/// by, it is the place behind the last; where it goes to each, there is none.
+/// The one child to which the end of a pass goes, where it passes the others by. Where it passes
+/// all by, it is the place behind the last; where it goes to each, there is none.
 pub fn only_entered(memo: &Memo) -> Option<usize>
     ensures { result ≡ only_entered (out-Memo memo.now) }
 {
